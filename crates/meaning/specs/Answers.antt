@@ -1,0 +1,120 @@
+-- Document 01, "Answer numbers": each refusal's number and what it returns, and the checks that give refusals 1 to 7 and 14.
+-- The checks of a function stand in its order, in Whole.
+use mathlib.Core.Bool.{Bool, true, false}
+use mathlib.Core.List.{List, [], _∷_}
+use Prim.Native.Nat.{ℕ, suc, _-_}
+use lib.Dec.{leb}
+use lib.IntN.{ℤ, pos, negsuc, natAbs}
+use lib.ListN.{length}
+use Rattle.meaning.specs.Bytes.{when, both}
+use Rattle.meaning.specs.Splitting.{Content, run, quotes, quoted, unclosed, contents}
+use Rattle.meaning.specs.Writing.{isNegative}
+use Rattle.meaning.specs.declared.Checked.{Checked}
+use Rattle.meaning.specs.declared.Checked.the-variants.{Fine, Refused}
+use Rattle.meaning.specs.declared.Fields.{Fields}
+use Rattle.meaning.specs.declared.Refusal.{Refusal}
+use Rattle.meaning.specs.declared.Refusal.the-variants.{PatternTooLong, PatternByte, LoneQuote, FieldRange, NoRoom, TextTooLong, TextByte, InPart, OffsetLength, OffsetRange, CurrentYear}
+use Rattle.meaning.specs.declared.Trouble.{Trouble}
+use Rattle.meaning.specs.declared.Trouble.the-variants.{TooFew, NoNumber, NoName, NoSign}
+
+abbrev pub troubleNumber : Trouble → ℕ
+troubleNumber TooFew = 8
+troubleNumber NoNumber = 9
+troubleNumber NoName = 10
+troubleNumber NoSign = 11
+
+unfoldable pub number : Refusal → ℕ
+number (PatternTooLong n) = 1
+number (PatternByte place) = 2
+number (LoneQuote place) = 3
+number (FieldRange field) = 4
+number (NoRoom n) = 5
+number (TextTooLong n) = 6
+number (TextByte place) = 7
+number (InPart why part place) = troubleNumber why
+number (OffsetLength n) = 12
+number (OffsetRange which) = 13
+number (CurrentYear year) = 14
+
+-- what is returned with the number, in the table's order
+unfoldable pub details : Refusal → List ℤ
+details (PatternTooLong n) = pos n ∷ []
+details (PatternByte place) = pos place ∷ []
+details (LoneQuote place) = pos place ∷ []
+details (FieldRange field) = pos field ∷ []
+details (NoRoom n) = pos n ∷ []
+details (TextTooLong n) = pos n ∷ []
+details (TextByte place) = pos place ∷ []
+details (InPart why part place) = pos part ∷ pos place ∷ []
+details (OffsetLength n) = pos n ∷ []
+details (OffsetRange which) = pos which ∷ []
+details (CurrentYear year) = year ∷ []
+
+-- the first check that refuses
+abbrev pub _else_ : Checked → Checked → Checked
+Fine else next = next
+(Refused why) else next = Refused why
+
+infixr 20 _else_
+abbrev pub refuseUnless : Bool → Refusal → Checked
+refuseUnless true why = Fine
+refuseUnless false why = Refused why
+
+abbrev pub within : ℕ → ℕ → ℕ → Bool
+within low high n = both (leb low n) (leb n high)
+
+-- the place of the first byte that is not within these limits, counted on from i
+unfoldable pub byteCheck : (ℕ → Refusal) → ℕ → ℕ → ℕ → List ℕ → Checked
+byteCheck why low high i [] = Fine
+byteCheck why low high i (b ∷ s) =
+    elim (within low high b) [ true ↦ byteCheck why low high (suc i) s | false ↦ Refused (why i) ]
+
+-- 1, 2
+unfoldable pub bytesCheck : List ℕ → Checked
+unfolding byteCheck
+bytesCheck p =
+    refuseUnless (leb (length p) 256) (PatternTooLong (length p)) else
+    byteCheck PatternByte 1 127 0 p
+
+-- whether the last part is a quote that opens and has nothing behind it
+unfoldable pub endsInLoneQuote : List Content → Bool
+endsInLoneQuote [] = false
+endsInLoneQuote (run b n ∷ cs) = endsInLoneQuote cs
+endsInLoneQuote (quotes n ∷ cs) = endsInLoneQuote cs
+endsInLoneQuote (quoted s ∷ cs) = endsInLoneQuote cs
+endsInLoneQuote (unclosed [] ∷ cs) = true
+endsInLoneQuote (unclosed (b ∷ s) ∷ cs) = false
+
+-- 1, 2, 3
+unfoldable pub patternCheck : List ℕ → Checked
+unfolding bytesCheck endsInLoneQuote contents
+patternCheck p =
+    bytesCheck p else
+    when (endsInLoneQuote (contents p)) (Refused (LoneQuote (length p - 1))) Fine
+
+-- 4: "Year -5,879,611 to 5,879,611, not 0", and so on
+unfoldable pub fieldsCheck : Fields → Checked
+fieldsCheck f =
+    refuseUnless (within 1 5879611 (natAbs (f .year))) (FieldRange 1) else
+    refuseUnless (within 1 12 (f .month)) (FieldRange 2) else
+    refuseUnless (within 1 31 (f .day)) (FieldRange 3) else
+    refuseUnless (within 1 366 (f .doy)) (FieldRange 4) else
+    refuseUnless (within 1 53 (f .week)) (FieldRange 5) else
+    refuseUnless (within 0 6 (f .wday)) (FieldRange 6) else
+    refuseUnless (within 0 86399999999999 (f .nanos)) (FieldRange 7) else
+    refuseUnless (within 0 86399 (natAbs (f .offset))) (FieldRange 8)
+
+-- 5
+abbrev pub roomCheck : ℕ → ℕ → Checked
+roomCheck room n = refuseUnless (leb n room) (NoRoom n)
+
+-- 6, 7
+unfoldable pub textCheck : List ℕ → Checked
+unfolding byteCheck
+textCheck s =
+    refuseUnless (leb (length s) 2048) (TextTooLong (length s)) else
+    byteCheck TextByte 0 127 0 s
+
+-- 14
+unfoldable pub currentYearCheck : ℤ → Checked
+currentYearCheck now = when (isNegative now) (Refused (CurrentYear now)) (refuseUnless (within 1 9999 (natAbs now)) (CurrentYear now))

@@ -1,0 +1,11 @@
+pub mod Bytes
+pub mod Names
+pub mod Splitting
+pub mod Rules
+pub mod Writing
+pub mod Numerals
+pub mod Readers
+pub mod Reading
+pub mod Answers
+pub mod Whole
+pub mod Trust

@@ -1,0 +1,202 @@
+-- Document 01, "What each symbol does", column Reads, with the carried values in brackets and the paragraphs on yy and
+-- zones; and "Splitting", what a read of literals skips. The steps are those of Readers.
+use mathlib.Core.Bool.{Bool, true, false}
+use mathlib.Core.List.{List, [], _∷_}
+use Prim.Native.Nat.{ℕ, zero, suc, _+_, _*_, _-_, _/_}
+use lib.Dec.{eqb, ltb}
+use lib.IntN.{ℤ, pos, negℤ, natAbs, _+ℤ_}
+use lib.ListN.{length, drop}
+use Rattle.meaning.specs.Bytes.{when, both, isDigit, digitAt, minus}
+use Rattle.meaning.specs.Names.{Book, names}
+use Rattle.meaning.specs.Readers.{Got, got, stopped, Reader, _>>=_, _>>_, done, skip, takeCount, takeYear, takeNumber, reach, ifDigit, matchName, letters, ZoneSign, utc, ahead, behindUtc, zoneSign}
+use Rattle.meaning.specs.Writing.{quantityOf, secondOfDay, isNegative, Step, literal, field}
+use Rattle.meaning.specs.declared.Carried.{Carried}
+use Rattle.meaning.specs.declared.Carried.the-variants.{Nothing, Value}
+use Rattle.meaning.specs.declared.Fields.{Fields}
+use Rattle.meaning.specs.declared.Group.{Group}
+use Rattle.meaning.specs.declared.Group.the-variants.{Never, NotZero, Always}
+use Rattle.meaning.specs.declared.NameList.{NameList}
+use Rattle.meaning.specs.declared.NameList.the-variants.{EraAbbreviated, EraNarrow, EraWide, QuarterWide, MonthAbbreviated, MonthWide, MonthNarrow, WdayAbbreviated, WdayWide, WdayNarrow, WdayShort, PeriodUpper, PeriodLower, PeriodDotted, PeriodLetter, NoonUpper, NoonLower, NoonDotted, NoonLetter}
+use Rattle.meaning.specs.declared.ParseUnit.the-variants as unit
+use Rattle.meaning.specs.declared.Quantity.{Quantity}
+use Rattle.meaning.specs.declared.Quantity.the-variants.{Month, Quarter, Week, Day, DayOfYear, Weekday, WeekdayFromMonday, Hour1To12, Hour0To11, Hour0To23, Hour1To24, Minute, Second, Fraction}
+use Rattle.meaning.specs.declared.Rule.{Rule}
+use Rattle.meaning.specs.declared.Rule.the-variants.{Number, SkippedNumber, LetterQuarter, SkippedName, MatchedName, Letters, Years, FixedYear, TwoDigitYear, Zone}
+
+-- what the name at a place of its list carries: the month; the period, 1 from the first of its afternoon names on
+abbrev pub monthAt : ℕ → Carried
+monthAt i = Value unit.Month (pos (suc i))
+
+abbrev pub periodAt : ℕ → ℕ → Carried
+periodAt afternoon i = Value unit.Period (pos (when (ltb i afternoon) 0 1))
+
+unfoldable pub nameCarries : NameList → ℕ → Carried
+nameCarries EraAbbreviated i = Nothing
+nameCarries EraNarrow i = Nothing
+nameCarries EraWide i = Nothing
+nameCarries QuarterWide i = Nothing
+nameCarries MonthAbbreviated i = monthAt i
+nameCarries MonthWide i = monthAt i
+nameCarries MonthNarrow i = Nothing
+nameCarries WdayAbbreviated i = Nothing
+nameCarries WdayWide i = Nothing
+nameCarries WdayNarrow i = Nothing
+nameCarries WdayShort i = Nothing
+nameCarries PeriodUpper i = periodAt 2 i
+nameCarries PeriodLower i = periodAt 2 i
+nameCarries PeriodDotted i = periodAt 1 i
+nameCarries PeriodLetter i = periodAt 1 i
+nameCarries NoonUpper i = periodAt 3 i
+nameCarries NoonLower i = periodAt 3 i
+nameCarries NoonDotted i = periodAt 2 i
+nameCarries NoonLetter i = periodAt 2 i
+
+-- a minus in front, and the digits that follow
+abbrev pub minusFirst : List ℕ → ℕ
+minusFirst [] = 0
+minusFirst (b ∷ s) = when (eqb b minus) 1 0
+
+unfoldable pub digitRun : List ℕ → ℕ
+digitRun [] = 0
+digitRun (b ∷ s) = when (isDigit b) (suc (digitRun s)) 0
+
+abbrev pub yearLength : List ℕ → ℕ
+yearLength s = minusFirst s + digitRun (drop (minusFirst s) s)
+
+abbrev pub year : ℤ → Carried
+year z = Value unit.Year z
+
+-- yy "reads 3 bytes at `-`, else 2 and adds current year / 1000 * 1000"
+abbrev pub millennium : ℕ → ℕ
+millennium now = now / 1000 * 1000
+
+abbrev pub twoDigitYear : ℕ → Reader Carried
+twoDigitYear now s =
+    when (eqb (minusFirst s) 1) ((takeYear 3 >>= λ z. done (year z)) s)
+    ((takeYear 2 >>= λ z. done (year (z +ℤ pos (millennium now)))) s)
+
+-- a group of a zone. Where it may be missing it is there if its first digit is.
+abbrev pub colonLength : Bool → ℕ
+colonLength true = 1
+colonLength false = 0
+
+abbrev pub takeGroup : Bool → Reader ℕ
+takeGroup c = do
+  skip (colonLength c)
+  takeCount 2
+
+abbrev pub zoneGroup : Bool → Group → Reader ℕ
+zoneGroup c Never = done 0
+zoneGroup c NotZero = ifDigit (colonLength c) (takeGroup c) (done 0)
+zoneGroup c Always = takeGroup c
+
+unfoldable pub zoneSize : Bool → Group → Group → Reader ℕ
+unfolding digitAt
+zoneSize c minutes seconds = do
+  hh ← takeCount 2
+  mm ← zoneGroup c minutes
+  ss ← zoneGroup c seconds
+  done (hh * 3600 + mm * 60 + ss)
+
+abbrev pub zoneBehind : Reader ℕ → ZoneSign → Reader ℤ
+zoneBehind size utc = done (pos 0)
+zoneBehind size ahead = size >>= λ n. done (pos n)
+zoneBehind size behindUtc = size >>= λ n. done (negℤ (pos n))
+
+-- a number that stands for zero
+abbrev pub zeroFor : ℕ → ℕ → ℕ
+zeroFor z n = when (eqb n z) 0 n
+
+-- what a symbol reads
+unfoldable pub readRule : Book → ℕ → Rule → Reader Carried
+unfolding reach skip nameCarries names matchName letters digitRun zoneSize zoneSign
+readRule book now (Number q least most u z) s =
+    (takeCount (reach (most - least) least s) >>= λ n. done (Value u (pos (zeroFor z n)))) s
+readRule book now (SkippedNumber q least most) s = (skip (reach (most - least) least s) >> done Nothing) s
+readRule book now LetterQuarter s = (skip 2 >> done Nothing) s
+readRule book now (SkippedName l n) s = (skip n >> done Nothing) s
+readRule book now (MatchedName l) s = (matchName (names book l) >>= λ i. done (nameCarries l i)) s
+readRule book now (Letters l n) s = (letters n (names book l) >>= λ i. done (nameCarries l i)) s
+readRule book now (Years k) s = (takeYear (yearLength s) >>= λ z. done (year z)) s
+readRule book now (FixedYear k) s = (takeYear (minusFirst s + k) >>= λ z. done (year z)) s
+readRule book now TwoDigitYear s = twoDigitYear now s
+readRule book now (Zone z c minutes seconds) s =
+    (zoneSign z >>= zoneBehind (zoneSize c minutes seconds) >>= λ o. done (Value unit.Offset o)) s
+
+-- what a part reads
+unfoldable pub readStep : Book → ℕ → Step → Reader Carried
+unfolding readRule skip
+readStep book now (literal w lost) s = (skip (length w) >> done Nothing) s
+readStep book now (field rule) s = readRule book now rule s
+
+-- "h, K [hour mod 12], H, k [hour]": what a number carries is what this quantity writes
+abbrev pub carriedAs : Quantity → Quantity
+carriedAs Month = Month
+carriedAs Quarter = Quarter
+carriedAs Week = Week
+carriedAs Day = Day
+carriedAs DayOfYear = DayOfYear
+carriedAs Weekday = Weekday
+carriedAs WeekdayFromMonday = WeekdayFromMonday
+carriedAs Hour1To12 = Hour0To11
+carriedAs Hour0To11 = Hour0To11
+carriedAs Hour0To23 = Hour0To23
+carriedAs Hour1To24 = Hour0To23
+carriedAs Minute = Minute
+carriedAs Second = Second
+carriedAs (Fraction k) = Fraction k
+
+abbrev pub periodOf : Fields → Carried
+periodOf f = Value unit.Period (pos (secondOfDay f / 43200))
+
+abbrev pub monthOf : Fields → Carried
+monthOf f = Value unit.Month (pos (f .month))
+
+unfoldable pub carriedName : NameList → Fields → Carried
+carriedName EraAbbreviated f = Nothing
+carriedName EraNarrow f = Nothing
+carriedName EraWide f = Nothing
+carriedName QuarterWide f = Nothing
+carriedName MonthAbbreviated f = monthOf f
+carriedName MonthWide f = monthOf f
+carriedName MonthNarrow f = Nothing
+carriedName WdayAbbreviated f = Nothing
+carriedName WdayWide f = Nothing
+carriedName WdayNarrow f = Nothing
+carriedName WdayShort f = Nothing
+carriedName PeriodUpper f = periodOf f
+carriedName PeriodLower f = periodOf f
+carriedName PeriodDotted f = periodOf f
+carriedName PeriodLetter f = periodOf f
+carriedName NoonUpper f = periodOf f
+carriedName NoonLower f = periodOf f
+carriedName NoonDotted f = periodOf f
+carriedName NoonLetter f = periodOf f
+
+-- "cut to minutes toward zero unless c is 4 or 5": a zone of those counts has seconds
+abbrev pub cutToMinutes : ℤ → ℤ
+cutToMinutes z = when (isNegative z) (negℤ (pos (natAbs z / 60 * 60))) (pos (natAbs z / 60 * 60))
+
+abbrev pub carriedOffset : Group → ℤ → ℤ
+carriedOffset Never z = cutToMinutes z
+carriedOffset NotZero z = z
+carriedOffset Always z = z
+
+-- the value that a symbol carries, in brackets in the table
+unfoldable pub carriedRule : Rule → Fields → Carried
+unfolding quantityOf carriedName
+carriedRule (Number q least most u z) f = Value u (pos (quantityOf (carriedAs q) f))
+carriedRule (SkippedNumber q least most) f = Nothing
+carriedRule LetterQuarter f = Nothing
+carriedRule (SkippedName l n) f = Nothing
+carriedRule (MatchedName l) f = carriedName l f
+carriedRule (Letters l n) f = carriedName l f
+carriedRule (Years k) f = year (f .year)
+carriedRule (FixedYear k) f = year (f .year)
+carriedRule TwoDigitYear f = year (f .year)
+carriedRule (Zone z c minutes seconds) f = Value unit.Offset (carriedOffset seconds (f .offset))
+
+unfoldable pub carriedStep : Step → Fields → Carried
+unfolding carriedRule
+carriedStep (literal w lost) f = Nothing
+carriedStep (field rule) f = carriedRule rule f

@@ -1,0 +1,59 @@
+-- Demand 3: when a pattern can be trusted to read back what it wrote, and what an answer of the check says. The check is of
+-- the full pair. How it is decided is no matter of definition.
+use mathlib.Core.List.{List}
+use mathlib.Core.Path.{_≡_}
+use Prim.Native.Nat.{ℕ, _<_}
+use lib.IntN.{ℤ, natAbs}
+use lib.ListN.{length, getD, take, drop}
+use Rattle.meaning.specs.Answers.{_else_, patternCheck, fieldsCheck, currentYearCheck}
+use Rattle.meaning.specs.Names.{Book}
+use Rattle.meaning.specs.Readers.{got}
+use Rattle.meaning.specs.Reading.{readStep, carriedStep}
+use Rattle.meaning.specs.Writing.{Step, literal, steps, stepText, texts}
+use Rattle.meaning.specs.declared.Checked.{Checked}
+use Rattle.meaning.specs.declared.Checked.the-variants.{Fine, Refused}
+use Rattle.meaning.specs.declared.Fields.{Fields}
+use Rattle.meaning.specs.declared.Pair.the-variants.{Full}
+use Rattle.meaning.specs.declared.Verdict.{Verdict}
+use Rattle.meaning.specs.declared.Verdict.the-variants as verdict
+
+-- part i of these
+abbrev pub partAt : List Step → ℕ → Step
+partAt ss i = getD ss i (literal mathlib.Core.List.[] mathlib.Core.Bool.false)
+
+-- where the text of part i starts in the whole written text
+unfoldable pub startOf : Book → Fields → List Step → ℕ → ℕ
+unfolding texts
+startOf book f ss i = length (texts book f (take i ss))
+
+-- Part i comes back for a record: read from where its own text starts in the whole written text, it takes just the bytes
+-- that it wrote and gives the value that it carries.
+unfoldable pub ComesBack : Book → ℕ → List Step → Fields → ℕ → Type 0
+unfolding readStep startOf texts stepText carriedStep
+ComesBack book now ss f i =
+    readStep book now (partAt ss i) (drop (startOf book f ss i) (texts book f ss))
+    ≡ got (length (stepText book f (partAt ss i))) (carriedStep (partAt ss i) f)
+
+-- each part below a number comes back for every allowed record
+unfoldable pub AllComeBack : Book → ℕ → List Step → ℕ → Type 0
+unfolding ComesBack fieldsCheck
+AllComeBack book now ss n = (f : Fields) → fieldsCheck f ≡ Fine → (i : ℕ) → i < n → ComesBack book now ss f i
+
+-- part i is the first that fails for some allowed record, and this is such a record
+pub record FailsFirst (book : Book) (now : ℕ) (ss : List Step) (i : ℕ) (f : Fields) : Type 0 where
+  pub there : i < length ss
+  pub allowed : fieldsCheck f ≡ Fine
+  pub fails : ComesBack book now ss f i → ⊥
+  pub earlier : AllComeBack book now ss i
+
+unfoldable pub trustCheck : List ℕ → ℤ → Checked
+unfolding patternCheck currentYearCheck
+trustCheck p now = patternCheck p else currentYearCheck now
+
+-- what an answer of the check says: refusals 1, 2, 3, 14; yes when every part comes back for every allowed record; no
+-- with the first part that fails
+unfoldable pub Says : Book → List ℕ → ℤ → Verdict → Type 0
+unfolding trustCheck AllComeBack steps
+Says book p now verdict.Yes = (trustCheck p now ≡ Fine) × AllComeBack book (natAbs now) (steps Full p) (length (steps Full p))
+Says book p now (verdict.No part f) = (trustCheck p now ≡ Fine) × FailsFirst book (natAbs now) (steps Full p) part f
+Says book p now (verdict.Refused why) = trustCheck p now ≡ Refused why

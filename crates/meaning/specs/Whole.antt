@@ -1,0 +1,189 @@
+-- Document 01, "Answer numbers": the whole answer of each function, with its checks in their order. Splitting; writing and
+-- reading for a pair; parse_offset.
+use mathlib.Core.Bool.{Bool, true, false}
+use mathlib.Core.List.{List, [], _∷_, _++_, map}
+use mathlib.Core.Option.{Option, none, some}
+use Prim.Native.Char.{Char, code}
+use Prim.Native.Nat.{ℕ, zero, suc, _+_, _*_, _-_}
+use lib.Dec.{eqb, leb}
+use lib.IntN.{ℤ, pos, negℤ, natAbs}
+use lib.ListN.{length, getD, take, drop, replicate}
+use lib.Seq.{sets}
+use Rattle.meaning.specs.Answers.{_else_, refuseUnless, bytesCheck, patternCheck, fieldsCheck, roomCheck, textCheck, currentYearCheck}
+use Rattle.meaning.specs.Bytes.{when, both, plus}
+use Rattle.meaning.specs.Names.{Book}
+use Rattle.meaning.specs.Numerals.{Signed, numberOf}
+use Rattle.meaning.specs.Readers.{Got, got, stopped}
+use Rattle.meaning.specs.Reading.{readStep}
+use Rattle.meaning.specs.Splitting.{parts, noPart}
+use Rattle.meaning.specs.Writing.{Step, steps, texts}
+use Rattle.meaning.specs.declared.Carried.{Carried}
+use Rattle.meaning.specs.declared.Carried.the-variants.{Nothing, Value}
+use Rattle.meaning.specs.declared.Checked.{Checked}
+use Rattle.meaning.specs.declared.Checked.the-variants.{Fine, Refused}
+use Rattle.meaning.specs.declared.Fields.{Fields}
+use Rattle.meaning.specs.declared.Numeral.the-variants.{Count}
+use Rattle.meaning.specs.declared.Offset.{Offset}
+use Rattle.meaning.specs.declared.Offset.the-variants as offset
+use Rattle.meaning.specs.declared.Pair.{Pair}
+use Rattle.meaning.specs.declared.ParseUnit.{ParseUnit}
+use Rattle.meaning.specs.declared.ParseUnit.the-variants as unit
+use Rattle.meaning.specs.declared.Part.{Part}
+use Rattle.meaning.specs.declared.Reading.{Reading}
+use Rattle.meaning.specs.declared.Refusal.the-variants.{InPart, OffsetLength, OffsetRange}
+use Rattle.meaning.specs.declared.Split.{Split}
+use Rattle.meaning.specs.declared.Trouble.the-variants.{NoNumber}
+use Rattle.meaning.specs.declared.Wrote.{Wrote}
+use Rattle.meaning.specs.declared.Wrote.the-variants as wrote
+
+-- Splitting checks 1, 2.
+
+abbrev pub splitInto : Checked → List Part → Split
+splitInto checked ps =
+    record { checked = checked; parts = ps ++ replicate (256 - length ps) noPart; used = length ps }
+
+abbrev pub splitBy : Checked → List ℕ → Split
+splitBy Fine p = splitInto Fine (parts p)
+splitBy (Refused why) p = splitInto (Refused why) []
+
+unfoldable pub split : List ℕ → Split
+unfolding bytesCheck parts
+split p = splitBy (bytesCheck p) p
+
+-- Writing checks 1, 2, 3, 4, 5.
+
+-- the text of a pattern and a record
+unfoldable pub text : Pair → Book → List ℕ → Fields → List ℕ
+unfolding steps texts
+text pair book p f = texts book f (steps pair p)
+
+unfoldable pub writeCheck : Pair → Book → List ℕ → Fields → ℕ → Checked
+unfolding patternCheck fieldsCheck text
+writeCheck pair book p f room = patternCheck p else fieldsCheck f else roomCheck room (length (text pair book p f))
+
+abbrev pub wroteBy : Checked → List ℕ → Wrote
+wroteBy Fine t = wrote.Length (length t)
+wroteBy (Refused why) t = wrote.Refused why
+
+abbrev pub outputBy : Checked → List ℕ → List ℕ → List ℕ
+outputBy Fine t out = sets out 0 t
+outputBy (Refused why) t out = out
+
+-- the answer, and the lent output afterwards
+unfoldable pub write : Pair → Book → List ℕ → Fields → List ℕ → Wrote
+unfolding writeCheck
+write pair book p f out = wroteBy (writeCheck pair book p f (length out)) (text pair book p f)
+
+unfoldable pub output : Pair → Book → List ℕ → Fields → List ℕ → List ℕ
+unfolding writeCheck
+output pair book p f out = outputBy (writeCheck pair book p f (length out)) (text pair book p f) out
+
+-- Reading checks 1, 2, 3, 14, 6, 7, then parts in order.
+
+-- the bytes read and what the parts gave, the newest first; or the first refusal of a part
+pub data Walk : Type 0 where
+  walked : ℕ → List Carried → Walk
+  refusedAt : Checked → Walk
+
+-- part i and those behind it, from the text that remains at a place
+unfoldable pub walk : Book → ℕ → ℕ → ℕ → List Step → List ℕ → List Carried → Walk
+unfolding readStep
+walk book now i at [] s gave = walked at gave
+walk book now i at (step ∷ steps) s gave =
+    elim (readStep book now step s) [
+      | got n c ↦ walk book now (suc i) (at + n) steps (drop n s) (c ∷ gave)
+      | stopped why place ↦ refusedAt (Refused (InPart why i (at + place)))
+    ]
+
+abbrev pub unitNumber : ParseUnit → ℕ
+unitNumber unit.Year = 0
+unitNumber unit.Month = 1
+unitNumber unit.DayOfMonth = 2
+unitNumber unit.DayOfYear = 3
+unitNumber unit.Hour = 4
+unitNumber unit.Period = 5
+unitNumber unit.PeriodHour = 6
+unitNumber unit.Minute = 7
+unitNumber unit.Second = 8
+unitNumber unit.Decis = 9
+unitNumber unit.Centis = 10
+unitNumber unit.Millis = 11
+unitNumber unit.Micros = 12
+unitNumber unit.Nanos = 13
+unitNumber unit.Offset = 14
+
+-- whether unit k was read, and the last value that it was given
+unfoldable pub wasRead : List Carried → ℕ → Bool
+wasRead [] k = false
+wasRead (Nothing ∷ gave) k = wasRead gave k
+wasRead (Value u z ∷ gave) k = when (eqb (unitNumber u) k) true (wasRead gave k)
+
+unfoldable pub valueOf : List Carried → ℕ → ℤ
+valueOf [] k = pos 0
+valueOf (Nothing ∷ gave) k = valueOf gave k
+valueOf (Value u z ∷ gave) k = when (eqb (unitNumber u) k) z (valueOf gave k)
+
+abbrev pub fifteen : List ℕ
+fifteen = 0 ∷ 1 ∷ 2 ∷ 3 ∷ 4 ∷ 5 ∷ 6 ∷ 7 ∷ 8 ∷ 9 ∷ 10 ∷ 11 ∷ 12 ∷ 13 ∷ 14 ∷ []
+
+-- the number whose bit k is the k-th mark, and how many marks are set
+unfoldable pub bits : List Bool → ℕ
+bits [] = 0
+bits (mark ∷ marks) = when mark 1 0 + 2 * bits marks
+
+unfoldable pub howMany : List Bool → ℕ
+howMany [] = 0
+howMany (mark ∷ marks) = when mark 1 0 + howMany marks
+
+abbrev pub readingOf : Checked → ℕ → List Carried → Reading
+readingOf checked taken gave =
+    record {
+      checked = checked;
+      taken = taken;
+      values = map (valueOf gave) fifteen;
+      mask = bits (map (wasRead gave) fifteen);
+      units = howMany (map (wasRead gave) fifteen);
+    }
+
+abbrev pub walkReading : Walk → Reading
+walkReading (walked taken gave) = readingOf Fine taken gave
+walkReading (refusedAt checked) = readingOf checked 0 []
+
+abbrev pub readBy : Checked → Walk → Reading
+readBy Fine w = walkReading w
+readBy (Refused why) w = readingOf (Refused why) 0 []
+
+unfoldable pub readCheck : List ℕ → List ℕ → ℤ → Checked
+unfolding patternCheck currentYearCheck textCheck
+readCheck p s now = patternCheck p else currentYearCheck now else textCheck s
+
+unfoldable pub read : Pair → Book → List ℕ → List ℕ → ℤ → Reading
+unfolding readCheck steps walk valueOf wasRead bits howMany
+read pair book p s now = readBy (readCheck p s now) (walk book (natAbs now) 0 0 (steps pair p) s [])
+
+-- parse_offset: 6, 7, then Z, 12, 9, 9, 13.
+
+abbrev pub offsetBy : Checked → Offset → Offset
+offsetBy Fine o = o
+offsetBy (Refused why) o = offset.Refused why
+
+abbrev pub seconds : Bool → ℕ → ℕ → Offset
+seconds ahead hour minute =
+    offsetBy (refuseUnless (leb hour 23) (OffsetRange 1) else refuseUnless (leb minute 59) (OffsetRange 2))
+    (offset.Seconds (when ahead (pos (hour * 3600 + minute * 60)) (negℤ (pos (hour * 3600 + minute * 60)))))
+
+abbrev pub hourAndMinute : Bool → Option Signed → Option Signed → Offset
+hourAndMinute ahead none minute = offset.Refused (InPart NoNumber 0 1)
+hourAndMinute ahead (some hour) none = offset.Refused (InPart NoNumber 0 4)
+hourAndMinute ahead (some hour) (some minute) = seconds ahead (hour .size) (minute .size)
+
+abbrev pub twoAt : ℕ → List ℕ → Option Signed
+twoAt i s = numberOf Count (take 2 (drop i s))
+
+unfoldable pub parseOffset : List ℕ → Offset
+unfolding textCheck numberOf
+parseOffset s =
+    offsetBy (textCheck s)
+    (when (eqb (getD s 0 0) (code "Z")) (offset.Seconds (pos 0))
+    (offsetBy (refuseUnless (eqb (length s) 6) (OffsetLength (length s)))
+    (hourAndMinute (eqb (getD s 0 0) plus) (twoAt 1 s) (twoAt 4 s))))
