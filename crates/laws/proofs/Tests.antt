@@ -1,0 +1,45 @@
+-- Laws of tests: cases on a Bool that keep their equation, `both`, `when`, and a test that every entry of a list passes.
+use mathlib.Core.Bool.{Bool, true, false}
+use mathlib.Core.List.{List, [], _∷_}
+use mathlib.Core.Path.{_≡_, refl}
+use Prim.Native.Nat.{ℕ, zero, suc, _<_}
+use native.Mathlib.Omega.{arith}
+use lib.ListN.{length, getD}
+use Rattle.meaning.specs.Bytes.{when, both}
+
+-- by cases on a test, with what it says
+pub by-test : {P : Type 0} (b : Bool) → (b ≡ true → P) → (b ≡ false → P) → P
+by-test true yes′ no′ = yes′ refl
+by-test false yes′ no′ = no′ refl
+
+pub true-is-not-false : {A : Type 0} → true ≡ false → A
+true-is-not-false e = absurd (let z : _≡_ {A = ℕ} 0 1 = cc in omega arith)
+
+pub both-true : (a b : Bool) → both a b ≡ true → (a ≡ true) × (b ≡ true)
+both-true true b h = (refl, h)
+both-true false b h = absurd (let z : _≡_ {A = ℕ} 0 1 = cc in omega arith)
+
+pub both-are : (a b : Bool) → a ≡ true → b ≡ true → both a b ≡ true
+both-are a b e d = rw (e, d)
+
+pub when-true : {A : Type 0} {t : Bool} (a b : A) → t ≡ true → when t a b ≡ a
+when-true a b e = rw e
+
+pub when-false : {A : Type 0} {t : Bool} (a b : A) → t ≡ false → when t a b ≡ b
+when-false a b e = rw e
+
+-- what holds of both choices, each where it is taken, holds of the choice
+pub when-is : {A : Type 0} (P : A → Type 0) (t : Bool) {a b : A} → (t ≡ true → P a) → (t ≡ false → P b) → P (when t a b)
+when-is P true yes′ no′ = yes′ refl
+when-is P false yes′ no′ = no′ refl
+
+unfoldable pub every : {A : Type 0} → (A → Bool) → List A → Bool
+every test [] = true
+every test (a ∷ as′) = both (test a) (every test as′)
+
+-- one computed test of a whole table, lifted to each entry
+pub every-at : {A : Type 0} (test : A → Bool) (l : List A) (d : A) → every test l ≡ true → (i : ℕ) → i < length l → test (getD l i d) ≡ true
+unfolding every
+every-at test [] d h i k = absurd (omega arith)
+every-at test (a ∷ l) d h zero k = both-true (test a) (every test l) h .0
+every-at test (a ∷ l) d h (suc i) k = every-at test l d (both-true (test a) (every test l) h .1) i (omega arith)
