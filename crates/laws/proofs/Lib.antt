@@ -1,3 +1,12 @@
 pub mod Tests
 pub mod Laid
 pub mod Digits
+pub mod Readers
+pub mod Numbers
+pub mod Names
+pub mod Fields
+pub mod Texts
+pub mod Splitting
+pub mod Sizes
+pub mod Years
+pub mod Zones
