@@ -1,11 +1,17 @@
--- Laws of tests: cases on a Bool that keep their equation, `both`, `when`, and a test that every entry of a list passes.
+-- Laws of tests: cases on a Bool that keep their equation, `both`, `when`, a test that every entry of a list passes, and
+-- the set by which `search` goes through a definition's tests as the code went through its own.
 use mathlib.Core.Bool.{Bool, true, false}
 use mathlib.Core.List.{List, [], _∷_}
 use mathlib.Core.Path.{_≡_, refl}
 use Prim.Native.Nat.{ℕ, zero, suc, _<_}
 use native.Mathlib.Omega.{arith}
+use borrow.Author.Needs.{needs}
+use borrow.Author.Tests.{eq-eqb, ne-eqb, le-leb, lt-leb, lt-ltb, le-ltb}
 use lib.ListN.{length, getD}
 use Rattle.meaning.specs.Bytes.{when, both}
+
+-- what a branch of the code knows, put into a definition's choices: `returns c = search chosen`
+pub ruleset chosen = (eq-eqb, ne-eqb, le-leb, lt-leb, lt-ltb, le-ltb, needs)
 
 -- by cases on a test, with what it says
 pub by-test : {P : Type 0} (b : Bool) → (b ≡ true → P) → (b ≡ false → P) → P

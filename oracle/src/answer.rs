@@ -1,0 +1,91 @@
+//! The answers of the line protocol, as the Rust gives them.
+
+use crate::calendar::Fields;
+use crate::request::{hex, Request};
+use crate::walk::{self, Kind, Pair, Part, Reading};
+
+pub const BAD_REQUEST: &str = "bad request";
+
+/// The Rust's answer to a line; `refused` where it errs, panics or can't be asked.
+pub fn answer(line: &str) -> String {
+    let Some(request) = Request::from_line(line) else {
+        return BAD_REQUEST.to_string();
+    };
+    accepted(&request).unwrap_or_else(|| "refused".to_string())
+}
+
+fn accepted(request: &Request) -> Option<String> {
+    match request {
+        Request::Split { pattern } => Some(parts(&walk::split(as_pattern(pattern)?))),
+        Request::Write {
+            pair,
+            pattern,
+            fields,
+            room,
+        } => {
+            let text = text_of(*pair, pattern, fields)?;
+            (text.len() <= *room).then(|| wrote(&text))
+        }
+        Request::Read {
+            pair,
+            pattern,
+            text,
+            now,
+        } => {
+            let reading = walk::read(*pair, as_pattern(pattern)?, as_text(text)?, *now).ok()?;
+            Some(read(&reading))
+        }
+        Request::ParseOffset { text } => Some(offset(walk::parse_offset(as_text(text)?).ok()?)),
+    }
+}
+
+/// What the Rust writes, if it does.
+pub fn text_of(pair: Pair, pattern: &[u8], fields: &Fields) -> Option<String> {
+    walk::write(pair, as_pattern(pattern)?, fields).ok()
+}
+
+/// The bytes as the Rust can take them for a pattern.
+pub fn as_pattern(bytes: &[u8]) -> Option<&str> {
+    as_text(bytes).filter(|pattern| !pattern.contains('\0'))
+}
+
+/// The bytes as the Rust can take them for a text, all ASCII.
+pub fn as_text(bytes: &[u8]) -> Option<&str> {
+    std::str::from_utf8(bytes)
+        .ok()
+        .filter(|text| text.is_ascii())
+}
+
+pub fn parts(parts: &[Part]) -> String {
+    let mut line = format!("parts {}", parts.len());
+    for part in parts {
+        line += &format!(" {}:{}:{}", kind(part.kind), part.start, part.length);
+    }
+    line
+}
+
+fn kind(kind: Kind) -> &'static str {
+    match kind {
+        Kind::Run => "run",
+        Kind::Quotes => "quotes",
+        Kind::Quoted => "quoted",
+        Kind::Open => "open",
+    }
+}
+
+pub fn wrote(text: &str) -> String {
+    format!("wrote {} {}", text.len(), hex(text.as_bytes()))
+}
+
+pub fn read(reading: &Reading) -> String {
+    let count = reading.mask.count_ones();
+    let mut line = format!("read {} {} {count}", reading.taken, reading.mask);
+    for value in reading.values {
+        line += &format!(" {value}");
+    }
+    line
+}
+
+pub fn offset(seconds: i32) -> String {
+    format!("offset {seconds}")
+}

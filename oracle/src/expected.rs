@@ -1,0 +1,169 @@
+//! The comparison rule: the one line that document 01 and the Rust together allow for a request.
+//!
+//! First come document 01's limits in its order. Beyond them the Rust decides: where it answers, its
+//! answer is the line; where it doesn't, the line is document 01's number for the way it stopped, read
+//! off its wording, with the part and the place that it had come to.
+
+use crate::answer::{self, as_pattern, as_text};
+use crate::limits::{field_limit, pattern_limit, refused, room_limit, text_limit, year_limit};
+use crate::request::Request;
+use crate::walk::{self, Cause, Kind, Stopped};
+
+/// The expected line, by who decides it.
+#[derive(Debug, PartialEq, Eq)]
+pub enum Expected {
+    /// Document 01 alone.
+    Limit(String),
+    /// The Rust errs or panics.
+    Refused(String),
+    /// The Rust answers.
+    Accepted(String),
+}
+
+impl Expected {
+    pub fn line(&self) -> &str {
+        match self {
+            Expected::Limit(line) | Expected::Refused(line) | Expected::Accepted(line) => line,
+        }
+    }
+}
+
+/// No program answers this: the Rust stopped where document 01 knows no refusal.
+const UNEXPLAINED: &str = "the Rust stops in a way that document 01 does not know";
+
+pub fn expected(request: &Request) -> Expected {
+    first_limit(request).unwrap_or_else(|| from_the_rust(request))
+}
+
+/// The checks that stand before any part is written or read, in document 01's order.
+fn first_limit(request: &Request) -> Option<Expected> {
+    match request {
+        Request::Split { pattern } => limit(pattern_limit(pattern)),
+        Request::Write {
+            pattern, fields, ..
+        } => limit(pattern_limit(pattern))
+            .or_else(|| lone_quote(pattern))
+            .or_else(|| limit(field_limit(fields))),
+        Request::Read {
+            pattern, text, now, ..
+        } => limit(pattern_limit(pattern))
+            .or_else(|| lone_quote(pattern))
+            .or_else(|| limit(year_limit(*now)))
+            .or_else(|| limit(text_limit(text))),
+        Request::ParseOffset { text } => limit(text_limit(text)),
+    }
+}
+
+fn limit(line: Option<String>) -> Option<Expected> {
+    line.map(Expected::Limit)
+}
+
+/// Refusal 3, which the Rust shows by a panic once it comes to that part.
+fn lone_quote(pattern: &[u8]) -> Option<Expected> {
+    let last = *walk::split(as_pattern(pattern)?).last()?;
+    let alone = last.kind == Kind::Open && last.length == 1;
+    alone.then(|| Expected::Refused(refused(3, &[last.start as i64])))
+}
+
+/// The limits have been checked, so the Rust can be asked.
+fn from_the_rust(request: &Request) -> Expected {
+    const ASCII: &str = "a pattern and a text within the limits are ASCII";
+    match request {
+        Request::Split { pattern } => {
+            let pattern = as_pattern(pattern).expect(ASCII);
+            Expected::Accepted(answer::parts(&walk::split(pattern)))
+        }
+        Request::Write {
+            pair,
+            pattern,
+            fields,
+            room,
+        } => match walk::write(*pair, as_pattern(pattern).expect(ASCII), fields) {
+            Ok(text) => limit(room_limit(&text, *room))
+                .unwrap_or_else(|| Expected::Accepted(answer::wrote(&text))),
+            Err(_) => Expected::Refused(UNEXPLAINED.to_string()),
+        },
+        Request::Read {
+            pair,
+            pattern,
+            text,
+            now,
+        } => {
+            let pattern = as_pattern(pattern).expect(ASCII);
+            match walk::read(*pair, pattern, as_text(text).expect(ASCII), *now) {
+                Ok(reading) => Expected::Accepted(answer::read(&reading)),
+                Err(stopped) => Expected::Refused(refused_read(pattern, &stopped)),
+            }
+        }
+        Request::ParseOffset { text } => {
+            let text = as_text(text).expect(ASCII);
+            match walk::parse_offset(text) {
+                Ok(seconds) => Expected::Accepted(answer::offset(seconds)),
+                Err(cause) => Expected::Refused(refused_offset(text, &cause)),
+            }
+        }
+    }
+}
+
+fn refused_read(pattern: &str, stopped: &Stopped) -> String {
+    let number = match &stopped.cause {
+        Cause::Error(wording) => number_of_error(wording),
+        Cause::Panic => number_of_panic(pattern, stopped.part),
+    };
+    let Some(number) = number else {
+        return UNEXPLAINED.to_string();
+    };
+    // The sign of a zone and the letters of a period are taken before they are looked at.
+    let place = match number {
+        10 | 11 => stopped.began,
+        _ => stopped.reached,
+    };
+    refused(number, &[stopped.part as i64, place as i64])
+}
+
+fn number_of_error(wording: &str) -> Option<u32> {
+    const WORDINGS: [(&str, u32); 4] = [
+        ("String to parse is too short", 8),
+        ("Failed parsing", 9),
+        ("Could not parse", 10),
+        ("Couldn't parse prefix", 11),
+    ];
+    let (_, number) = WORDINGS
+        .into_iter()
+        .find(|(start, _)| wording.starts_with(start))?;
+    Some(number)
+}
+
+/// A literal in quotes that is longer than the text, or a day of the year that is no number.
+fn number_of_panic(pattern: &str, part: usize) -> Option<u32> {
+    let part = walk::split(pattern)[part];
+    match (part.kind, pattern.as_bytes()[part.start]) {
+        (Kind::Run, b'D') => Some(9),
+        (Kind::Run, _) => None,
+        _ => Some(8),
+    }
+}
+
+fn refused_offset(text: &str, cause: &Cause) -> String {
+    let Cause::Error(wording) = cause else {
+        return UNEXPLAINED.to_string();
+    };
+    let too_large = wording.contains("has to be less than");
+    if wording.contains("Format should be") {
+        refused(12, &[text.len() as i64])
+    } else if wording.contains("parsing the hour") {
+        hour_or_minute(too_large, 1, 1)
+    } else if wording.contains("parsing the minute") {
+        hour_or_minute(too_large, 2, 4)
+    } else {
+        UNEXPLAINED.to_string()
+    }
+}
+
+fn hour_or_minute(too_large: bool, group: i64, place: i64) -> String {
+    if too_large {
+        refused(13, &[group])
+    } else {
+        refused(9, &[0, place])
+    }
+}

@@ -1,0 +1,109 @@
+//! Requests without end, the same for the same seed and ops.
+
+mod fields;
+mod offsets;
+mod patterns;
+mod random;
+mod texts;
+
+use crate::answer::text_of;
+use crate::calendar::Fields;
+use crate::request::{Op, Request, MOST_ROOM};
+use crate::walk::Pair;
+use random::Random;
+
+pub struct Generator {
+    random: Random,
+    ops: Vec<Op>,
+    made: usize,
+}
+
+impl Generator {
+    pub fn new(seed: u64, ops: Vec<Op>) -> Generator {
+        Generator {
+            random: Random::new(seed),
+            ops,
+            made: 0,
+        }
+    }
+}
+
+impl Iterator for Generator {
+    type Item = Request;
+
+    /// The ops take turns, and each goes through the families of patterns.
+    fn next(&mut self) -> Option<Request> {
+        let op = self.ops[self.made % self.ops.len()];
+        let turn = self.made / self.ops.len();
+        self.made += 1;
+        let random = &mut self.random;
+        Some(match op {
+            Op::Split => Request::Split {
+                pattern: patterns::pattern(turn, random),
+            },
+            Op::Write => write_request(Pair::Full, turn, random),
+            Op::WriteDate => write_request(Pair::Date, turn, random),
+            Op::Read => read_request(Pair::Full, turn, random),
+            Op::ReadDate => read_request(Pair::Date, turn, random),
+            Op::ParseOffset => Request::ParseOffset {
+                text: offsets::offset_text(random),
+            },
+        })
+    }
+}
+
+/// A run of one symbol is always written: each of the boundaries meets each run.
+fn write_request(pair: Pair, turn: usize, random: &mut Random) -> Request {
+    let pattern = patterns::pattern(turn, random);
+    let always = patterns::round_of_runs(turn).is_some();
+    let fields = if !always && random.one_in(11) {
+        fields::out_of_range(random)
+    } else {
+        good_fields(turn, random)
+    };
+    let needed = text_of(pair, &pattern, &fields).map_or(0, |text| text.len());
+    let room = if always { needed } else { room(needed, random) };
+    Request::Write {
+        pair,
+        pattern,
+        fields,
+        room: room.min(MOST_ROOM),
+    }
+}
+
+fn read_request(pair: Pair, turn: usize, random: &mut Random) -> Request {
+    let pattern = patterns::pattern(turn, random);
+    let fields = good_fields(turn, random);
+    Request::Read {
+        pair,
+        text: texts::text(pair, &pattern, &fields, random),
+        pattern,
+        now: current_year(random),
+    }
+}
+
+fn good_fields(turn: usize, random: &mut Random) -> Fields {
+    match patterns::round_of_runs(turn) {
+        Some(round) => fields::at_boundaries(round),
+        None => fields::in_range(random),
+    }
+}
+
+/// Mostly enough, often just enough, at times one byte short or nothing.
+fn room(needed: usize, random: &mut Random) -> usize {
+    match random.below(12) {
+        0 => 0,
+        1 => needed.saturating_sub(1),
+        2..=5 => needed,
+        6 => needed + 1,
+        _ => random.pick(&[2048, MOST_ROOM]),
+    }
+}
+
+fn current_year(random: &mut Random) -> i32 {
+    match random.below(24) {
+        0 => random.pick(&[0, 10_000, -1, -2025, i32::MAX, i32::MIN]),
+        1..=8 => random.pick(&[1, 999, 1000, 1999, 2025, 9999]),
+        _ => random.between(1, 9999) as i32,
+    }
+}

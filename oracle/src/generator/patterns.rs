@@ -1,0 +1,121 @@
+//! Families of patterns.
+
+use super::random::Random;
+
+const SYMBOLS: &[u8; 19] = b"GyqMwdDeabhHKkmsnXx";
+const COUNTS: [usize; 16] = [1, 2, 3, 4, 5, 6, 7, 8, 9, 10, 11, 12, 20, 100, 255, 256];
+/// How many different runs of one symbol there are.
+const RUNS: usize = SYMBOLS.len() * COUNTS.len();
+
+const FAMILIES: usize = 12;
+const RUN_FAMILY: usize = 0;
+
+/// The families take turns; those that enumerate come one step further each time.
+pub fn pattern(turn: usize, random: &mut Random) -> Vec<u8> {
+    let step = turn / FAMILIES;
+    match turn % FAMILIES {
+        RUN_FAMILY => symbol_run(step),
+        1 => short(step),
+        2 => short_with_quotes(step),
+        3 => around_the_limits(random),
+        4 => noise(random),
+        5 => disturbed(random),
+        _ => ordinary(random),
+    }
+}
+
+/// For a run of one symbol, how many times all the runs have been gone through before.
+pub fn round_of_runs(turn: usize) -> Option<usize> {
+    (turn % FAMILIES == RUN_FAMILY).then_some(turn / FAMILIES / RUNS)
+}
+
+fn symbol_run(step: usize) -> Vec<u8> {
+    let symbol = SYMBOLS[step % SYMBOLS.len()];
+    vec![symbol; COUNTS[step / SYMBOLS.len() % COUNTS.len()]]
+}
+
+fn short(step: usize) -> Vec<u8> {
+    enumerated(b"GyqMwdDeabhHKkmsnXx'5/", step)
+}
+
+fn short_with_quotes(step: usize) -> Vec<u8> {
+    enumerated(b"'d-", step)
+}
+
+/// The strings over an alphabet in order, shorter ones first.
+fn enumerated(alphabet: &[u8], mut step: usize) -> Vec<u8> {
+    let mut bytes = Vec::new();
+    while step > 0 {
+        step -= 1;
+        bytes.push(alphabet[step % alphabet.len()]);
+        step /= alphabet.len();
+    }
+    bytes
+}
+
+fn around_the_limits(random: &mut Random) -> Vec<u8> {
+    let length = match random.below(20) {
+        0 => random.between(259, 5000) as usize,
+        1 => random.pick(&[257, 258]),
+        _ => random.pick(&[0, 1, 2, 128, 254, 255, 256]),
+    };
+    let mut pattern = Vec::new();
+    while pattern.len() < length {
+        pattern.extend(piece(random));
+    }
+    pattern.truncate(length);
+    pattern
+}
+
+/// Any bytes, with many quotes.
+fn noise(random: &mut Random) -> Vec<u8> {
+    let length = random.below(12);
+    (0..length)
+        .map(|_| match random.below(4) {
+            0 => b'\'',
+            1 => random.between(1, 127) as u8,
+            _ => random.pick(SYMBOLS),
+        })
+        .collect()
+}
+
+/// With a byte that no pattern may have, or quotes at the end that open, close or pair.
+fn disturbed(random: &mut Random) -> Vec<u8> {
+    let mut pattern = ordinary(random);
+    if random.one_in(4) {
+        let place = random.below(pattern.len());
+        pattern[place] = random.pick(&[0, 128, 195, 255]);
+    } else {
+        let endings: [&[u8]; 7] = [b"'", b"'''", b"'x", b"'x'", b"'a''", b"'''''", b"'a'''"];
+        pattern.extend(random.pick(&endings));
+    }
+    pattern
+}
+
+pub fn ordinary(random: &mut Random) -> Vec<u8> {
+    let pieces = random.between(1, 7);
+    (0..pieces).flat_map(|_| piece(random)).collect()
+}
+
+fn piece(random: &mut Random) -> Vec<u8> {
+    match random.below(12) {
+        0..=6 => vec![random.pick(SYMBOLS); usual_count(random)],
+        7 | 8 => vec![random.pick(b"/-:., T")],
+        9 => vec![random.pick(b"0159"); random.between(1, 3) as usize],
+        10 => b"''".repeat(random.between(1, 2) as usize),
+        _ => quoted(random),
+    }
+}
+
+fn usual_count(random: &mut Random) -> usize {
+    match random.below(10) {
+        0 => random.between(6, 12) as usize,
+        _ => random.between(1, 5) as usize,
+    }
+}
+
+fn quoted(random: &mut Random) -> Vec<u8> {
+    let insides: [&[u8]; 5] = [b"at", b"o''clock", b"y''", b"5", b" of "];
+    let inside = random.pick(&insides);
+    [b"'", inside, b"'"].concat()
+}

@@ -1,0 +1,19 @@
+//! The oracle: the Rust's modules for formatting and parsing, built unchanged, with everything
+//! around them that asks, generates and compares.
+
+mod calendar;
+mod errors;
+mod guard;
+mod util;
+
+pub mod answer;
+pub mod expected;
+pub mod generator;
+pub mod limits;
+pub mod options;
+pub mod request;
+pub mod tally;
+pub mod walk;
+
+pub use calendar::Fields;
+pub(crate) use calendar::{Date, DateUtilities};

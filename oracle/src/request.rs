@@ -1,0 +1,210 @@
+//! The requests of the line protocol: one a line, words separated by one space.
+
+use crate::calendar::Fields;
+use crate::walk::Pair;
+use std::fmt;
+use std::str::FromStr;
+
+pub const MOST_ROOM: usize = 4096;
+
+#[derive(Clone, Copy, Debug, PartialEq, Eq)]
+pub enum Op {
+    Split,
+    Write,
+    WriteDate,
+    Read,
+    ReadDate,
+    ParseOffset,
+}
+
+#[derive(Clone, Debug, PartialEq, Eq)]
+pub enum Request {
+    Split {
+        pattern: Vec<u8>,
+    },
+    Write {
+        pair: Pair,
+        pattern: Vec<u8>,
+        fields: Fields,
+        room: usize,
+    },
+    Read {
+        pair: Pair,
+        pattern: Vec<u8>,
+        text: Vec<u8>,
+        now: i32,
+    },
+    ParseOffset {
+        text: Vec<u8>,
+    },
+}
+
+impl Op {
+    pub const ALL: [Op; 6] = [
+        Op::Split,
+        Op::Write,
+        Op::WriteDate,
+        Op::Read,
+        Op::ReadDate,
+        Op::ParseOffset,
+    ];
+
+    pub fn name(self) -> &'static str {
+        match self {
+            Op::Split => "split",
+            Op::Write => "write",
+            Op::WriteDate => "write_date",
+            Op::Read => "read",
+            Op::ReadDate => "read_date",
+            Op::ParseOffset => "parse_offset",
+        }
+    }
+
+    pub fn named(name: &str) -> Option<Op> {
+        Op::ALL.into_iter().find(|op| op.name() == name)
+    }
+}
+
+impl Request {
+    /// None where the line is no request.
+    pub fn from_line(line: &str) -> Option<Request> {
+        let mut words = line.split(' ');
+        let op = Op::named(words.next()?)?;
+        let request = match op {
+            Op::Split => Request::Split {
+                pattern: bytes(&mut words)?,
+            },
+            Op::Write => write_request(Pair::Full, &mut words)?,
+            Op::WriteDate => write_request(Pair::Date, &mut words)?,
+            Op::Read => read_request(Pair::Full, &mut words)?,
+            Op::ReadDate => read_request(Pair::Date, &mut words)?,
+            Op::ParseOffset => Request::ParseOffset {
+                text: bytes(&mut words)?,
+            },
+        };
+        words.next().is_none().then_some(request)
+    }
+
+    pub fn op(&self) -> Op {
+        match self {
+            Request::Split { .. } => Op::Split,
+            Request::Write { pair, .. } => match pair {
+                Pair::Full => Op::Write,
+                Pair::Date => Op::WriteDate,
+            },
+            Request::Read { pair, .. } => match pair {
+                Pair::Full => Op::Read,
+                Pair::Date => Op::ReadDate,
+            },
+            Request::ParseOffset { .. } => Op::ParseOffset,
+        }
+    }
+}
+
+impl fmt::Display for Request {
+    fn fmt(&self, f: &mut fmt::Formatter<'_>) -> fmt::Result {
+        write!(f, "{} ", self.op().name())?;
+        match self {
+            Request::Split { pattern } => f.write_str(&hex(pattern)),
+            Request::Write {
+                pattern,
+                fields,
+                room,
+                ..
+            } => write!(f, "{} {} {room}", hex(pattern), field_words(fields)),
+            Request::Read {
+                pattern, text, now, ..
+            } => write!(f, "{} {} {now}", hex(pattern), hex(text)),
+            Request::ParseOffset { text } => f.write_str(&hex(text)),
+        }
+    }
+}
+
+/// Two lowercase digits a byte, `-` for no bytes.
+pub fn hex(bytes: &[u8]) -> String {
+    const DIGITS: &[u8; 16] = b"0123456789abcdef";
+    if bytes.is_empty() {
+        return "-".to_string();
+    }
+    let mut digits = String::with_capacity(2 * bytes.len());
+    for byte in bytes {
+        digits.push(char::from(DIGITS[usize::from(byte / 16)]));
+        digits.push(char::from(DIGITS[usize::from(byte % 16)]));
+    }
+    digits
+}
+
+fn write_request<'a>(pair: Pair, words: &mut impl Iterator<Item = &'a str>) -> Option<Request> {
+    Some(Request::Write {
+        pair,
+        pattern: bytes(words)?,
+        fields: fields(words)?,
+        room: number(words).filter(|room| *room <= MOST_ROOM)?,
+    })
+}
+
+fn read_request<'a>(pair: Pair, words: &mut impl Iterator<Item = &'a str>) -> Option<Request> {
+    Some(Request::Read {
+        pair,
+        pattern: bytes(words)?,
+        text: bytes(words)?,
+        now: number(words)?,
+    })
+}
+
+fn fields<'a>(words: &mut impl Iterator<Item = &'a str>) -> Option<Fields> {
+    Some(Fields {
+        year: number(words)?,
+        month: number(words)?,
+        day: number(words)?,
+        day_of_year: number(words)?,
+        week: number(words)?,
+        weekday: number(words)?,
+        nanoseconds: number(words)?,
+        offset: number(words)?,
+    })
+}
+
+fn field_words(fields: &Fields) -> String {
+    format!(
+        "{} {} {} {} {} {} {} {}",
+        fields.year,
+        fields.month,
+        fields.day,
+        fields.day_of_year,
+        fields.week,
+        fields.weekday,
+        fields.nanoseconds,
+        fields.offset
+    )
+}
+
+fn number<'a, T: FromStr>(words: &mut impl Iterator<Item = &'a str>) -> Option<T> {
+    let word = words.next()?;
+    if word.starts_with('+') {
+        return None;
+    }
+    word.parse().ok()
+}
+
+fn bytes<'a>(words: &mut impl Iterator<Item = &'a str>) -> Option<Vec<u8>> {
+    let word = words.next()?;
+    if word == "-" {
+        return Some(Vec::new());
+    }
+    if word.is_empty() || word.len() % 2 != 0 {
+        return None;
+    }
+    word.as_bytes()
+        .chunks(2)
+        .map(|pair| Some(16 * hex_digit(pair[0])? + hex_digit(pair[1])?))
+        .collect()
+}
+
+fn hex_digit(byte: u8) -> Option<u8> {
+    match byte {
+        b'0'..=b'9' => Some(byte - b'0'),
+        b'a'..=b'f' => Some(byte - b'a' + 10),
+        _ => None,
+    }
+}

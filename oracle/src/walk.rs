@@ -1,0 +1,167 @@
+//! The walk over a pattern as Date does it, for each of the Rust's pairs of part functions.
+//! Patterns hold no zero byte, which is the Rust's mark for an escaped quote; patterns and texts are ASCII.
+
+use crate::calendar::{give_current_year, give_fields, Fields};
+use crate::errors::AstrolabeError;
+use crate::guard::guarded;
+pub use crate::guard::Cause;
+use crate::util::format::{format_date_part, format_part};
+use crate::util::parse::{self, parse_date_part, parse_format_string, parse_part, ParsedPart};
+
+/// Which of the Rust's pairs of part functions the walk goes through.
+#[derive(Clone, Copy, Debug, PartialEq, Eq)]
+pub enum Pair {
+    Full,
+    Date,
+}
+
+#[derive(Clone, Copy, Debug, PartialEq, Eq)]
+pub enum Kind {
+    Run,
+    Quotes,
+    Quoted,
+    Open,
+}
+
+/// A part of a pattern, its place and length in pattern bytes.
+#[derive(Clone, Copy, Debug, PartialEq, Eq)]
+pub struct Part {
+    pub kind: Kind,
+    pub start: usize,
+    pub length: usize,
+}
+
+/// What a read gives: the bytes taken, and by unit which values were read.
+#[derive(Debug, Default, PartialEq, Eq)]
+pub struct Reading {
+    pub taken: usize,
+    pub mask: u16,
+    pub values: [i64; 15],
+}
+
+/// Where and why a read came to no answer: the part, the place in the text where that part began,
+/// the place that the Rust had reached.
+#[derive(Debug, PartialEq, Eq)]
+pub struct Stopped {
+    pub part: usize,
+    pub began: usize,
+    pub reached: usize,
+    pub cause: Cause,
+}
+
+const ESCAPED_QUOTE: char = '\0';
+const QUOTE: char = '\'';
+
+pub fn split(pattern: &str) -> Vec<Part> {
+    let mut start = 0;
+    parse_format_string(pattern)
+        .iter()
+        .map(|part| {
+            let length = part.len() + part.matches(ESCAPED_QUOTE).count();
+            let placed = Part {
+                kind: kind_of(part),
+                start,
+                length,
+            };
+            start += length;
+            placed
+        })
+        .collect()
+}
+
+pub fn write(pair: Pair, pattern: &str, fields: &Fields) -> Result<String, Cause> {
+    give_fields(*fields);
+    guarded(|| {
+        let parts = parse_format_string(pattern);
+        Ok(parts.iter().map(|p| write_part(pair, p, fields)).collect())
+    })
+}
+
+pub fn read(pair: Pair, pattern: &str, text: &str, now: i32) -> Result<Reading, Stopped> {
+    give_current_year(now);
+    let mut rest = text.to_string();
+    let mut reading = Reading::default();
+    for (number, part) in parse_format_string(pattern).iter().enumerate() {
+        let began = text.len() - rest.len();
+        let carried = guarded(|| read_part(pair, part, &mut rest)).map_err(|cause| Stopped {
+            part: number,
+            began,
+            reached: text.len() - rest.len(),
+            cause,
+        })?;
+        if let Some(carried) = carried {
+            reading.keep(carried);
+        }
+    }
+    reading.taken = text.len() - rest.len();
+    Ok(reading)
+}
+
+pub fn parse_offset(text: &str) -> Result<i32, Cause> {
+    guarded(|| parse::parse_offset(text))
+}
+
+impl Reading {
+    fn keep(&mut self, carried: ParsedPart) {
+        let unit = carried.unit as usize;
+        self.mask |= 1 << unit;
+        self.values[unit] = carried.value;
+    }
+}
+
+fn kind_of(part: &str) -> Kind {
+    if part.starts_with(ESCAPED_QUOTE) {
+        Kind::Quotes
+    } else if !part.starts_with(QUOTE) {
+        Kind::Run
+    } else if part.len() > 1 && part.ends_with(QUOTE) {
+        Kind::Quoted
+    } else {
+        Kind::Open
+    }
+}
+
+fn write_part(pair: Pair, part: &str, fields: &Fields) -> String {
+    match (kind_of(part), pair) {
+        (Kind::Quotes, _) => with_quotes(part),
+        (Kind::Quoted | Kind::Open, _) => inside(&with_quotes(part)).to_string(),
+        (Kind::Run, Pair::Full) => {
+            format_part(part, fields.days(), fields.nanoseconds, fields.offset)
+        }
+        (Kind::Run, Pair::Date) => format_date_part(part, fields.days()),
+    }
+}
+
+fn with_quotes(part: &str) -> String {
+    part.replace(ESCAPED_QUOTE, "'")
+}
+
+/// Any quote at the end passes for the closing one, an escaped one too; a lone quote panics.
+fn inside(quoted: &str) -> &str {
+    let end = quoted.strip_suffix(QUOTE).map_or(quoted.len(), str::len);
+    &quoted[1..end]
+}
+
+fn read_part(
+    pair: Pair,
+    part: &str,
+    rest: &mut String,
+) -> Result<Option<ParsedPart>, AstrolabeError> {
+    match (kind_of(part), pair) {
+        (Kind::Quotes, _) => skip(part.len(), rest),
+        (Kind::Quoted | Kind::Open, _) => skip(bytes_inside(part), rest),
+        (Kind::Run, Pair::Full) => return parse_part(part, rest),
+        (Kind::Run, Pair::Date) => return parse_date_part(part, rest),
+    }
+    Ok(None)
+}
+
+/// An escaped quote is one byte here; a lone quote panics.
+fn bytes_inside(part: &str) -> usize {
+    part.len() - 1 - usize::from(part.ends_with(QUOTE))
+}
+
+/// Panics where the rest is too short, as Date does.
+fn skip(bytes: usize, rest: &mut String) {
+    rest.drain(..bytes);
+}

@@ -1,0 +1,58 @@
+//! Which lines are requests, and what the generated ones are like.
+
+use harness::answer::answer;
+use harness::expected::{expected, Expected};
+use harness::generator::Generator;
+use harness::request::{Op, Request};
+
+const FIELDS: &str = "2025 12 3 337 49 3 0 19800";
+
+#[test]
+fn other_lines_are_bad_requests() {
+    let lines = [
+        "".to_string(),
+        "split".to_string(),
+        "split ".to_string(),
+        "split 7".to_string(),
+        "split 7A".to_string(),
+        "split  79".to_string(),
+        "split 79 79".to_string(),
+        "Split 79".to_string(),
+        format!("write 79 {FIELDS}"),
+        format!("write 79 {FIELDS} 4097"),
+        format!("write 79 {FIELDS} -1"),
+        "write 79 2147483648 12 3 337 49 3 0 19800 9".to_string(),
+        "write 79 2025 -1 3 337 49 3 0 19800 9".to_string(),
+        "write 79 2025 12 3 337 49 3 18446744073709551616 19800 9".to_string(),
+        "read 79 39 +2025".to_string(),
+        "check 79 2025".to_string(),
+    ];
+    for line in lines {
+        assert_eq!(answer(&line), "bad request", "{line}");
+    }
+}
+
+#[test]
+fn generated_requests_read_back_from_their_lines() {
+    for request in Generator::new(1, Op::ALL.to_vec()).take(10_000) {
+        assert_eq!(Request::from_line(&request.to_string()), Some(request));
+    }
+}
+
+#[test]
+fn the_same_seed_gives_the_same_requests() {
+    let run = |seed| Generator::new(seed, Op::ALL.to_vec()).take(1000);
+    assert!(run(1).eq(run(1)));
+    assert!(run(1).ne(run(2)));
+}
+
+#[test]
+fn over_a_third_of_the_reads_are_accepted() {
+    for op in [Op::Read, Op::ReadDate] {
+        let accepted = Generator::new(1, vec![op])
+            .take(10_000)
+            .filter(|request| matches!(expected(request), Expected::Accepted(_)))
+            .count();
+        assert!(accepted > 3334, "{accepted} of 10000");
+    }
+}

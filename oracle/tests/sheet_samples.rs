@@ -1,0 +1,180 @@
+//! Document 01's sheet samples and the examples of its section on splitting: what the oracle answers,
+//! and which line the comparer asks of a program.
+
+use harness::answer::answer;
+use harness::expected::expected;
+use harness::request::{hex, Request};
+use harness::walk::Pair;
+use harness::Fields;
+
+const R: Fields = Fields {
+    year: 2025,
+    month: 12,
+    day: 3,
+    day_of_year: 337,
+    week: 49,
+    weekday: 3,
+    nanoseconds: 25_509_000_120_000,
+    offset: 19_800,
+};
+
+fn split(pattern: &str) -> Request {
+    Request::Split {
+        pattern: pattern.into(),
+    }
+}
+
+fn write(pattern: &str, fields: Fields) -> Request {
+    Request::Write {
+        pair: Pair::Full,
+        pattern: pattern.into(),
+        fields,
+        room: 4096,
+    }
+}
+
+fn read(pattern: &str, text: &str, now: i32) -> Request {
+    Request::Read {
+        pair: Pair::Full,
+        pattern: pattern.into(),
+        text: text.into(),
+        now,
+    }
+}
+
+fn parse_offset(text: &str) -> Request {
+    Request::ParseOffset { text: text.into() }
+}
+
+fn with_year(year: i32) -> Fields {
+    Fields { year, ..R }
+}
+
+fn with_offset(offset: i32) -> Fields {
+    Fields { offset, ..R }
+}
+
+#[track_caller]
+fn accepted(request: &Request, line: &str) {
+    assert_eq!(answer(&request.to_string()), line);
+    assert_eq!(expected(request).line(), line);
+}
+
+#[track_caller]
+fn writes(pattern: &str, fields: Fields, text: &str) {
+    let line = format!("wrote {} {}", text.len(), hex(text.as_bytes()));
+    accepted(&write(pattern, fields), &line);
+}
+
+/// The values are those of the first units; all further ones are unread.
+#[track_caller]
+fn reads(request: &Request, taken_mask_count: &str, first_values: &[i64]) {
+    let mut values = first_values.to_vec();
+    values.resize(15, 0);
+    let values: Vec<String> = values.iter().map(i64::to_string).collect();
+    let line = format!("read {taken_mask_count} {}", values.join(" "));
+    accepted(request, &line);
+}
+
+#[track_caller]
+fn refused(request: &Request, line: &str) {
+    assert_eq!(answer(&request.to_string()), "refused");
+    assert_eq!(expected(request).line(), line);
+}
+
+/// Refused by document 01 alone; the Rust has no such limit.
+#[track_caller]
+fn limited(request: &Request, line: &str) {
+    assert_ne!(answer(&request.to_string()), "refused");
+    assert_eq!(expected(request).line(), line);
+}
+
+#[test]
+fn record_r_is_written() {
+    writes("yyyy/MM/dd", R, "2025/12/03");
+    writes("h 'o''clock'", R, "7 o'clock");
+    writes("nnnn", R, "000120");
+    writes("XXXXX", R, "+05:30");
+}
+
+#[test]
+fn years_before_christ_are_written() {
+    writes("yyyy", with_year(-12), "-0012");
+    writes("yy", with_year(-12), "12");
+    writes("yy", with_year(-5), "-05");
+}
+
+#[test]
+fn quotes_are_written() {
+    writes("'abc''", R, "abc");
+    refused(&write("'", R), "refused 3 0");
+    refused(&write("'''", R), "refused 3 2");
+    writes("''", R, "'");
+}
+
+#[test]
+fn quotes_are_split() {
+    accepted(&split("'''a'"), "parts 2 quotes:0:2 quoted:2:3");
+    accepted(&split("'abc''"), "parts 1 open:0:6");
+    accepted(&split("'"), "parts 1 open:0:1");
+    accepted(&split("yy''''y"), "parts 3 run:0:2 quotes:2:4 run:6:1");
+    accepted(&split(""), "parts 0");
+}
+
+#[test]
+fn quotes_are_read() {
+    reads(&read("'abc''", "12345", 2025), "4 0 0", &[]);
+    refused(&read("'abc''", "123", 2025), "refused 8 0 0");
+    refused(&read("'", "1", 2025), "refused 3 0");
+}
+
+#[test]
+fn numbers_are_read() {
+    reads(&read("M", "12", 2025), "1 2 1", &[0, 1]);
+    reads(&read("dd", "+5", 2025), "2 4 1", &[0, 0, 5]);
+    reads(&read("d/M", "3/12", 2025), "3 6 2", &[0, 1, 3]);
+    reads(&read("HH", "99", 2025), "2 16 1", &[0, 0, 0, 0, 99]);
+}
+
+#[test]
+fn zones_are_read_and_written() {
+    refused(&read("x", "Z", 2025), "refused 11 0 0");
+    let mut values = [0; 15];
+    values[14] = 19_800;
+    reads(&read("X", "+0530", 2025), "5 16384 1", &values);
+    writes("X", with_offset(-30), "-00");
+}
+
+#[test]
+fn what_is_no_number_is_refused() {
+    refused(&read("yyyy", "", 2025), "refused 9 0 0");
+    refused(&read("dd", "", 2025), "refused 8 0 0");
+    refused(&read("D", "a1", 2025), "refused 9 0 0");
+}
+
+#[test]
+fn two_digit_years_are_read() {
+    reads(&read("yy", "25", 2025), "2 1 1", &[2025]);
+    reads(&read("yy", "25", 1999), "2 1 1", &[1025]);
+}
+
+#[test]
+fn limits_are_kept() {
+    let longest = "/".repeat(256);
+    writes(&longest, R, &longest);
+    limited(&write(&"/".repeat(257), R), "refused 1 257");
+    writes("xxxx", with_offset(86_399), "+235959");
+    limited(&write("xxxx", with_offset(86_400)), "refused 4 8");
+}
+
+#[test]
+fn offsets_are_parsed() {
+    accepted(&parse_offset("Z12"), "offset 0");
+    accepted(&parse_offset("+05.30"), "offset 19800");
+    accepted(&parse_offset("905:30"), "offset -19800");
+    refused(&parse_offset("+05:3"), "refused 12 5");
+    refused(&parse_offset("+0x:30"), "refused 9 0 1");
+    refused(&parse_offset("+05:-3"), "refused 9 0 4");
+    refused(&parse_offset("+24:60"), "refused 13 1");
+    refused(&parse_offset("+23:60"), "refused 13 2");
+}
