@@ -1,13 +1,13 @@
 -- Laws of decimal text: how many digits there are, that they are digits, and what number they stand for; and the turns of
 -- the loops that count and lay them. Reading a written number back is in Numbers.
 use mathlib.Core.Bool.{Bool, true, false}
-use mathlib.Core.List.{List, [], _∷_, _++_}
+use mathlib.Core.List.{List, [], _∷_, _++_, append-assoc, append-nil}
 use mathlib.Core.Path.{_≡_, refl, sym, ap, _∙_}
 use Prim.Native.Nat.{ℕ, zero, suc, _+_, _-_, _*_, _/_, _%_, _^_, _≤_, _<_, max}
-use native.Mathlib.Nat.{pow-suc, pow-le-pow-right, lt-of-lt-of-le, div-lt-iff-lt-mul}
+use native.Mathlib.Nat.{add-zero, pow-suc, pow-le-pow-right, lt-of-lt-of-le, div-lt-iff-lt-mul}
 use native.Mathlib.Omega.{arith}
 use lib.Dec.{leb, ltb}
-use lib.ListN.{length, getD, set, length-append, List·getD-append}
+use lib.ListN.{length, getD, set, replicate, length-append, List·getD-append}
 use lib.Seq.{sets}
 use borrow.Author.Tests.{lt-ltb, le-ltb, ltb-true, ltb-false, le-leb, lt-leb, leb-true}
 use Rattle.meaning.specs.Bytes.{both, isDigit, digitAt, digits, widthIn, width, num}
@@ -134,11 +134,14 @@ pub all-num : (k n : ℕ) → allDigits (num k n) ≡ true
 unfolding num
 all-num k n = all-digits (max k (width n)) n
 
+pub below-width : (n : ℕ) → n < 10 ^ width n
+unfolding width
+below-width n = below-widthIn n n (omega arith)
+
 pub decimal-num : (k n : ℕ) → decimal 0 (num k n) ≡ n
-unfolding num width
+unfolding num
 decimal-num k n =
-    decimal-digits (max k (width n)) n
-    (lt-of-lt-of-le (below-widthIn n n (omega arith)) (pow-le-pow-right (omega arith) (omega arith)))
+    decimal-digits (max k (width n)) n (lt-of-lt-of-le (below-width n) (pow-le-pow-right (omega arith) (omega arith)))
 
 -- loops: a turn that lays a digit from the right, its end, and the number that is then there
 
@@ -163,9 +166,37 @@ digits-done l at i m h =
     let e : i ≡ 0 = omega arith in
     rw e
 
-pub digits-are-num : (w k n : ℕ) → w ≡ max k (width n) → digits w n ≡ num k n
+-- padding: digits that a number has not are zeros
+
+times-snoc : (b j : ℕ) → replicate j b ++ (b ∷ []) ≡ b ∷ replicate j b
+times-snoc b zero = refl
+times-snoc b (suc j) = ap (λ (l : List ℕ). b ∷ l) (times-snoc b j)
+
+digits-of-zero : (j : ℕ) → digits j 0 ≡ replicate j 48
+unfolding digits
+digits-of-zero zero = refl
+digits-of-zero (suc j) = rw (digits-of-zero j) (times-snoc 48 j)
+
+zeros-first : (j w n : ℕ) → n < 10 ^ w → digits (j + w) n ≡ replicate j 48 ++ digits w n
+unfolding digits
+zeros-first j zero n h =
+    let e : n ≡ 0 = omega arith in
+    rw (e, add-zero) (digits-of-zero j ∙ sym (append-nil (replicate j 48)))
+zeros-first j (suc w) n h =
+    let e : j + suc w ≡ suc (j + w) = omega arith in
+    rw (e, digits, zeros-first j w (n / 10) (tenth w n h)) (append-assoc (replicate j 48) (digits w (n / 10)) _)
+
+pub num-padded : (k n : ℕ) → width n < k → num k n ≡ replicate (k - width n) 48 ++ digits (width n) n
 unfolding num
-digits-are-num w k n e = rw e
+num-padded k n h =
+    let e : max k (width n) ≡ (k - width n) + width n = omega arith in
+    rw e (zeros-first (k - width n) (width n) n (below-width n))
+
+pub num-bare : (k n : ℕ) → k ≤ width n → num k n ≡ digits (width n) n
+unfolding num
+num-bare k n h =
+    let e : max k (width n) ≡ width n = omega arith in
+    rw e
 
 -- digits at their places, before whatever follows
 

@@ -78,7 +78,7 @@ below-in-place : (k n m : ℕ) → k < m → n < m → inPlaceOfZero k n < m
 below-in-place k zero m h l = h
 below-in-place k (suc n) m h l = l
 
-ten-positive : (k : ℕ) → 0 < 10 ^ k
+pub ten-positive : (k : ℕ) → 0 < 10 ^ k
 ten-positive zero = omega arith
 ten-positive (suc k) = rw pow-suc (let h = ten-positive k in omega arith)
 

@@ -2,10 +2,10 @@
 -- writers one after the other. The library's own laws of `sets` are in `lib.Seq`.
 use mathlib.Core.List.{List, [], _∷_, _++_}
 use mathlib.Core.Path.{_≡_, refl, sym, ap, _∙_}
-use Prim.Native.Nat.{ℕ, suc, _+_, _≤_, _<_}
+use Prim.Native.Nat.{ℕ, suc, _+_, _-_, _≤_, _<_}
 use native.Mathlib.Nat.{add-zero}
 use native.Mathlib.Omega.{arith}
-use lib.ListN.{length, getD, set, take, drop, length-append}
+use lib.ListN.{length, getD, set, take, drop, replicate, length-append}
 use lib.Seq.{sets, sets-eq, set-comm, drop-cons, drop-length, take-at}
 use Rattle.laws.specs.Laid.{Laid}
 
@@ -36,6 +36,19 @@ pub lay-done : (l : List ℕ) (at : ℕ) (s : List ℕ) (j : ℕ) → length s �
 lay-done l at s j h k =
     let e : j ≡ length s = omega arith in
     rw (e, drop-length s)
+
+-- the same for one byte again and again
+pub lay-next-time : (l : List ℕ) (at b times j : ℕ) → j < times
+    → sets (set l (at + j) b) (at + (j + 1)) (replicate (times - (j + 1)) b) ≡ sets l (at + j) (replicate (times - j) b)
+lay-next-time l at b times j h =
+    let e : at + (j + 1) ≡ suc (at + j) = omega arith in
+    let f : times - j ≡ suc (times - (j + 1)) = omega arith in
+    rw (f, e)
+
+pub lay-times-done : (l : List ℕ) (at b times j : ℕ) → times ≤ j → sets l (at + j) (replicate (times - j) b) ≡ l
+lay-times-done l at b times j h =
+    let e : times - j ≡ 0 = omega arith in
+    rw e
 
 -- the front of a row in which a text is laid from its start
 pub take-laid : (l vs : List ℕ) (n : ℕ) → length vs ≡ n → n ≤ length l → take n (sets l 0 vs) ≡ vs

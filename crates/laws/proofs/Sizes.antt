@@ -16,7 +16,7 @@ use Rattle.meaning.specs.Reading.{colonLength}
 use Rattle.meaning.specs.Rules.{Counts, just, upTo, among, Row, _is_, Otherwise, always, fixedYear, otherwiseRule, pick, Symbol, ruleOf, roleAmong, dateSymbols, timeSymbols, dateRole, timeRole, roleOf, orElse}
 use Rattle.meaning.specs.Splitting.{Content, run, quotes, quoted, unclosed, contents, lengthOf, insideLength}
 use Rattle.meaning.specs.Whole.{text}
-use Rattle.meaning.specs.Writing.{quantityOf, signedText, twoDigitText, offsetText, groupText, colonText, zoneText, nameText, placeOf, ruleText, isNegative, Step, literal, field, runStep, stepOf, endsInQuote, steps, stepText, texts}
+use Rattle.meaning.specs.Writing.{quantityOf, signedText, twoDigitText, offsetText, groupText, isThere, colonText, zoneText, nameText, placeOf, ruleText, isNegative, Step, literal, field, runStep, stepOf, endsInQuote, steps, stepText, texts}
 use Rattle.meaning.specs.declared.Checked.{Checked}
 use Rattle.meaning.specs.declared.Checked.the-variants.{Fine, Refused}
 use Rattle.meaning.specs.declared.Fields.{Fields}
@@ -78,7 +78,7 @@ two-digits-length c n h = rw length-append (omega (arith, colon-length c, num-le
 group-length : (c : Bool) (g : Group) (n : ℕ) → n < 100 → length (groupText c g n) ≤ groupMost c g
 group-length c Never n h = omega arith
 group-length c NotZero n h =
-    when-is (λ (t : List ℕ). length t ≤ colonLength c + 2) (eqb n 0) (λ e. omega arith) (λ e. two-digits-length c n h)
+    when-is (λ (t : List ℕ). length t ≤ colonLength c + 2) (isThere NotZero n) (λ e. two-digits-length c n h) (λ e. omega arith)
 group-length c Always n h = two-digits-length c n h
 
 offset-length : (c : Bool) (minutes seconds : Group) (z : ℤ) → natAbs z ≤ 86399
@@ -90,9 +90,8 @@ offset-length c minutes seconds z h =
 
 zone-length : (utc c : Bool) (minutes seconds : Group) (z : ℤ) → natAbs z ≤ 86399
     → length (zoneText utc c minutes seconds z) ≤ 3 + groupMost c minutes + groupMost c seconds
-zone-length false c minutes seconds z h = offset-length c minutes seconds z h
-zone-length true c minutes seconds z h =
-    when-is (λ (t : List ℕ). length t ≤ 3 + groupMost c minutes + groupMost c seconds) (eqb (natAbs z) 0)
+zone-length utc c minutes seconds z h =
+    when-is (λ (t : List ℕ). length t ≤ 3 + groupMost c minutes + groupMost c seconds) (both utc (eqb (natAbs z) 0))
     (λ e. omega arith) (λ e. offset-length c minutes seconds z h)
 
 pub rule-length : (book : Book) (rule : Rule) (f : Fields) → Allowed f → length (ruleText book rule f) ≤ mostBytes book rule

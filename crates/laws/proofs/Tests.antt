@@ -2,8 +2,8 @@
 -- the set by which `search` goes through a definition's tests as the code went through its own.
 use mathlib.Core.Bool.{Bool, true, false}
 use mathlib.Core.List.{List, [], _∷_}
-use mathlib.Core.Path.{_≡_, refl}
-use Prim.Native.Nat.{ℕ, zero, suc, _<_}
+use mathlib.Core.Path.{_≡_, refl, ap, _∙_}
+use Prim.Native.Nat.{ℕ, zero, suc, _+_, _<_}
 use native.Mathlib.Omega.{arith}
 use borrow.Author.Needs.{needs}
 use borrow.Author.Tests.{eq-eqb, ne-eqb, le-leb, lt-leb, lt-ltb, le-ltb}
@@ -49,3 +49,17 @@ unfolding every
 every-at test [] d h i k = absurd (omega arith)
 every-at test (a ∷ l) d h zero k = both-true (test a) (every test l) h .0
 every-at test (a ∷ l) d h (suc i) k = every-at test l d (both-true (test a) (every test l) h .1) i (omega arith)
+
+-- a table of the values of a function, which antt compares with one that is written out, lifted to each entry
+unfoldable pub tabulate : (ℕ → ℕ) → ℕ → ℕ → List ℕ
+tabulate f zero i = []
+tabulate f (suc n) i = f i ∷ tabulate f n (suc i)
+
+pub tabulated-from : (f : ℕ → ℕ) (n i k : ℕ) → k < n → getD (tabulate f n i) k 0 ≡ f (i + k)
+unfolding tabulate
+tabulated-from f zero i k h = absurd (omega arith)
+tabulated-from f (suc n) i zero h = ap f (omega arith)
+tabulated-from f (suc n) i (suc k) h = tabulated-from f n (suc i) k (omega arith) ∙ ap f (omega arith)
+
+pub tabulated : (f : ℕ → ℕ) (n k : ℕ) → k < n → getD (tabulate f n 0) k 0 ≡ f k
+tabulated f n k h = tabulated-from f n 0 k h ∙ ap f (omega arith)

@@ -3,20 +3,20 @@ use mathlib.Core.Bool.{Bool, true, false}
 use mathlib.Core.List.{List, [], _∷_, _++_}
 use mathlib.Core.Option.{some}
 use mathlib.Core.Path.{_≡_, refl, ap, _∙_}
-use Prim.Native.Nat.{ℕ, zero, suc, _+_, _^_, _≤_, _<_}
+use Prim.Native.Nat.{ℕ, zero, suc, _+_, _%_, _^_, _≤_, _<_}
 use native.Mathlib.Nat.{add-zero, pow-le-pow-right}
 use native.Mathlib.Omega.{arith}
 use lib.Dec.{eqb}
 use lib.IntN.{ℤ, pos, negsuc, negℤ, natAbs}
 use lib.ListN.{length, take, drop, length-append}
 use lib.Seq.{take-append-seam}
-use borrow.Author.Tests.{ne-eqb}
-use Rattle.meaning.specs.Bytes.{isDigit, digitAt, num, minus}
+use borrow.Author.Tests.{ne-eqb, lt-ltb, le-ltb}
+use Rattle.meaning.specs.Bytes.{when, isDigit, digitAt, num, minus}
 use Rattle.meaning.specs.Names.{Book}
 use Rattle.meaning.specs.Numerals.{Signed, integer, allDigits, decimal, numberOf}
 use Rattle.meaning.specs.Readers.{got, _>>=_, done, takeYear}
 use Rattle.meaning.specs.Reading.{readRule, minusFirst, digitRun, year}
-use Rattle.meaning.specs.Writing.{signedText}
+use Rattle.meaning.specs.Writing.{isNegative, signedText, twoDigitText}
 use Rattle.meaning.specs.declared.Numeral.the-variants.{Year}
 use Rattle.meaning.specs.declared.Rule.the-variants.{Years, FixedYear}
 use Rattle.laws.proofs.Digits.{digit-bounds, all-num, decimal-num, num-some, num-fits}
@@ -96,3 +96,13 @@ fixed-year-comes-back book now k (pos n) r small seven =
 fixed-year-comes-back book now k (negsuc n) r small seven =
     let length′ : 1 + k ≡ suc (length (num k (suc n))) = omega (arith, seven-digits k (suc n) small seven) in
     year-carried _ (minus ∷ num k (suc n)) r _ length′ (negative′ k (suc n) small)
+
+-- yy, both ways
+
+pub two-digit-whole : (z : ℤ) → natAbs z < when (isNegative z) 10 100 → twoDigitText z ≡ signedText 2 z
+unfolding twoDigitText
+two-digit-whole z h = rw (lt-ltb (natAbs z) (when (isNegative z) 10 100) h)
+
+pub two-digit-cut : (z : ℤ) → when (isNegative z) 10 100 ≤ natAbs z → twoDigitText z ≡ num 2 (natAbs z % 100)
+unfolding twoDigitText
+two-digit-cut z h = rw (le-ltb (natAbs z) (when (isNegative z) 10 100) h)

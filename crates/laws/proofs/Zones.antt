@@ -13,7 +13,7 @@ use lib.IntN.{ℤ, pos, negsuc, negℤ, natAbs}
 use lib.ListN.{length, take, length-append}
 use lib.Seq.{take-append-seam}
 use borrow.Author.Tests.{eqb-true}
-use Rattle.meaning.specs.Bytes.{when, digitAt, num, plus, minus}
+use Rattle.meaning.specs.Bytes.{when, both, digitAt, num, plus, minus}
 use Rattle.meaning.specs.Names.{Book}
 use Rattle.meaning.specs.Numerals.{Signed, numberOf}
 use Rattle.meaning.specs.Readers.{got, Reader, _>>=_, done, skip, takeCount, ZoneSign, ahead, behindUtc, zoneSign}
@@ -28,7 +28,7 @@ use Rattle.meaning.specs.declared.Rule.the-variants.{Zone}
 use Rattle.laws.proofs.Digits.{all-num, decimal-num, num-some, num-fits, digit-in}
 use Rattle.laws.proofs.Numbers.{digits-come-back}
 use Rattle.laws.proofs.Readers.{in-turn, skip-goes-on, take-goes-on}
-use Rattle.laws.proofs.Tests.{by-test, true-is-not-false}
+use Rattle.laws.proofs.Tests.{by-test, both-true, true-is-not-false}
 
 -- two digits
 
@@ -194,9 +194,9 @@ pub zone-comes-back : (book : Book) (now : ℕ) (utc′ c : Bool) (minutes secon
     → natAbs z ≤ 86399 → Free c minutes (groupText c seconds (natAbs z % 60) ++ r) → Free c seconds r
     → readRule book now (Zone utc′ c minutes seconds) (zoneText utc′ c minutes seconds z ++ r)
     ≡ got (length (zoneText utc′ c minutes seconds z)) (Value unit.Offset (carriedOffset seconds z))
-zone-comes-back book now false c minutes seconds has z r small free free′ =
-    offset-comes-back book now false c minutes seconds has z r small free free′
-zone-comes-back book now true c minutes seconds has z r small free free′ =
-    by-test (eqb (natAbs z) 0)
-    (λ e. rw e (z-comes-back book now c minutes seconds z r (eqb-true (natAbs z) 0 e)))
-    (λ e. rw e (offset-comes-back book now true c minutes seconds has z r small free free′))
+zone-comes-back book now utc′ c minutes seconds has z r small free free′ =
+    by-test (both utc′ (eqb (natAbs z) 0))
+    (λ e.
+    let t = both-true utc′ (eqb (natAbs z) 0) e in
+    rw (e, t .0) (z-comes-back book now c minutes seconds z r (eqb-true (natAbs z) 0 (t .1))))
+    (λ e. rw e (offset-comes-back book now utc′ c minutes seconds has z r small free free′))

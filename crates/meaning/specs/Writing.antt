@@ -7,7 +7,7 @@ use Prim.Native.Nat.{ℕ, zero, suc, _+_, _*_, _-_, _/_, _%_, _^_}
 use lib.Dec.{eqb, leb, ltb}
 use lib.IntN.{ℤ, pos, negsuc, negℤ, natAbs}
 use lib.ListN.{length, getD, replicate, take}
-use Rattle.meaning.specs.Bytes.{when, num, minus, plus, colon, quote}
+use Rattle.meaning.specs.Bytes.{when, both, num, minus, plus, colon, quote}
 use Rattle.meaning.specs.Names.{Book, names}
 use Rattle.meaning.specs.Rules.{roleOf}
 use Rattle.meaning.specs.Splitting.{Content, run, quotes, quoted, unclosed, contents}
@@ -105,13 +105,15 @@ twoDigitText z =
 
 -- two digits of a zone, behind a colon or not, where the group is there
 abbrev pub colonText : Bool → List ℕ
-colonText true = colon ∷ []
-colonText false = []
+colonText c = when c (colon ∷ []) []
+
+abbrev pub isThere : Group → ℕ → Bool
+isThere Never n = false
+isThere NotZero n = when (eqb n 0) false true
+isThere Always n = true
 
 abbrev pub groupText : Bool → Group → ℕ → List ℕ
-groupText c Never n = []
-groupText c NotZero n = when (eqb n 0) [] (colonText c ++ num 2 n)
-groupText c Always n = colonText c ++ num 2 n
+groupText c g n = when (isThere g n) (colonText c ++ num 2 n) []
 
 -- "the sign is minus exactly when the offset is below zero, then hh", then the groups
 unfoldable pub offsetText : Bool → Group → Group → ℤ → List ℕ
@@ -121,8 +123,8 @@ offsetText c minutes seconds z =
 
 -- "X with offset 0 writes Z at any count"
 abbrev pub zoneText : Bool → Bool → Group → Group → ℤ → List ℕ
-zoneText false c minutes seconds z = offsetText c minutes seconds z
-zoneText true c minutes seconds z = when (eqb (natAbs z) 0) (code "Z" ∷ []) (offsetText c minutes seconds z)
+zoneText utc c minutes seconds z =
+    when (both utc (eqb (natAbs z) 0)) (code "Z" ∷ []) (offsetText c minutes seconds z)
 
 -- what a symbol writes
 unfoldable pub ruleText : Book → Rule → Fields → List ℕ

@@ -1,0 +1,65 @@
+-- The tests, as the definition has them, once the bits are taken away.
+use borrow.Author.Needs.{needs}
+use Rattle.fields.proofs.checks.current_year_check.Statement.{statement}
+use Rattle.fields.proofs.checks.current_year_check.Tie as tie
+use Rattle.meaning.specs.Answers.{currentYearCheck}
+use mir.Syntax.{w32}
+use mir.ValLaws.{toZ-ofZ}
+
+is-negative-requires : tie.Need-is-negative-requires
+is-negative-requires c κs = search needs
+
+returns : tie.Need-returns
+unfolding currentYearCheck
+returns c =
+    let now = c .before .before .args .now in
+    let e = toZ-ofZ w32 now (c .before .before .fits .now) in
+    rw (e, ← (rw e at (c .before .is-negative .ensures)), c .if1 .taken)
+
+size-requires : tie.Need-size-requires
+size-requires c κs = search needs
+
+cast-is-within : tie.Need-cast-is-within
+cast-is-within c = search needs
+
+is-within-requires : tie.Need-is-within-requires
+is-within-requires c κs = search needs
+
+returns-2 : tie.Need-returns-2
+unfolding currentYearCheck
+returns-2 c =
+    let a = c .before .before .before .before .before in
+    let e = toZ-ofZ w32 (a .args .now) (a .fits .now) in
+    rw (
+      ← (rw e at (c .before .before .before .before .is-negative .ensures)),
+      c .before .before .before .if1 .left,
+      ← (rw e at (c .before .before .size .ensures)),
+      ← c .before .is-within .ensures,
+      c .if2 .taken,
+    )
+
+returns-3 : tie.Need-returns-3
+unfolding currentYearCheck
+returns-3 c =
+    let a = c .before .before .before .before .before in
+    let e = toZ-ofZ w32 (a .args .now) (a .fits .now) in
+    rw (
+      e,
+      ← (rw e at (c .before .before .before .before .is-negative .ensures)),
+      c .before .before .before .if1 .left,
+      ← (rw e at (c .before .before .size .ensures)),
+      ← c .before .is-within .ensures,
+      c .if2 .left,
+    )
+
+pub current-year-check-spec : {M : Type 1} → statement M
+current-year-check-spec =
+    tie.close
+    (tie.spec
+    is-negative-requires
+    returns
+    size-requires
+    cast-is-within
+    is-within-requires
+    returns-2
+    returns-3)

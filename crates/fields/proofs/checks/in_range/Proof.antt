@@ -1,0 +1,16 @@
+-- The test, as the definition has it.
+use borrow.Author.Needs.{needs}
+use Rattle.fields.proofs.checks.in_range.Statement.{statement}
+use Rattle.fields.proofs.checks.in_range.Tie as tie
+
+is-within-requires : tie.Need-is-within-requires
+is-within-requires c κs = search needs
+
+returns : tie.Need-returns
+returns c = rw (← c .before .is-within .ensures, c .if1 .taken)
+
+returns-2 : tie.Need-returns-2
+returns-2 c = rw (← c .before .is-within .ensures, c .if1 .left)
+
+pub in-range-spec : {M : Type 1} → statement M
+in-range-spec = tie.close (tie.spec is-within-requires returns returns-2)

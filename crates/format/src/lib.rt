@@ -1,0 +1,4 @@
+// Writing, document 01's column Writes: numbers out, the text of a rule and of a part, and the public writer.
+pub mod numbers;
+pub mod years;
+pub mod zones;

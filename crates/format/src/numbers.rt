@@ -1,0 +1,101 @@
+// Numbers out: bytes, texts and padded decimals laid into a lent output. Each writer takes the place to write at and
+// answers the next one.
+ghost use mathlib.Core.List.{_++_, _∷_, []};
+ghost use mathlib.Core.Path.{_≡_};
+ghost use Prim.Native.Nat.{_+_, _≤_, _<_};
+ghost use lib.ListN.{length, replicate};
+ghost use lib.Seq.{sets};
+ghost use Rattle.laws.specs.Laid.{Laid};
+ghost use Rattle.meaning.specs.Bytes as text;
+
+pub fn put_byte(b: u8, out: &mut [u8], at: usize) -> usize
+    requires { ⌜ at < length (now out) ⌝ }
+    ensures { λ r. ⌜ Laid (now (out .entry)) (now (out .exit)) at r (b ∷ []) ⌝ }
+{
+    out[at] = b;
+    at + 1
+}
+
+pub fn put_bytes(src: &[u8], out: &mut [u8], at: usize) -> usize
+    requires { ⌜ at + length (now src) ≤ length (now out) ⌝ }
+    ensures { λ r. ⌜ Laid (now (out .entry)) (now (out .exit)) at r (now (src .entry)) ⌝ }
+{
+    let mut j = 0;
+    while j < src.len() {
+        out[at + j] = src[j];
+        j += 1;
+    }
+    at + j
+}
+
+pub fn put_times(b: u8, times: usize, out: &mut [u8], at: usize) -> usize
+    requires { ⌜ at + times ≤ length (now out) ⌝ }
+    ensures { λ r. ⌜ Laid (now (out .entry)) (now (out .exit)) at r (replicate times b) ⌝ }
+{
+    let mut j = 0;
+    while j < times {
+        out[at + j] = b;
+        j += 1;
+    }
+    at + j
+}
+
+fn width(n: u32) -> usize
+    ensures { λ r. ⌜ r ≡ text.width n ⌝ }
+{
+    let mut w: usize = 1;
+    let mut m = n;
+    while 10 <= m {
+        m /= 10;
+        w += 1;
+    }
+    w
+}
+
+// The last w digits of n, from the right.
+fn lay_digits(n: u32, w: usize, out: &mut [u8], at: usize)
+    requires { ⌜ at + w ≤ length (now out) ⌝ }
+    ensures { λ _. ⌜ now (out .exit) ≡ sets (now (out .entry)) at (text.digits w n) ⌝ }
+{
+    let mut i = w;
+    let mut m = n;
+    while 0 < i {
+        i -= 1;
+        out[at + i] = 48 + (m % 10) as u8;
+        m /= 10;
+    }
+}
+
+// Document 01, "format! with a width": the digits are made in a small scratch row and copied.
+fn put_digits(n: u32, w: usize, out: &mut [u8], at: usize) -> usize
+    requires { ⌜ (w ≤ 10) × (at + w ≤ length (now out)) ⌝ }
+    ensures { λ r. ⌜ Laid (now (out .entry)) (now (out .exit)) at r (text.digits w n) ⌝ }
+{
+    let mut row = [0u8; 10];
+    lay_digits(n, w, &mut row, 0);
+    put_bytes(&row[..w], out, at)
+}
+
+pub fn zero_padded(n: u32, k: usize, out: &mut [u8], at: usize) -> usize
+    requires { ⌜ at + length (text.num k n) ≤ length (now out) ⌝ }
+    ensures { λ r. ⌜ Laid (now (out .entry)) (now (out .exit)) at r (text.num k n) ⌝ }
+{
+    let w = width(n);
+    if w < k {
+        let next = put_times(48, k - w, out, at);
+        return put_digits(n, w, out, next);
+    }
+    put_digits(n, w, out, at)
+}
+
+// A byte, a minus or a colon, where it is wanted, and a padded number behind it.
+pub fn put_marked(mark: u8, wanted: bool, n: u32, k: usize, out: &mut [u8], at: usize) -> usize
+    requires { ⌜ at + length (text.when wanted (mark ∷ []) [] ++ text.num k n) ≤ length (now out) ⌝ }
+    ensures { λ r. ⌜ Laid (now (out .entry)) (now (out .exit)) at r (text.when wanted (mark ∷ []) [] ++ text.num k n) ⌝ }
+{
+    if wanted {
+        let next = put_byte(mark, out, at);
+        return zero_padded(n, k, out, next);
+    }
+    zero_padded(n, k, out, at)
+}
