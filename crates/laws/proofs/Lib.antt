@@ -5,6 +5,7 @@ pub mod Readers
 pub mod Numbers
 pub mod Names
 pub mod Fields
+pub mod Places
 pub mod Texts
 pub mod Splitting
 pub mod Sizes
