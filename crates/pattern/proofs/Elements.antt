@@ -252,7 +252,7 @@ inside-fits =
     (λ s e h. rw (size-single s e) (omega arith))
 
 -- the inside takes the bytes that were scanned for it
-inside-length : (s : List ℕ) → insideLength (unescaped (take (insideSize s) s)) ≡ insideSize s
+pub inside-length : (s : List ℕ) → insideLength (unescaped (take (insideSize s) s)) ≡ insideSize s
 unfolding unescaped insideSize
 inside-length =
     by-elements (λ s. insideLength (unescaped (take (insideSize s) s)) ≡ insideSize s) refl
@@ -265,7 +265,7 @@ unfolding lengthOf
 length-when true w = refl
 length-when false w = refl
 
-length-opened : (s : List ℕ) → lengthOf (openedContent s) ≡ when (ltb (insideSize s) (length s)) 2 1 + insideSize s
+pub length-opened : (s : List ℕ) → lengthOf (openedContent s) ≡ when (ltb (insideSize s) (length s)) 2 1 + insideSize s
 unfolding openedContent
 length-opened s = length-when (ltb (insideSize s) (length s)) (unescaped (take (insideSize s) s)) ∙ rw inside-length
 

@@ -1,3 +1,5 @@
 pub mod Elements
 pub mod Scans
 pub mod Checks
+pub mod Laws
+pub mod Answers

@@ -2,11 +2,13 @@
 -- the whole pattern are these, one after the other, is the law `contents-first` of proofs/Laws.
 use mathlib.Core.Bool.{Bool, true, false}
 use mathlib.Core.List.{List, [], _∷_}
-use Prim.Native.Nat.{ℕ, suc}
+use Prim.Native.Nat.{ℕ, suc, _-_, _/_}
 use lib.Dec.{eqb, ltb}
 use lib.ListN.{length, getD, take, drop}
 use Rattle.meaning.specs.Bytes.{when, quote}
 use Rattle.meaning.specs.Splitting.{Content, run, quotes, quoted, unclosed, kindOf, lengthOf}
+use Rattle.meaning.specs.declared.Kind.{Kind}
+use Rattle.meaning.specs.declared.Kind.the-variants.{Run, Quotes, Quoted, Open}
 use Rattle.meaning.specs.declared.Part.{Part}
 
 -- how many bytes b stand first
@@ -44,7 +46,16 @@ firstContent s =
     when (eqb (getD s 0 0) quote) (when (ltb 0 (escapedCount s)) (quotes (escapedCount s)) (openedContent (drop 1 s)))
     (run (getD s 0 0) (runLength (getD s 0 0) s))
 
--- the part at a place with this content
-unfoldable pub partOf : ℕ → Content → Part
-unfolding lengthOf
+-- the part with this content at a place
+abbrev pub partOf : ℕ → Content → Part
 partOf at c = record { kind = kindOf c; start = at; length = lengthOf c }
+
+-- and back: what a part of this kind and length holds, from its bytes on
+abbrev pub held : Kind → ℕ → List ℕ → Content
+held Run n s = run (getD s 0 0) n
+held Quotes n s = quotes (n / 2)
+held Quoted n s = quoted (unescaped (take (n - 2) (drop 1 s)))
+held Open n s = unclosed (unescaped (take (n - 1) (drop 1 s)))
+
+abbrev pub contentOf : List ℕ → Part → Content
+contentOf p part = held (part .kind) (part .length) (drop (part .start) p)

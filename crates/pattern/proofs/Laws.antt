@@ -1,0 +1,63 @@
+-- Laws by which a caller walks a pattern part by part: what the part holds that next_part finds, and what is left behind it.
+use mathlib.Core.Bool.{Bool, true, false}
+use mathlib.Core.List.{List, [], _∷_}
+use mathlib.Core.Path.{_≡_, refl, sym, ap, _∙_}
+use Prim.Native.Nat.{ℕ, zero, suc, _+_, _-_, _*_, _/_, _≤_, _<_}
+use native.Mathlib.Omega.{arith}
+use lib.Dec.{eqb, ltb}
+use lib.ListN.{length, getD, take, drop, replicate, length-drop}
+use lib.Seq.{drop-drop}
+use borrow.Author.Tests.{eqb-true}
+use Rattle.laws.proofs.Tests.{by-test, when-is}
+use Rattle.meaning.specs.Bytes.{when, quote}
+use Rattle.meaning.specs.Splitting.{Content, run, quotes, quoted, unclosed, contents, insideLength, lengthOf, kindOf}
+use Rattle.meaning.specs.declared.Kind.the-variants.{Run}
+use Rattle.meaning.specs.declared.Part.{Part}
+use Rattle.pattern.specs.First.{runLength, escapedCount, insideSize, unescaped, openedContent, firstContent, partOf, held, contentOf}
+use Rattle.pattern.proofs.Elements.{inside-length, contents-first, first-sized}
+
+-- by cases on the first content
+by-opened : (P : Content → Type 0) (t : Bool) (w : List ℕ) → P (quoted w) → P (unclosed w) → P (when t quoted unclosed w)
+by-opened P true w h k = h
+by-opened P false w h k = k
+
+scanned : List ℕ → List ℕ
+scanned s = unescaped (take (insideSize s) s)
+
+by-first : (P : Content → Type 0) (s : List ℕ) → P (run (getD s 0 0) (runLength (getD s 0 0) s)) → P (quotes (escapedCount s))
+    → P (quoted (scanned (drop 1 s))) → P (unclosed (scanned (drop 1 s))) → P (firstContent s)
+unfolding firstContent scanned
+by-first P s a b c d =
+    when-is P (eqb (getD s 0 0) quote)
+    (λ e.
+    when-is P (ltb 0 (escapedCount s)) (λ f. b)
+    (λ f. by-opened P (ltb (insideSize (drop 1 s)) (length (drop 1 s))) (scanned (drop 1 s)) c d))
+    (λ e. a)
+
+-- A part's kind, place and length say what it holds.
+part-holds : (s : List ℕ) → held (kindOf (firstContent s)) (lengthOf (firstContent s)) s ≡ firstContent s
+unfolding lengthOf scanned
+part-holds s =
+    let t = drop 1 s in
+    let n = inside-length t in
+    let h : 2 * escapedCount s / 2 ≡ escapedCount s = omega arith in
+    let i : 2 + insideLength (scanned t) - 2 ≡ insideSize t = omega arith in
+    let j : 1 + insideLength (scanned t) - 1 ≡ insideSize t = omega arith in
+    by-first (λ c. held (kindOf c) (lengthOf c) s ≡ c) s refl (rw h) (rw i) (rw j)
+
+-- What next_part finds at a place: its content, with a byte at least, before the contents of what is left.
+pub record Next (p : List ℕ) (at : ℕ) (part : Part) : Type 0 where
+  pub walk : contents (drop at p) ≡ contentOf p part ∷ contents (drop (at + part .length) p)
+  pub some : 0 < part .length
+  pub fits : at + part .length ≤ length p
+
+pub next : (p : List ℕ) (at : ℕ) (part : Part) → at < length p → part ≡ partOf at (firstContent (drop at p)) → Next p at part
+next p at part h e =
+    let k : 0 < length (drop at p) = rw length-drop (omega arith) in
+    let z = first-sized (drop at p) k in
+    rw e
+    (record {
+      walk = rw (part-holds (drop at p), ← drop-drop (lengthOf (firstContent (drop at p))) at p) (contents-first (drop at p) k);
+      some = z .0;
+      fits = omega (arith, z .1, length-drop at p);
+    })

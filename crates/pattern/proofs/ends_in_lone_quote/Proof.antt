@@ -1,0 +1,73 @@
+use Rattle.pattern.proofs.ends_in_lone_quote.Statement.{statement}
+use Rattle.pattern.proofs.ends_in_lone_quote.Tie as tie
+use Rattle.pattern.proofs.ends_in_lone_quote.Reads as reads
+use Rattle.pattern.proofs.ends_in_lone_quote.Lts as lts
+use Rattle.pattern.proofs.next_part.Reads as next-part-reads
+
+abbrev Inv-loop : tie.InvT-loop
+Inv-loop pattern n at₀ at = ?
+
+abbrev μ-loop : tie.MeasureT-loop
+μ-loop pattern n at₀ at = ?
+
+-- src/lib.rt:137:9
+returns : tie.Need-returns Inv-loop μ-loop
+returns c = ?
+
+-- src/lib.rt:139:16
+sub-if2 : tie.Need-sub-if2 Inv-loop μ-loop
+sub-if2 c = ?
+
+-- src/lib.rt:139:8
+shared-slice-read-if2 : tie.Need-shared-slice-read-if2 Inv-loop μ-loop
+shared-slice-read-if2 c = ?
+
+-- src/lib.rt:140:9
+returns-2 : tie.Need-returns-2 Inv-loop μ-loop
+returns-2 c = ?
+
+-- src/lib.rt:143:5
+loop-holds : tie.Need-loop-holds Inv-loop μ-loop
+loop-holds c = ?
+
+-- src/lib.rt:143:11
+add-loop : tie.Need-add-loop Inv-loop μ-loop
+add-loop c = ?
+
+-- src/lib.rt:144:13
+next-part-requires : tie.Need-next-part-requires Inv-loop μ-loop
+next-part-requires c κs = ?
+
+-- src/lib.rt:145:9
+add-at : tie.Need-add-at Inv-loop μ-loop
+add-at c = ?
+
+-- src/lib.rt:143:5
+loop-less : tie.Need-loop-less Inv-loop μ-loop
+loop-less c = ?
+
+-- src/lib.rt:143:5
+loop-again : tie.Need-loop-again Inv-loop μ-loop
+loop-again c = ?
+
+-- src/lib.rt:132:1
+returns-3 : tie.Need-returns-3 Inv-loop μ-loop
+returns-3 c = ?
+
+pub ends-in-lone-quote-spec : {M : Type 1} → statement M
+ends-in-lone-quote-spec =
+    tie.close
+    (tie.spec
+    Inv-loop
+    μ-loop
+    returns
+    sub-if2
+    shared-slice-read-if2
+    returns-2
+    loop-holds
+    add-loop
+    next-part-requires
+    add-at
+    loop-less
+    loop-again
+    returns-3)

@@ -1,0 +1,69 @@
+use Rattle.pattern.proofs.split_parts.Statement.{statement}
+use Rattle.pattern.proofs.split_parts.Tie as tie
+use Rattle.pattern.proofs.split_parts.Reads as reads
+use Rattle.pattern.proofs.split_parts.Lts as lts
+use Rattle.pattern.proofs.next_part.Reads as next-part-reads
+use Rattle.pattern.proofs.no_part.Reads as no-part-reads
+
+abbrev Inv-loop : tie.InvT-loop
+Inv-loop pattern parts₀ used₀ at₀ parts used at = ?
+
+abbrev μ-loop : tie.MeasureT-loop
+μ-loop pattern parts₀ used₀ at₀ parts used at = ?
+
+-- src/lib.rt:182:9
+no-part-requires : tie.Need-no-part-requires Inv-loop μ-loop
+no-part-requires c κs = ?
+
+-- src/lib.rt:186:5
+loop-holds : tie.Need-loop-holds Inv-loop μ-loop
+loop-holds c = ?
+
+-- src/lib.rt:187:13
+next-part-requires : tie.Need-next-part-requires Inv-loop μ-loop
+next-part-requires c κs = ?
+
+-- src/lib.rt:188:9
+mul-parts : tie.Need-mul-parts Inv-loop μ-loop
+mul-parts c = ?
+
+-- src/lib.rt:188:9
+array-set-from-parts : tie.Need-array-set-from-parts Inv-loop μ-loop
+array-set-from-parts c = ?
+
+-- src/lib.rt:189:9
+add-used : tie.Need-add-used Inv-loop μ-loop
+add-used c = ?
+
+-- src/lib.rt:190:9
+add-at : tie.Need-add-at Inv-loop μ-loop
+add-at c = ?
+
+-- src/lib.rt:186:5
+loop-less : tie.Need-loop-less Inv-loop μ-loop
+loop-less c = ?
+
+-- src/lib.rt:186:5
+loop-again : tie.Need-loop-again Inv-loop μ-loop
+loop-again c = ?
+
+-- src/lib.rt:178:1
+returns : tie.Need-returns Inv-loop μ-loop
+returns c = ?
+
+pub split-parts-spec : {M : Type 1} → statement M
+split-parts-spec =
+    tie.close
+    (tie.spec
+    Inv-loop
+    μ-loop
+    no-part-requires
+    loop-holds
+    next-part-requires
+    mul-parts
+    array-set-from-parts
+    add-used
+    add-at
+    loop-less
+    loop-again
+    returns)
