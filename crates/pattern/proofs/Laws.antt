@@ -10,7 +10,7 @@ use lib.Seq.{drop-drop}
 use borrow.Author.Tests.{eqb-true}
 use Rattle.laws.proofs.Tests.{by-test, when-is}
 use Rattle.meaning.specs.Bytes.{when, quote}
-use Rattle.meaning.specs.Splitting.{Content, run, quotes, quoted, unclosed, contents, insideLength, lengthOf, kindOf}
+use Rattle.meaning.specs.Splitting.{Content, run, quotes, quoted, unclosed, contents, insideLength, lengthOf, kindOf, partsFrom}
 use Rattle.meaning.specs.declared.Kind.the-variants.{Run}
 use Rattle.meaning.specs.declared.Part.{Part}
 use Rattle.pattern.specs.First.{runLength, escapedCount, insideSize, unescaped, openedContent, firstContent, partOf, held, contentOf}
@@ -48,16 +48,22 @@ part-holds s =
 -- What next_part finds at a place: its content, with a byte at least, before the contents of what is left.
 pub record Next (p : List ℕ) (at : ℕ) (part : Part) : Type 0 where
   pub walk : contents (drop at p) ≡ contentOf p part ∷ contents (drop (at + part .length) p)
+  pub parts : partsFrom at (contents (drop at p)) ≡ part ∷ partsFrom (at + part .length) (contents (drop (at + part .length) p))
   pub some : 0 < part .length
   pub fits : at + part .length ≤ length p
 
 pub next : (p : List ℕ) (at : ℕ) (part : Part) → at < length p → part ≡ partOf at (firstContent (drop at p)) → Next p at part
+unfolding partsFrom
 next p at part h e =
+    let c = firstContent (drop at p) in
     let k : 0 < length (drop at p) = rw length-drop (omega arith) in
-    let z = first-sized (drop at p) k in
+    let first : contents (drop at p) ≡ c ∷ contents (drop (at + lengthOf c) p) =
+      contents-first (drop at p) k ∙ rw drop-drop in
+    let sized = first-sized (drop at p) k in
     rw e
     (record {
-      walk = rw (part-holds (drop at p), ← drop-drop (lengthOf (firstContent (drop at p))) at p) (contents-first (drop at p) k);
-      some = z .0;
-      fits = omega (arith, z .1, length-drop at p);
+      walk = rw (part-holds (drop at p)) first;
+      parts = ap (partsFrom at) first;
+      some = sized .0;
+      fits = omega (arith, sized .1, length-drop at p);
     })

@@ -3,3 +3,4 @@ pub mod Scans
 pub mod Checks
 pub mod Laws
 pub mod Answers
+pub mod Splits
