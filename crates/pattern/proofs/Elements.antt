@@ -9,7 +9,7 @@ use borrow.Author.Tests.{eq-eqb, ne-eqb, eqb-true, eqb-false, ltb-true, ltb-fals
 use Rattle.laws.proofs.Tests.{by-test, when-is}
 use Rattle.meaning.specs.Bytes.{when, both, quote}
 use Rattle.meaning.specs.Splitting.{Element, byte, escaped, single, elementOf, elements, Content, run, quotes, quoted, unclosed, joinByte, joinEscaped, joinInside, outside, inside, contents, insideLength, lengthOf, kindOf}
-use Rattle.pattern.specs.First.{runLength, escapedCount, insideSize, unescaped, openedContent, firstContent, partOf}
+use Rattle.pattern.specs.First.{runLength, escapedCount, insideSize, unescaped, insideOf, openedContent, firstContent, partOf}
 
 -- elements, one by one
 
@@ -97,7 +97,7 @@ unescaped-byte b (a ∷ s) e = rw e
 
 -- what an opening quote starts, with a byte more in front of its inside
 openedBehind : ℕ → List ℕ → Content
-openedBehind b s = when (ltb (insideSize s) (length s)) quoted unclosed (b ∷ unescaped (take (insideSize s) s))
+openedBehind b s = when (ltb (insideSize s) (length s)) quoted unclosed (b ∷ insideOf s)
 
 opened-byte : (b : ℕ) (s : List ℕ) → eqb b quote ≡ false → openedContent (b ∷ s) ≡ openedBehind b s
 unfolding openedContent openedBehind
@@ -119,7 +119,7 @@ joins-inside false b w cs = refl
 
 opened-joins : (b : ℕ) (s : List ℕ) (cs : List Content) → joinInside b (openedContent s ∷ cs) ≡ openedBehind b s ∷ cs
 unfolding openedContent openedBehind
-opened-joins b s cs = joins-inside (ltb (insideSize s) (length s)) b (unescaped (take (insideSize s) s)) cs
+opened-joins b s cs = joins-inside (ltb (insideSize s) (length s)) b (insideOf s) cs
 
 opened-none : inside (elements []) ≡ openedContent [] ∷ contents (drop (suc (insideSize [])) [])
 unfolding inside elements openedContent contents
@@ -252,10 +252,10 @@ inside-fits =
     (λ s e h. rw (size-single s e) (omega arith))
 
 -- the inside takes the bytes that were scanned for it
-pub inside-length : (s : List ℕ) → insideLength (unescaped (take (insideSize s) s)) ≡ insideSize s
-unfolding unescaped insideSize
+pub inside-length : (s : List ℕ) → insideLength (insideOf s) ≡ insideSize s
+unfolding insideOf
 inside-length =
-    by-elements (λ s. insideLength (unescaped (take (insideSize s) s)) ≡ insideSize s) refl
+    by-elements (λ s. insideLength (insideOf s) ≡ insideSize s) refl
     (λ b s e h. rw (size-byte b s e, unescaped-byte b (take (insideSize s) s) e, e) (omega arith))
     (λ s h. rw (size-escaped s) (omega arith))
     (λ s e h. rw (size-single s e))
@@ -267,7 +267,7 @@ length-when false w = refl
 
 pub length-opened : (s : List ℕ) → lengthOf (openedContent s) ≡ when (ltb (insideSize s) (length s)) 2 1 + insideSize s
 unfolding openedContent
-length-opened s = length-when (ltb (insideSize s) (length s)) (unescaped (take (insideSize s) s)) ∙ rw inside-length
+length-opened s = length-when (ltb (insideSize s) (length s)) (insideOf s) ∙ rw inside-length
 
 -- the first content, by the first element
 

@@ -7,43 +7,39 @@ use native.Mathlib.Omega.{arith}
 use lib.Dec.{eqb, ltb}
 use lib.ListN.{length, getD, take, drop, replicate, length-drop}
 use lib.Seq.{drop-drop}
-use borrow.Author.Tests.{eqb-true}
+use borrow.Author.Tests.{ltb-false}
 use Rattle.laws.proofs.Tests.{by-test, when-is}
 use Rattle.meaning.specs.Bytes.{when, quote}
 use Rattle.meaning.specs.Splitting.{Content, run, quotes, quoted, unclosed, contents, insideLength, lengthOf, kindOf, partsFrom}
 use Rattle.meaning.specs.declared.Kind.the-variants.{Run}
 use Rattle.meaning.specs.declared.Part.{Part}
-use Rattle.pattern.specs.First.{runLength, escapedCount, insideSize, unescaped, openedContent, firstContent, partOf, held, contentOf}
+use Rattle.pattern.specs.First.{runLength, escapedCount, insideSize, insideOf, openedContent, firstContent, partOf, held, contentOf}
 use Rattle.pattern.proofs.Elements.{inside-length, contents-first, first-sized}
 
 -- by cases on the first content
-by-opened : (P : Content → Type 0) (t : Bool) (w : List ℕ) → P (quoted w) → P (unclosed w) → P (when t quoted unclosed w)
-by-opened P true w h k = h
-by-opened P false w h k = k
-
-scanned : List ℕ → List ℕ
-scanned s = unescaped (take (insideSize s) s)
-
-by-first : (P : Content → Type 0) (s : List ℕ) → P (run (getD s 0 0) (runLength (getD s 0 0) s)) → P (quotes (escapedCount s))
-    → P (quoted (scanned (drop 1 s))) → P (unclosed (scanned (drop 1 s))) → P (firstContent s)
-unfolding firstContent scanned
+pub by-first : (P : Content → Type 0) (s : List ℕ) → P (run (getD s 0 0) (runLength (getD s 0 0) s)) → P (quotes (escapedCount s))
+    → P (quoted (insideOf (drop 1 s))) → (length (drop 1 s) ≤ insideSize (drop 1 s) → P (unclosed (insideOf (drop 1 s)))) → P (firstContent s)
+unfolding firstContent
 by-first P s a b c d =
+    let t = drop 1 s in
     when-is P (eqb (getD s 0 0) quote)
     (λ e.
     when-is P (ltb 0 (escapedCount s)) (λ f. b)
-    (λ f. by-opened P (ltb (insideSize (drop 1 s)) (length (drop 1 s))) (scanned (drop 1 s)) c d))
+    (λ f.
+    when-is (λ (kind : List ℕ → Content). P (kind (insideOf t))) (ltb (insideSize t) (length t)) (λ g. c)
+    (λ g. d (ltb-false (insideSize t) (length t) g))))
     (λ e. a)
 
 -- A part's kind, place and length say what it holds.
 part-holds : (s : List ℕ) → held (kindOf (firstContent s)) (lengthOf (firstContent s)) s ≡ firstContent s
-unfolding lengthOf scanned
+unfolding lengthOf insideOf
 part-holds s =
     let t = drop 1 s in
     let n = inside-length t in
     let h : 2 * escapedCount s / 2 ≡ escapedCount s = omega arith in
-    let i : 2 + insideLength (scanned t) - 2 ≡ insideSize t = omega arith in
-    let j : 1 + insideLength (scanned t) - 1 ≡ insideSize t = omega arith in
-    by-first (λ c. held (kindOf c) (lengthOf c) s ≡ c) s refl (rw h) (rw i) (rw j)
+    let i : 2 + insideLength (insideOf t) - 2 ≡ insideSize t = omega arith in
+    let j : 1 + insideLength (insideOf t) - 1 ≡ insideSize t = omega arith in
+    by-first (λ c. held (kindOf c) (lengthOf c) s ≡ c) s refl (rw h) (rw i) (λ k. rw j)
 
 -- What next_part finds at a place: its content, with a byte at least, before the contents of what is left.
 pub record Next (p : List ℕ) (at : ℕ) (part : Part) : Type 0 where

@@ -6,10 +6,12 @@ use native.Mathlib.Numerals.{add-one}
 use native.Mathlib.Omega.{arith}
 use lib.ListN.{length, take, drop, set, replicate, length-set, drop-of-length-le, take-append-drop}
 use lib.Seq.{drop-drop, drop-set-lt, take-suc-set, append-snoc, length-take-le}
+use Rattle.meaning.specs.Answers.{bytesCheck}
 use Rattle.meaning.specs.Splitting.{contents, partsFrom, parts, noPart}
-use Rattle.meaning.specs.Whole.{splitInto}
-use Rattle.meaning.specs.declared.Checked.the-variants.{Fine}
+use Rattle.meaning.specs.Whole.{splitInto, split}
+use Rattle.meaning.specs.declared.Checked.the-variants.{Fine, Refused}
 use Rattle.meaning.specs.declared.Part.{Part}
+use Rattle.meaning.specs.declared.Refusal.{Refusal}
 use Rattle.meaning.specs.declared.Split.{Split}
 use Rattle.pattern.proofs.Laws.{Next}
 
@@ -50,3 +52,13 @@ filled-split {p} {entries} {used} {at} h k f =
     let b : length (parts p) ≡ used = ap length a ∙ length-take-le used entries (omega arith) in
     rw (b, a)
     (ap (λ (l : List Part). record { checked = Fine; parts = l; used = used }) (sym (take-append-drop used entries) ∙ rw (f .rest)))
+
+-- a pattern that the checks refuse has no part
+pub split-refused : (p : List ℕ) (why : Refusal) (empty : Part) → empty ≡ noPart → bytesCheck p ≡ Refused why
+    → _≡_ {A = Split} (record { checked = Refused why; parts = replicate 256 empty; used = 0 }) (split p)
+unfolding split
+split-refused p why empty e h = rw (e, h)
+
+pub split-fine : (p : List ℕ) → bytesCheck p ≡ Fine → splitInto Fine (parts p) ≡ split p
+unfolding split
+split-fine p h = rw h

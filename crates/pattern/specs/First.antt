@@ -34,10 +34,14 @@ unescaped [] = []
 unescaped (a ∷ []) = a ∷ []
 unescaped (a ∷ b ∷ s) = when (eqb a quote) (a ∷ unescaped s) (a ∷ unescaped (b ∷ s))
 
+unfoldable pub insideOf : List ℕ → List ℕ
+unfolding insideSize unescaped
+insideOf s = unescaped (take (insideSize s) s)
+
 -- what a part holds that an opening quote before this rest starts
 unfoldable pub openedContent : List ℕ → Content
-unfolding insideSize unescaped
-openedContent s = when (ltb (insideSize s) (length s)) quoted unclosed (unescaped (take (insideSize s) s))
+unfolding insideOf
+openedContent s = when (ltb (insideSize s) (length s)) quoted unclosed (insideOf s)
 
 -- what the first part of this rest holds
 unfoldable pub firstContent : List ℕ → Content
