@@ -4,3 +4,4 @@ pub mod Checks
 pub mod Laws
 pub mod Answers
 pub mod Splits
+pub mod LoneQuote

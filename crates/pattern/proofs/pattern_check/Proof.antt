@@ -1,4 +1,8 @@
+use mathlib.Core.Path.{sym, _∙_}
+use native.Mathlib.Omega.{arith}
 use borrow.Author.Needs.{needs}
+use denote.Ref.{now}
+use Rattle.pattern.proofs.LoneQuote.{lone-some, check-refused, check-lone, check-fine}
 use Rattle.pattern.proofs.pattern_check.Statement.{statement}
 use Rattle.pattern.proofs.pattern_check.Tie as tie
 use Rattle.pattern.proofs.pattern_check.Reads as reads
@@ -24,19 +28,19 @@ ends-in-lone-quote-requires c κs = search needs
 
 -- src/lib.rt:159:60
 sub-t7 : tie.Need-sub-t7
-sub-t7 c = ?
+sub-t7 c = lone-some (now (c .before .before .before .before .before .before .args .pattern)) (sym (c .before .ends-in-lone-quote .ensures) ∙ c .if1 .taken)
 
 -- src/lib.rt:159:17
 returns : tie.Need-returns
-returns c = ?
+returns c = sym (check-lone (now (c .before .before .before .before .before .before .args .pattern)) (sym (c .before .before .before .before .bytes-check .ensures) ∙ c .before .before .enum-told .given .1) (sym (c .before .ends-in-lone-quote .ensures) ∙ c .if1 .taken))
 
 -- src/lib.rt:151:1
 returns-2 : tie.Need-returns-2
-returns-2 c = ?
+returns-2 c = sym (check-refused (now (c .before .before .before .before .before .args .pattern)) _ (sym (c .before .before .before .bytes-check .ensures) ∙ c .before .checked .given .1))
 
 -- src/lib.rt:151:1
 returns-3 : tie.Need-returns-3
-returns-3 c = ?
+returns-3 c = sym (check-fine (now (c .before .before .before .before .before .before .args .pattern)) (sym (c .before .before .before .before .bytes-check .ensures) ∙ c .before .before .enum-told .given .1) (sym (c .before .ends-in-lone-quote .ensures) ∙ c .if1 .left))
 
 pub pattern-check-spec : {M : Type 1} → statement M
 pattern-check-spec =
