@@ -90,7 +90,7 @@ unfolding insideSize
 size-single [] e = refl
 size-single (b ∷ s) e = rw e
 
-unescaped-byte : (b : ℕ) (s : List ℕ) → eqb b quote ≡ false → unescaped (b ∷ s) ≡ b ∷ unescaped s
+pub unescaped-byte : (b : ℕ) (s : List ℕ) → eqb b quote ≡ false → unescaped (b ∷ s) ≡ b ∷ unescaped s
 unfolding unescaped
 unescaped-byte b [] e = refl
 unescaped-byte b (a ∷ s) e = rw e

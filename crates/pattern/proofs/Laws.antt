@@ -7,14 +7,16 @@ use native.Mathlib.Omega.{arith}
 use lib.Dec.{eqb, ltb}
 use lib.ListN.{length, getD, take, drop, replicate, length-drop}
 use lib.Seq.{drop-drop}
-use borrow.Author.Tests.{ltb-false}
+use borrow.Author.Tests.{eqb-true, ltb-false}
 use Rattle.laws.proofs.Tests.{by-test, when-is}
 use Rattle.meaning.specs.Bytes.{when, quote}
 use Rattle.meaning.specs.Splitting.{Content, run, quotes, quoted, unclosed, contents, insideLength, lengthOf, kindOf, partsFrom}
-use Rattle.meaning.specs.declared.Kind.the-variants.{Run}
+use Rattle.meaning.specs.declared.Kind.the-variants.{Run, Quoted, Open}
 use Rattle.meaning.specs.declared.Part.{Part}
 use Rattle.pattern.specs.First.{runLength, escapedCount, insideSize, insideOf, openedContent, firstContent, partOf, held, contentOf}
 use Rattle.pattern.proofs.Elements.{inside-length, contents-first, first-sized}
+use Rattle.pattern.proofs.Inside.{Lost, lost}
+use Rattle.pattern.proofs.Scans.{head-at}
 
 -- by cases on the first content
 pub by-first : (P : Content → Type 0) (s : List ℕ) → P (run (getD s 0 0) (runLength (getD s 0 0) s)) → P (quotes (escapedCount s))
@@ -41,12 +43,51 @@ part-holds s =
     let j : 1 + insideLength (insideOf t) - 1 ≡ insideSize t = omega arith in
     by-first (λ c. held (kindOf c) (lengthOf c) s ≡ c) s refl (rw h) (rw i) (λ k. rw j)
 
--- What next_part finds at a place: its content, with a byte at least, before the contents of what is left.
+take-run : (b : ℕ) (s : List ℕ) → take (runLength b s) s ≡ replicate (runLength b s) b
+unfolding runLength
+take-run b [] = refl
+take-run b (a ∷ s) =
+    by-test (eqb b a) (λ e. rw (e, eqb-true b a e) (ap (λ (l : List ℕ). a ∷ l) (take-run a s))) (λ e. rw e)
+
+impossible : {A : Type 0} → _≡_ {A = ℕ} 0 1 → A
+impossible e = absurd (omega arith)
+
+run-bytes : (s : List ℕ) → kindOf (firstContent s) ≡ Run
+    → take (lengthOf (firstContent s)) s ≡ replicate (lengthOf (firstContent s)) (getD s 0 0)
+unfolding lengthOf
+run-bytes s =
+    by-first (λ c. kindOf c ≡ Run → take (lengthOf c) s ≡ replicate (lengthOf c) (getD s 0 0)) s
+    (λ k. take-run (getD s 0 0) s) (λ k. impossible (cc)) (λ k. impossible (cc)) (λ h k. impossible (cc))
+
+quoted-long : (c : Content) → kindOf c ≡ Quoted → 2 ≤ lengthOf c
+unfolding lengthOf
+quoted-long (run b n) k = impossible (cc)
+quoted-long (quotes n) k = impossible (cc)
+quoted-long (quoted w) k = omega arith
+quoted-long (unclosed w) k = impossible (cc)
+
+open-whole : (s : List ℕ) → kindOf (firstContent s) ≡ Open
+    → (length (drop 1 s) < lengthOf (firstContent s)) × (length (drop 1 s) ≤ insideSize (drop 1 s))
+unfolding lengthOf
+open-whole s =
+    by-first (λ c. kindOf c ≡ Open → (length (drop 1 s) < lengthOf c) × (length (drop 1 s) ≤ insideSize (drop 1 s))) s
+    (λ k. impossible (cc)) (λ k. impossible (cc)) (λ k. impossible (cc))
+    (λ h k. (omega (arith, inside-length (drop 1 s)), h))
+
+-- What next_part finds at a place: a part with what it holds, before the contents and the parts of what is left.
 pub record Next (p : List ℕ) (at : ℕ) (part : Part) : Type 0 where
+  pub itself : part ≡ partOf at (contentOf p part)
   pub walk : contents (drop at p) ≡ contentOf p part ∷ contents (drop (at + part .length) p)
   pub parts : partsFrom at (contents (drop at p)) ≡ part ∷ partsFrom (at + part .length) (contents (drop (at + part .length) p))
   pub some : 0 < part .length
   pub fits : at + part .length ≤ length p
+  -- a run's bytes are equal
+  pub equal : part .kind ≡ Run → take (part .length) (drop at p) ≡ replicate (part .length) (getD p at 0)
+  -- a quoted part has its two quotes
+  pub two : part .kind ≡ Quoted → 2 ≤ part .length
+  -- an open part ends with the pattern
+  pub end : part .kind ≡ Open → at + part .length ≡ length p
+  pub lost : part .kind ≡ Open → Lost (drop (at + 1) p)
 
 pub next : (p : List ℕ) (at : ℕ) (part : Part) → at < length p → part ≡ partOf at (firstContent (drop at p)) → Next p at part
 unfolding partsFrom
@@ -58,8 +99,14 @@ next p at part h e =
     let sized = first-sized (drop at p) k in
     rw e
     (record {
+      itself = rw (part-holds (drop at p));
       walk = rw (part-holds (drop at p)) first;
       parts = ap (partsFrom at) first;
       some = sized .0;
       fits = omega (arith, sized .1, length-drop at p);
+      equal = λ r. run-bytes (drop at p) r ∙ rw head-at;
+      two = quoted-long c;
+      end =
+        λ k. omega (arith, sized .1, open-whole (drop at p) k .0, length-drop 1 (drop at p), length-drop at p);
+      lost = λ k. rw (← drop-drop 1 at p) (lost (drop 1 (drop at p)) (open-whole (drop at p) k .1));
     })

@@ -5,3 +5,4 @@ pub mod Laws
 pub mod Answers
 pub mod Splits
 pub mod LoneQuote
+pub mod Inside

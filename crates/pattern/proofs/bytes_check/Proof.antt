@@ -1,3 +1,4 @@
+-- `bytes_check` meets its contract: at each turn the check of the whole pattern is that of the bytes from here.
 use mathlib.Core.Path.{_≡_, sym, _∙_}
 use Prim.Native.Nat.{_-_, _≤_}
 use native.Mathlib.Omega.{arith}
@@ -9,8 +10,6 @@ use Rattle.meaning.specs.declared.Refusal.the-variants.{PatternByte}
 use Rattle.pattern.proofs.Checks.{within-yes, within-below, within-above, bytes-more, bytes-stop, bytes-done, long-pattern, short-pattern}
 use Rattle.pattern.proofs.bytes_check.Statement.{statement}
 use Rattle.pattern.proofs.bytes_check.Tie as tie
-use Rattle.pattern.proofs.bytes_check.Reads as reads
-use Rattle.pattern.proofs.bytes_check.Lts as lts
 
 abbrev Inv-loop : tie.InvT-loop
 Inv-loop pattern n i₀ i = (i ≤ length pattern) × (bytesCheck pattern ≡ byteCheck PatternByte 1 127 i (drop i pattern))
@@ -18,19 +17,15 @@ Inv-loop pattern n i₀ i = (i ≤ length pattern) × (bytesCheck pattern ≡ by
 abbrev μ-loop : tie.MeasureT-loop
 μ-loop pattern n i₀ i = length pattern - i
 
--- src/lib.rt:116:9
 returns : tie.Need-returns Inv-loop μ-loop
 returns c = sym (long-pattern (now (c .before .args .pattern)) (c .if1 .taken))
 
--- src/lib.rt:119:5
 loop-holds : tie.Need-loop-holds Inv-loop μ-loop
 loop-holds c = (omega arith, short-pattern (now (c .before .args .pattern)) (c .if1 .left))
 
--- src/lib.rt:120:17
 shared-slice-read-b : tie.Need-shared-slice-read-b Inv-loop μ-loop
 shared-slice-read-b c = search needs
 
--- src/lib.rt:122:13
 returns-2 : tie.Need-returns-2 Inv-loop μ-loop
 returns-2 c =
     let l = c .before .before .before in
@@ -38,7 +33,6 @@ returns-2 c =
     let i = l .loop .i in
     sym (l .loop .inv .1 ∙ bytes-stop PatternByte 1 127 p i (omega arith) (within-below 1 127 (getD p i 0) (omega arith)))
 
--- src/lib.rt:125:13
 returns-3 : tie.Need-returns-3 Inv-loop μ-loop
 returns-3 c =
     let l = c .before .before .before .before in
@@ -46,15 +40,12 @@ returns-3 c =
     let i = l .loop .i in
     sym (l .loop .inv .1 ∙ bytes-stop PatternByte 1 127 p i (omega arith) (within-above 1 127 (getD p i 0) (omega arith) (omega arith)))
 
--- src/lib.rt:127:9
 add-i : tie.Need-add-i Inv-loop μ-loop
 add-i c = search needs
 
--- src/lib.rt:119:5
 loop-less : tie.Need-loop-less Inv-loop μ-loop
 loop-less c = search needs
 
--- src/lib.rt:119:5
 loop-again : tie.Need-loop-again Inv-loop μ-loop
 loop-again c =
     let l = c .before .before .before .before in
@@ -62,7 +53,6 @@ loop-again c =
     let i = l .loop .i in
     (omega arith, l .loop .inv .1 ∙ bytes-more PatternByte 1 127 p i (omega arith) (within-yes 1 127 (getD p i 0) (omega arith) (omega arith)))
 
--- src/lib.rt:111:1
 returns-4 : tie.Need-returns-4 Inv-loop μ-loop
 returns-4 c =
     let l = c .before in

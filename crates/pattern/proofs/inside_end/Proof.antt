@@ -1,3 +1,4 @@
+-- `inside_end` meets its contract: at each turn the inside from the start ends where that from here does.
 use mathlib.Core.Path.{_≡_}
 use Prim.Native.Nat.{_+_, _*_, _-_, _≤_}
 use native.Mathlib.Omega.{arith}
@@ -8,8 +9,6 @@ use Rattle.pattern.specs.First.{insideSize}
 use Rattle.pattern.proofs.Scans.{inside-byte, inside-close, inside-more, inside-done, past-end}
 use Rattle.pattern.proofs.inside_end.Statement.{statement}
 use Rattle.pattern.proofs.inside_end.Tie as tie
-use Rattle.pattern.proofs.inside_end.Reads as reads
-use Rattle.pattern.proofs.inside_end.Lts as lts
 
 abbrev Inv-loop : tie.InvT-loop
 Inv-loop pattern at i₀ i = (i ≤ length pattern) × (at + insideSize (drop at pattern) ≡ i + insideSize (drop i pattern))
@@ -17,19 +16,15 @@ Inv-loop pattern at i₀ i = (i ≤ length pattern) × (at + insideSize (drop at
 abbrev μ-loop : tie.MeasureT-loop
 μ-loop pattern at i₀ i = length pattern - i
 
--- src/lib.rt:57:5
 loop-holds : tie.Need-loop-holds Inv-loop μ-loop
 loop-holds c = search needs
 
--- src/lib.rt:58:12
 shared-slice-read-if1 : tie.Need-shared-slice-read-if1 Inv-loop μ-loop
 shared-slice-read-if1 c = search needs
 
--- src/lib.rt:59:16
 add-if2 : tie.Need-add-if2 Inv-loop μ-loop
 add-if2 c = search needs
 
--- src/lib.rt:60:17
 returns : tie.Need-returns Inv-loop μ-loop
 returns c =
     let l = c .before .before .before .before in
@@ -37,49 +32,39 @@ returns c =
     let i = l .loop .i in
     omega (arith, inside-close p i (omega arith) (c .before .if1 .taken) (past-end p (i + 1) (omega arith)))
 
--- src/lib.rt:62:24
 add-if3 : tie.Need-add-if3 Inv-loop μ-loop
 add-if3 c = search needs
 
--- src/lib.rt:62:16
 shared-slice-read-if3 : tie.Need-shared-slice-read-if3 Inv-loop μ-loop
 shared-slice-read-if3 c = search needs
 
--- src/lib.rt:63:17
 returns-2 : tie.Need-returns-2 Inv-loop μ-loop
 returns-2 c =
     let l = c .before .before .before .before .before .before in
     omega (arith, inside-close (now (l .before .args .pattern)) (l .loop .i) (omega arith) (c .before .before .before .if1 .taken) (c .if3 .taken))
 
--- src/lib.rt:65:13
 add-i : tie.Need-add-i Inv-loop μ-loop
 add-i c = search needs
 
--- src/lib.rt:57:5
 loop-less : tie.Need-loop-less Inv-loop μ-loop
 loop-less c = search needs
 
--- src/lib.rt:57:5
 loop-again : tie.Need-loop-again Inv-loop μ-loop
 loop-again c =
     let l = c .before .before .before .before .before .before in
     omega (arith, inside-more (now (l .before .args .pattern)) (l .loop .i) (omega arith) (c .before .before .before .if1 .taken) (c .if3 .left))
 
--- src/lib.rt:67:13
 add-i-2 : tie.Need-add-i-2 Inv-loop μ-loop
 add-i-2 c = search needs
 
--- src/lib.rt:57:5
 loop-less-2 : tie.Need-loop-less-2 Inv-loop μ-loop
 loop-less-2 c = search needs
 
--- src/lib.rt:57:5
 loop-again-2 : tie.Need-loop-again-2 Inv-loop μ-loop
 loop-again-2 c =
     let l = c .before .before .before in
     omega (arith, inside-byte (now (l .before .args .pattern)) (l .loop .i) (omega arith) (c .if1 .left))
 
--- src/lib.rt:52:1
 returns-3 : tie.Need-returns-3 Inv-loop μ-loop
 returns-3 c =
     let l = c .before in

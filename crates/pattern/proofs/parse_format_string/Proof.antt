@@ -1,3 +1,4 @@
+-- `parse_format_string` meets its contract: the parts of a pattern that passes, and none of one that is refused.
 use mathlib.Core.Path.{sym, _∙_}
 use borrow.Author.Needs.{needs}
 use denote.Ref.{now}
@@ -5,37 +6,25 @@ use Rattle.pattern.proofs.Checks.{fine-short}
 use Rattle.pattern.proofs.Splits.{split-fine, split-refused}
 use Rattle.pattern.proofs.parse_format_string.Statement.{statement}
 use Rattle.pattern.proofs.parse_format_string.Tie as tie
-use Rattle.pattern.proofs.parse_format_string.Reads as reads
-use Rattle.pattern.proofs.parse_format_string.Lts as lts
-use Rattle.pattern.proofs.bytes_check.Reads as bytes-check-reads
-use Rattle.pattern.proofs.no_part.Reads as no-part-reads
-use Rattle.pattern.proofs.split_parts.Reads as split-parts-reads
 
--- src/lib.rt:203:9
 bytes-check-requires : tie.Need-bytes-check-requires
 bytes-check-requires c κs = search needs
 
--- src/lib.rt:205:26
 enum-told : tie.Need-enum-told
 enum-told c = search needs
 
--- src/lib.rt:205:26
 split-parts-requires : tie.Need-split-parts-requires
 split-parts-requires c κs = fine-short (now (c .before .before .before .before .args .pattern)) (sym (c .before .before .bytes-check .ensures) ∙ c .enum-told .given .1)
 
--- src/lib.rt:206:26
 enum-known-checked : tie.Need-enum-known-checked
 enum-known-checked c = search needs
 
--- src/lib.rt:207:17
 no-part-requires : tie.Need-no-part-requires
 no-part-requires c κs = search needs
 
--- src/lib.rt:200:1
 returns : tie.Need-returns
 returns c = c .split-parts .ensures ∙ split-fine (now (c .before .before .before .before .before .args .pattern)) (sym (c .before .before .before .bytes-check .ensures) ∙ c .before .enum-told .given .1)
 
--- src/lib.rt:200:1
 returns-2 : tie.Need-returns-2
 returns-2 c = split-refused (now (c .before .before .before .before .before .before .args .pattern)) _ (c .no-part .result) (c .no-part .ensures) (sym (c .before .before .before .before .bytes-check .ensures) ∙ c .before .before .checked .given .1)
 

@@ -1,3 +1,4 @@
+-- `run_end` meets its contract: at each turn the run from the start ends where the run from here does.
 use mathlib.Core.Path.{_≡_}
 use Prim.Native.Nat.{_+_, _*_, _-_, _≤_}
 use native.Mathlib.Omega.{arith}
@@ -8,8 +9,6 @@ use Rattle.pattern.specs.First.{runLength}
 use Rattle.pattern.proofs.Scans.{run-more, run-stop, run-done}
 use Rattle.pattern.proofs.run_end.Statement.{statement}
 use Rattle.pattern.proofs.run_end.Tie as tie
-use Rattle.pattern.proofs.run_end.Reads as reads
-use Rattle.pattern.proofs.run_end.Lts as lts
 
 abbrev Inv-loop : tie.InvT-loop
 Inv-loop pattern at b i₀ i = (i ≤ length pattern) × (at + runLength b (drop at pattern) ≡ i + runLength b (drop i pattern))
@@ -17,35 +16,28 @@ Inv-loop pattern at b i₀ i = (i ≤ length pattern) × (at + runLength b (drop
 abbrev μ-loop : tie.MeasureT-loop
 μ-loop pattern at b i₀ i = length pattern - i
 
--- src/lib.rt:24:5
 loop-holds : tie.Need-loop-holds Inv-loop μ-loop
 loop-holds c = search needs
 
--- src/lib.rt:25:12
 shared-slice-read-if1 : tie.Need-shared-slice-read-if1 Inv-loop μ-loop
 shared-slice-read-if1 c = search needs
 
--- src/lib.rt:26:13
 returns : tie.Need-returns Inv-loop μ-loop
 returns c =
     let l = c .before .before .before in
     omega (arith, run-stop (now (l .before .args .pattern)) (l .loop .i) (omega arith) (l .before .args .b) (c .if1 .taken))
 
--- src/lib.rt:28:9
 add-i : tie.Need-add-i Inv-loop μ-loop
 add-i c = search needs
 
--- src/lib.rt:24:5
 loop-less : tie.Need-loop-less Inv-loop μ-loop
 loop-less c = search needs
 
--- src/lib.rt:24:5
 loop-again : tie.Need-loop-again Inv-loop μ-loop
 loop-again c =
     let l = c .before .before .before in
     omega (arith, run-more (now (l .before .args .pattern)) (l .loop .i) (omega arith) (l .before .args .b) (c .if1 .left))
 
--- src/lib.rt:19:1
 returns-2 : tie.Need-returns-2 Inv-loop μ-loop
 returns-2 c =
     let l = c .before in

@@ -1,3 +1,4 @@
+-- `split_parts` meets its contract: at each turn the first entries are the parts before this place.
 use Prim.Native.Nat.{_-_}
 use native.Mathlib.Omega.{arith}
 use lib.ListN.{length}
@@ -7,10 +8,6 @@ use Rattle.pattern.proofs.Laws.{next}
 use Rattle.pattern.proofs.Splits.{Filled, filled-start, filled-turn, filled-split}
 use Rattle.pattern.proofs.split_parts.Statement.{statement}
 use Rattle.pattern.proofs.split_parts.Tie as tie
-use Rattle.pattern.proofs.split_parts.Reads as reads
-use Rattle.pattern.proofs.split_parts.Lts as lts
-use Rattle.pattern.proofs.next_part.Reads as next-part-reads
-use Rattle.pattern.proofs.no_part.Reads as no-part-reads
 
 abbrev Inv-loop : tie.InvT-loop
 Inv-loop pattern parts₀ used₀ at₀ parts used at = Filled pattern parts used at
@@ -18,52 +15,42 @@ Inv-loop pattern parts₀ used₀ at₀ parts used at = Filled pattern parts use
 abbrev μ-loop : tie.MeasureT-loop
 μ-loop pattern parts₀ used₀ at₀ parts used at = length pattern - at
 
--- src/lib.rt:182:9
 no-part-requires : tie.Need-no-part-requires Inv-loop μ-loop
 no-part-requires c κs = search needs
 
--- src/lib.rt:186:5
 loop-holds : tie.Need-loop-holds Inv-loop μ-loop
 loop-holds c = filled-start (now (c .before .before .args .pattern)) (c .no-part .result) (c .no-part .ensures)
 
--- src/lib.rt:187:13
 next-part-requires : tie.Need-next-part-requires Inv-loop μ-loop
 next-part-requires c κs = search needs
 
--- src/lib.rt:188:9
 mul-parts : tie.Need-mul-parts Inv-loop μ-loop
 mul-parts c = search needs
 
--- src/lib.rt:188:9
 array-set-from-parts : tie.Need-array-set-from-parts Inv-loop μ-loop
 array-set-from-parts c = search needs
 
--- src/lib.rt:189:9
 add-used : tie.Need-add-used Inv-loop μ-loop
 add-used c = search needs
 
--- src/lib.rt:190:9
 add-at : tie.Need-add-at Inv-loop μ-loop
 add-at c =
     let l = c .before .before .before in
     let n = next (now (l .before .before .before .args .pattern)) (l .loop .at) (c .before .next-part .result) (omega arith) (c .before .next-part .ensures) in
     omega arith
 
--- src/lib.rt:186:5
 loop-less : tie.Need-loop-less Inv-loop μ-loop
 loop-less c =
     let l = c .before .before .before in
     let n = next (now (l .before .before .before .args .pattern)) (l .loop .at) (c .before .next-part .result) (omega arith) (c .before .next-part .ensures) in
     omega arith
 
--- src/lib.rt:186:5
 loop-again : tie.Need-loop-again Inv-loop μ-loop
 loop-again c =
     let l = c .before .before .before in
     let n = next (now (l .before .before .before .args .pattern)) (l .loop .at) (c .before .next-part .result) (omega arith) (c .before .next-part .ensures) in
     filled-turn (omega arith) (omega arith) (l .loop .inv) n
 
--- src/lib.rt:178:1
 returns : tie.Need-returns Inv-loop μ-loop
 returns c = filled-split (omega arith) (c .loop-test .left) (c .before .loop .inv)
 
