@@ -1,7 +1,7 @@
 -- The four answers of next_part: a run, escaped quotes, a quoted part, one that no quote closes.
-use mathlib.Core.List.{List, [], _∷_}
-use mathlib.Core.Path.{_≡_, refl, sym, ap, _∙_}
-use Prim.Native.Nat.{ℕ, suc, _+_, _*_, _≤_, _<_}
+use mathlib.Core.List.{List}
+use mathlib.Core.Path.{_≡_}
+use Prim.Native.Nat.{ℕ, _+_, _*_, _≤_, _<_}
 use lib.ListN.{length, getD, drop}
 use lib.Seq.{drop-drop}
 use borrow.Author.Tests.{eq-eqb, ne-eqb, lt-ltb, le-ltb}
@@ -9,7 +9,7 @@ use Rattle.meaning.specs.Bytes.{quote}
 use Rattle.meaning.specs.Splitting.{lengthOf}
 use Rattle.meaning.specs.declared.Kind.the-variants.{Run, Quotes, Quoted, Open}
 use Rattle.pattern.specs.First.{runLength, escapedCount, insideSize, openedContent, firstContent, partOf}
-use Rattle.pattern.proofs.Elements.{inside-length}
+use Rattle.pattern.proofs.First.{inside-length}
 use Rattle.pattern.proofs.Scans.{head-at}
 
 module _ (p : List ℕ) (at : ℕ) where

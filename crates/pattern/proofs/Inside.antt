@@ -1,10 +1,10 @@
 -- Laws of the inside of a quoted part, for a loop over its bytes, and of what an unclosed part loses.
-use mathlib.Core.Bool.{Bool, true, false}
+use mathlib.Core.Bool.{false}
 use mathlib.Core.List.{List, [], _∷_}
 use mathlib.Core.Path.{_≡_, refl, sym, ap, _∙_}
-use Prim.Native.Nat.{ℕ, zero, suc, _+_, _-_, _≤_, _<_}
+use Prim.Native.Nat.{ℕ, suc, _+_, _-_, _≤_, _<_}
 use native.Mathlib.Omega.{arith}
-use lib.Dec.{eqb, ltb}
+use lib.Dec.{eqb}
 use lib.ListN.{length, getD, take, drop}
 use lib.Seq.{drop-drop}
 use borrow.Author.Tests.{eqb-false}
@@ -12,7 +12,8 @@ use Rattle.laws.proofs.Tests.{by-test}
 use Rattle.meaning.specs.Bytes.{when, quote}
 use Rattle.meaning.specs.Writing.{endsInQuote}
 use Rattle.pattern.specs.First.{insideSize, unescaped}
-use Rattle.pattern.proofs.Elements.{by-elements, unescaped-byte, size-byte, size-escaped, size-single}
+use Rattle.pattern.proofs.Elements.{by-elements}
+use Rattle.pattern.proofs.First.{unescaped-byte, size-byte, size-escaped, size-single}
 use Rattle.pattern.proofs.Scans.{from-here}
 
 unescaped-first : (a : ℕ) (s : List ℕ) → unescaped (a ∷ s) ≡ a ∷ unescaped (drop (when (eqb a quote) 1 0) s)
@@ -25,7 +26,7 @@ pub unescaped-turn : (s : List ℕ) (i : ℕ) → i < length s
     → unescaped (drop i s) ≡ getD s i 0 ∷ unescaped (drop (i + when (eqb (getD s i 0) quote) 2 1) s)
 unescaped-turn s i h =
     let k : (i + 1) + when (eqb (getD s i 0) quote) 1 0 ≡ i + when (eqb (getD s i 0) quote) 2 1 =
-      by-test (eqb (getD s i 0) quote) (λ e. rw e (omega arith)) (λ e. rw e (omega arith)) in
+    by-test (eqb (getD s i 0) quote) (λ e. rw e (omega arith)) (λ e. rw e (omega arith)) in
     rw (from-here s i h, unescaped-first (getD s i 0) (drop (i + 1) s), drop-drop, k)
 
 -- What a write loses of an inside that nothing closes: if the last byte is a quote, it and the one before are the last element.
@@ -59,10 +60,10 @@ lost-byte b s e h l =
       told = rw (unescaped-byte b s e, last) (ends-behind b (unescaped s) k ∙ l .told);
       two = λ q. omega arith;
       rest =
-        λ q.
-        let d = l .two (sym last ∙ q) in
-        rw (unescaped-byte b s e, take-behind 1 b (unescaped s) k, take-behind 2 b s d, unescaped-byte b (take (length s - 2) s) e)
-        (ap (λ (t : List ℕ). b ∷ t) (l .rest (sym last ∙ q)));
+          λ q.
+          let d = l .two (sym last ∙ q) in
+          rw (unescaped-byte b s e, take-behind 1 b (unescaped s) k, take-behind 2 b s d, unescaped-byte b (take (length s - 2) s) e)
+          (ap (λ (t : List ℕ). b ∷ t) (l .rest (sym last ∙ q)));
     }
 
 lost-escaped : (s : List ℕ) → 0 < length s → Lost s → Lost (quote ∷ quote ∷ s)
@@ -74,10 +75,10 @@ lost-escaped s h l =
       told = rw last (ends-behind quote (unescaped s) k ∙ l .told);
       two = λ q. omega arith;
       rest =
-        λ q.
-        let d = l .two (sym last ∙ q) in
-        rw (take-behind 1 quote (unescaped s) k, take-behind 2 quote (quote ∷ s) (omega arith), take-behind 2 quote s d)
-        (ap (λ (t : List ℕ). quote ∷ t) (l .rest (sym last ∙ q)));
+          λ q.
+          let d = l .two (sym last ∙ q) in
+          rw (take-behind 1 quote (unescaped s) k, take-behind 2 quote (quote ∷ s) (omega arith), take-behind 2 quote s d)
+          (ap (λ (t : List ℕ). quote ∷ t) (l .rest (sym last ∙ q)));
     }
 
 lost-none : Lost []

@@ -1,36 +1,20 @@
 -- Laws by which a caller walks a pattern part by part: what the part holds that next_part finds, and what is left behind it.
-use mathlib.Core.Bool.{Bool, true, false}
 use mathlib.Core.List.{List, [], _∷_}
-use mathlib.Core.Path.{_≡_, refl, sym, ap, _∙_}
-use Prim.Native.Nat.{ℕ, zero, suc, _+_, _-_, _*_, _/_, _≤_, _<_}
+use mathlib.Core.Path.{_≡_, refl, ap, _∙_}
+use Prim.Native.Nat.{ℕ, _+_, _-_, _*_, _/_, _≤_, _<_}
 use native.Mathlib.Omega.{arith}
-use lib.Dec.{eqb, ltb}
+use lib.Dec.{eqb}
 use lib.ListN.{length, getD, take, drop, replicate, length-drop}
 use lib.Seq.{drop-drop}
-use borrow.Author.Tests.{eqb-true, ltb-false}
-use Rattle.laws.proofs.Tests.{by-test, when-is}
-use Rattle.meaning.specs.Bytes.{when, quote}
+use borrow.Author.Tests.{eqb-true}
+use Rattle.laws.proofs.Tests.{by-test}
 use Rattle.meaning.specs.Splitting.{Content, run, quotes, quoted, unclosed, contents, insideLength, lengthOf, kindOf, partsFrom}
 use Rattle.meaning.specs.declared.Kind.the-variants.{Run, Quoted, Open}
 use Rattle.meaning.specs.declared.Part.{Part}
-use Rattle.pattern.specs.First.{runLength, escapedCount, insideSize, insideOf, openedContent, firstContent, partOf, held, contentOf}
-use Rattle.pattern.proofs.Elements.{inside-length, contents-first, first-sized}
+use Rattle.pattern.specs.First.{runLength, escapedCount, insideSize, insideOf, firstContent, partOf, held, contentOf}
+use Rattle.pattern.proofs.First.{inside-length, by-first, contents-first, first-sized}
 use Rattle.pattern.proofs.Inside.{Lost, lost}
 use Rattle.pattern.proofs.Scans.{head-at}
-
--- by cases on the first content
-pub by-first : (P : Content → Type 0) (s : List ℕ) → P (run (getD s 0 0) (runLength (getD s 0 0) s)) → P (quotes (escapedCount s))
-    → P (quoted (insideOf (drop 1 s))) → (length (drop 1 s) ≤ insideSize (drop 1 s) → P (unclosed (insideOf (drop 1 s)))) → P (firstContent s)
-unfolding firstContent
-by-first P s a b c d =
-    let t = drop 1 s in
-    when-is P (eqb (getD s 0 0) quote)
-    (λ e.
-    when-is P (ltb 0 (escapedCount s)) (λ f. b)
-    (λ f.
-    when-is (λ (kind : List ℕ → Content). P (kind (insideOf t))) (ltb (insideSize t) (length t)) (λ g. c)
-    (λ g. d (ltb-false (insideSize t) (length t) g))))
-    (λ e. a)
 
 -- A part's kind, place and length say what it holds.
 part-holds : (s : List ℕ) → held (kindOf (firstContent s)) (lengthOf (firstContent s)) s ≡ firstContent s
@@ -95,7 +79,7 @@ next p at part h e =
     let c = firstContent (drop at p) in
     let k : 0 < length (drop at p) = rw length-drop (omega arith) in
     let first : contents (drop at p) ≡ c ∷ contents (drop (at + lengthOf c) p) =
-      contents-first (drop at p) k ∙ rw drop-drop in
+    contents-first (drop at p) k ∙ rw drop-drop in
     let sized = first-sized (drop at p) k in
     rw e
     (record {
@@ -107,6 +91,6 @@ next p at part h e =
       equal = λ r. run-bytes (drop at p) r ∙ rw head-at;
       two = quoted-long c;
       end =
-        λ k. omega (arith, sized .1, open-whole (drop at p) k .0, length-drop 1 (drop at p), length-drop at p);
+          λ k. omega (arith, sized .1, open-whole (drop at p) k .0, length-drop 1 (drop at p), length-drop at p);
       lost = λ k. rw (← drop-drop 1 at p) (lost (drop 1 (drop at p)) (open-whole (drop at p) k .1));
     })

@@ -1,13 +1,13 @@
 -- Refusal 3: whether the last part is a quote that opens and has nothing behind it, walked part by part to the last place.
-use mathlib.Core.Bool.{Bool, true, false}
+use mathlib.Core.Bool.{true, false}
 use mathlib.Core.List.{List, [], _∷_}
-use mathlib.Core.Path.{_≡_, refl, sym, ap, _∙_}
+use mathlib.Core.Path.{_≡_, refl, sym, _∙_}
 use Prim.Native.Nat.{ℕ, zero, suc, _+_, _-_, _≤_, _<_}
 use native.Mathlib.Omega.{arith}
 use lib.Dec.{eqb, ltb}
 use lib.ListN.{length, getD, drop, drop-of-length-le, length-drop}
 use lib.Seq.{drop-drop}
-use borrow.Author.Tests.{eqb-true, lt-ltb, le-ltb, ltb-true, ltb-false, eq-eqb, ne-eqb}
+use borrow.Author.Tests.{ltb-true, ltb-false, eq-eqb, ne-eqb}
 use Rattle.laws.proofs.Tests.{by-test, true-is-not-false}
 use Rattle.meaning.specs.Answers.{bytesCheck, endsInLoneQuote, patternCheck}
 use Rattle.meaning.specs.Bytes.{both, quote}
@@ -16,9 +16,9 @@ use Rattle.meaning.specs.declared.Checked.the-variants.{Fine, Refused}
 use Rattle.meaning.specs.declared.Part.{Part}
 use Rattle.meaning.specs.declared.Refusal.{Refusal}
 use Rattle.meaning.specs.declared.Refusal.the-variants.{LoneQuote}
-use Rattle.pattern.specs.First.{insideSize, insideOf, firstContent, partOf}
-use Rattle.pattern.proofs.Elements.{inside-length, contents-first}
-use Rattle.pattern.proofs.Laws.{by-first, next}
+use Rattle.pattern.specs.First.{insideOf, firstContent, partOf}
+use Rattle.pattern.proofs.First.{inside-length, by-first, contents-first}
+use Rattle.pattern.proofs.Laws.{next}
 use Rattle.pattern.proofs.Scans.{from-here}
 
 unclosed-holds : (w : List ℕ) (cs : List Content) → 0 < insideLength w → endsInLoneQuote (unclosed w ∷ cs) ≡ false

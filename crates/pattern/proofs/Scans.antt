@@ -1,18 +1,18 @@
 -- One turn of each scan, at a place of the pattern, and its end.
 use mathlib.Core.Bool.{false}
-use mathlib.Core.List.{List, [], _∷_}
-use mathlib.Core.Path.{_≡_, refl, sym, ap, _∙_}
-use Prim.Native.Nat.{ℕ, suc, _+_, _*_, _≤_, _<_}
+use mathlib.Core.List.{List, _∷_}
+use mathlib.Core.Path.{_≡_, sym, _∙_}
+use Prim.Native.Nat.{ℕ, _+_, _≤_, _<_}
 use native.Mathlib.Nat.{add-zero}
 use native.Mathlib.Numerals.{add-one}
 use native.Mathlib.Omega.{arith}
 use lib.Dec.{eqb}
 use lib.ListN.{length, getD, drop, drop-of-length-le, length-drop, List·getD-eq-default}
-use lib.Seq.{drop-cons, drop-drop, getD-drop}
+use lib.Seq.{drop-cons, getD-drop}
 use borrow.Author.Tests.{ne-eqb}
 use Rattle.meaning.specs.Bytes.{quote}
 use Rattle.pattern.specs.First.{runLength, escapedCount, insideSize}
-use Rattle.pattern.proofs.Elements.{run-same, run-apart, count-byte, count-escaped, count-single, escaped-fit, size-byte, size-escaped, size-single}
+use Rattle.pattern.proofs.First.{run-same, run-apart, count-byte, count-escaped, count-single, escaped-fit, size-byte, size-escaped, size-single}
 
 module _ (p : List ℕ) (i : ℕ) where
   pub head-at : getD (drop i p) 0 0 ≡ getD p i 0

@@ -1,6 +1,6 @@
 -- The loop that fills a split: what holds at each turn, how it starts, one turn, and the split at its end.
-use mathlib.Core.List.{List, [], _∷_, _++_, append-nil}
-use mathlib.Core.Path.{_≡_, refl, sym, ap, ap₂, _∙_}
+use mathlib.Core.List.{List, _++_, append-nil}
+use mathlib.Core.Path.{_≡_, refl, sym, ap, _∙_}
 use Prim.Native.Nat.{ℕ, suc, _+_, _-_, _≤_, _<_}
 use native.Mathlib.Numerals.{add-one}
 use native.Mathlib.Omega.{arith}
@@ -31,7 +31,6 @@ filled-start p empty e =
 pub filled-turn : {p : List ℕ} {entries : List Part} {used at : ℕ} {part : Part} → length p ≤ 256 → at < length p
     → Filled p entries used at → Next p at part → Filled p (set entries used part) (used + 1) (at + part .length)
 filled-turn {p} {entries} {used} {at} {part} h k f n =
-    let next = partsFrom (at + part .length) (contents (drop (at + part .length) p)) in
     let a : used < length entries = omega arith in
     let b : 256 - used ≡ suc (256 - (used + 1)) = omega arith in
     record {
@@ -40,8 +39,8 @@ filled-turn {p} {entries} {used} {at} {part} h k f n =
       room = length-set entries used part ∙ f .room;
       front = f .front ∙ rw (n .parts, add-one used, take-suc-set entries used part a, append-snoc);
       rest =
-        drop-set-lt (used + 1) entries used part (omega arith) ∙ sym (drop-drop 1 used entries) ∙ ap (drop 1) (f .rest)
-        ∙ rw b;
+          drop-set-lt (used + 1) entries used part (omega arith) ∙ sym (drop-drop 1 used entries) ∙ ap (drop 1) (f .rest)
+          ∙ rw b;
     }
 
 pub filled-split : {p : List ℕ} {entries : List Part} {used at : ℕ} → length p ≤ 256 → length p ≤ at → Filled p entries used at

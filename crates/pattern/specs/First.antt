@@ -1,6 +1,5 @@
 -- Document 01, "Splitting", as a scan from the left: what the first part of a rest of the pattern holds. That the contents of
--- the whole pattern are these, one after the other, is the law `contents-first` of proofs/Laws.
-use mathlib.Core.Bool.{Bool, true, false}
+-- the whole pattern are these, one after the other, is the law `contents-first` of proofs/First.
 use mathlib.Core.List.{List, [], _∷_}
 use Prim.Native.Nat.{ℕ, suc, _-_, _/_}
 use lib.Dec.{eqb, ltb}
@@ -28,12 +27,13 @@ insideSize [] = 0
 insideSize (a ∷ []) = when (eqb a quote) 0 1
 insideSize (a ∷ b ∷ s) = when (eqb a quote) (when (eqb b quote) (suc (suc (insideSize s))) 0) (suc (insideSize (b ∷ s)))
 
--- what the bytes inside quotes stand for: a quote there is the first byte of an escaped one
+-- what bytes inside quotes stand for: a quote there is the first byte of an escaped one
 unfoldable pub unescaped : List ℕ → List ℕ
 unescaped [] = []
 unescaped (a ∷ []) = a ∷ []
 unescaped (a ∷ b ∷ s) = when (eqb a quote) (a ∷ unescaped s) (a ∷ unescaped (b ∷ s))
 
+-- what stands behind an opening quote, up to there
 unfoldable pub insideOf : List ℕ → List ℕ
 unfolding insideSize unescaped
 insideOf s = unescaped (take (insideSize s) s)

@@ -34,17 +34,17 @@ fn escaped_end(pattern: &[u8], at: usize) -> usize
     requires { ⌜ at ≤ length (now pattern) ⌝ }
     ensures { λ r. ⌜ r ≡ at + 2 * escapedCount (drop at (now (pattern .entry))) ⌝ }
 {
-    let mut i = at;
-    while i + 1 < pattern.len() {
-        if pattern[i] != b'\'' {
-            return i;
+    let mut behind = at;
+    while behind + 1 < pattern.len() {
+        if pattern[behind] != b'\'' {
+            return behind;
         }
-        if pattern[i + 1] != b'\'' {
-            return i;
+        if pattern[behind + 1] != b'\'' {
+            return behind;
         }
-        i += 2;
+        behind += 2;
     }
-    i
+    behind
 }
 
 // The place of the quote that closes a part whose inside starts at a place, or the pattern's end.
@@ -139,12 +139,12 @@ fn ends_in_lone_quote(pattern: &[u8]) -> bool
     if pattern[n - 1] != b'\'' {
         return false;
     }
-    let mut at = 0;
-    while at + 1 < n {
-        let part = next_part(pattern, at);
-        at += part.length;
+    let mut place = 0;
+    while place + 1 < n {
+        let part = next_part(pattern, place);
+        place += part.length;
     }
-    at < n
+    place < n
 }
 
 // Refusals 1, 2 and 3, in this order.

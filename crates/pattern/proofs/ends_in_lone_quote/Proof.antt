@@ -14,10 +14,10 @@ use Rattle.pattern.proofs.ends_in_lone_quote.Statement.{statement}
 use Rattle.pattern.proofs.ends_in_lone_quote.Tie as tie
 
 abbrev Inv-loop : tie.InvT-loop
-Inv-loop pattern n at₀ at = (at ≤ length pattern) × (endsInLoneQuote (contents pattern) ≡ endsInLoneQuote (contents (drop at pattern)))
+Inv-loop pattern n place₀ place = (place ≤ length pattern) × (endsInLoneQuote (contents pattern) ≡ endsInLoneQuote (contents (drop place pattern)))
 
 abbrev μ-loop : tie.MeasureT-loop
-μ-loop pattern n at₀ at = length pattern - at
+μ-loop pattern n place₀ place = length pattern - place
 
 returns : tie.Need-returns Inv-loop μ-loop
 returns c =
@@ -42,31 +42,31 @@ add-loop c = search needs
 next-part-requires : tie.Need-next-part-requires Inv-loop μ-loop
 next-part-requires c κs = search needs
 
-add-at : tie.Need-add-at Inv-loop μ-loop
-add-at c =
+add-place : tie.Need-add-place Inv-loop μ-loop
+add-place c =
     let l = c .before .before .before in
     let p = now (l .before .before .before .before .before .args .pattern) in
-    let n = next p (l .loop .at) (c .before .next-part .result) (omega arith) (c .before .next-part .ensures) in
+    let n = next p (l .loop .place) (c .before .next-part .result) (omega arith) (c .before .next-part .ensures) in
     omega arith
 
 loop-less : tie.Need-loop-less Inv-loop μ-loop
 loop-less c =
     let l = c .before .before .before in
     let p = now (l .before .before .before .before .before .args .pattern) in
-    let n = next p (l .loop .at) (c .before .next-part .result) (omega arith) (c .before .next-part .ensures) in
+    let n = next p (l .loop .place) (c .before .next-part .result) (omega arith) (c .before .next-part .ensures) in
     omega arith
 
 loop-again : tie.Need-loop-again Inv-loop μ-loop
 loop-again c =
     let l = c .before .before .before in
     let p = now (l .before .before .before .before .before .args .pattern) in
-    let n = next p (l .loop .at) (c .before .next-part .result) (omega arith) (c .before .next-part .ensures) in
-    (n .fits, l .loop .inv .1 ∙ lone-turn p (l .loop .at) (c .before .next-part .result) (omega arith) (c .before .next-part .ensures))
+    let n = next p (l .loop .place) (c .before .next-part .result) (omega arith) (c .before .next-part .ensures) in
+    (n .fits, l .loop .inv .1 ∙ lone-turn p (l .loop .place) (c .before .next-part .result) (omega arith) (c .before .next-part .ensures))
 
 returns-3 : tie.Need-returns-3 Inv-loop μ-loop
 returns-3 c =
     let l = c .before in
-    sym (l .loop .inv .1 ∙ lone-end (now (l .before .before .before .before .before .args .pattern)) (l .loop .at) (omega arith) (l .before .if2 .left))
+    sym (l .loop .inv .1 ∙ lone-end (now (l .before .before .before .before .before .args .pattern)) (l .loop .place) (omega arith) (l .before .if2 .left))
 
 pub ends-in-lone-quote-spec : {M : Type 1} → statement M
 ends-in-lone-quote-spec =
@@ -81,7 +81,7 @@ ends-in-lone-quote-spec =
     loop-holds
     add-loop
     next-part-requires
-    add-at
+    add-place
     loop-less
     loop-again
     returns-3)

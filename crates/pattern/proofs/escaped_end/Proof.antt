@@ -11,10 +11,10 @@ use Rattle.pattern.proofs.escaped_end.Statement.{statement}
 use Rattle.pattern.proofs.escaped_end.Tie as tie
 
 abbrev Inv-loop : tie.InvT-loop
-Inv-loop pattern at i₀ i = (i ≤ length pattern) × (at + 2 * escapedCount (drop at pattern) ≡ i + 2 * escapedCount (drop i pattern))
+Inv-loop pattern at behind₀ behind = (behind ≤ length pattern) × (at + 2 * escapedCount (drop at pattern) ≡ behind + 2 * escapedCount (drop behind pattern))
 
 abbrev μ-loop : tie.MeasureT-loop
-μ-loop pattern at i₀ i = length pattern - i
+μ-loop pattern at behind₀ behind = length pattern - behind
 
 loop-holds : tie.Need-loop-holds Inv-loop μ-loop
 loop-holds c = search needs
@@ -28,7 +28,7 @@ shared-slice-read-if1 c = search needs
 returns : tie.Need-returns Inv-loop μ-loop
 returns c =
     let l = c .before .before .before in
-    omega (arith, escaped-stop (now (l .before .args .pattern)) (l .loop .i) (omega arith) (c .if1 .taken))
+    omega (arith, escaped-stop (now (l .before .args .pattern)) (l .loop .behind) (omega arith) (c .if1 .taken))
 
 add-if2 : tie.Need-add-if2 Inv-loop μ-loop
 add-if2 c = search needs
@@ -39,10 +39,10 @@ shared-slice-read-if2 c = search needs
 returns-2 : tie.Need-returns-2 Inv-loop μ-loop
 returns-2 c =
     let l = c .before .before .before .before .before in
-    omega (arith, escaped-single (now (l .before .args .pattern)) (l .loop .i) (omega arith) (c .before .before .if1 .left) (c .if2 .taken))
+    omega (arith, escaped-single (now (l .before .args .pattern)) (l .loop .behind) (omega arith) (c .before .before .if1 .left) (c .if2 .taken))
 
-add-i : tie.Need-add-i Inv-loop μ-loop
-add-i c = search needs
+add-behind : tie.Need-add-behind Inv-loop μ-loop
+add-behind c = search needs
 
 loop-less : tie.Need-loop-less Inv-loop μ-loop
 loop-less c = search needs
@@ -50,12 +50,12 @@ loop-less c = search needs
 loop-again : tie.Need-loop-again Inv-loop μ-loop
 loop-again c =
     let l = c .before .before .before .before .before in
-    omega (arith, escaped-more (now (l .before .args .pattern)) (l .loop .i) (omega arith) (c .before .before .if1 .left) (c .if2 .left))
+    omega (arith, escaped-more (now (l .before .args .pattern)) (l .loop .behind) (omega arith) (c .before .before .if1 .left) (c .if2 .left))
 
 returns-3 : tie.Need-returns-3 Inv-loop μ-loop
 returns-3 c =
     let l = c .before in
-    omega (arith, escaped-done (now (l .before .args .pattern)) (l .loop .i) (c .loop-test .left))
+    omega (arith, escaped-done (now (l .before .args .pattern)) (l .loop .behind) (c .loop-test .left))
 
 pub escaped-end-spec : {M : Type 1} → statement M
 escaped-end-spec =
@@ -70,7 +70,7 @@ escaped-end-spec =
     add-if2
     shared-slice-read-if2
     returns-2
-    add-i
+    add-behind
     loop-less
     loop-again
     returns-3)

@@ -1,6 +1,5 @@
 -- `pattern_check` meets its contract: refusals 1 and 2, then 3.
 use mathlib.Core.Path.{sym, _∙_}
-use native.Mathlib.Omega.{arith}
 use borrow.Author.Needs.{needs}
 use denote.Ref.{now}
 use Rattle.pattern.proofs.LoneQuote.{lone-some, check-refused, check-lone, check-fine}
