@@ -117,10 +117,7 @@ fn bytes_check(pattern: &[u8]) -> Checked
     let mut i = 0;
     while i < n {
         let b = pattern[i];
-        if b == 0 {
-            return Checked::Refused(Refusal::PatternByte(i));
-        }
-        if 127 < b {
+        if b == 0 || 127 < b {
             return Checked::Refused(Refusal::PatternByte(i));
         }
         i += 1;

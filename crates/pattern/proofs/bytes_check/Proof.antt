@@ -1,11 +1,14 @@
 -- `bytes_check` meets its contract: at each turn the check of the whole pattern is that of the bytes from here.
+use mathlib.Core.Bool.{false}
+use mathlib.Core.Logic.{⊎-elim}
 use mathlib.Core.Path.{_≡_, sym, _∙_}
 use Prim.Native.Nat.{_-_, _≤_}
 use native.Mathlib.Omega.{arith}
 use lib.ListN.{length, drop, getD}
 use borrow.Author.Needs.{needs}
+use borrow.Author.Tests.{ltb-true, ltb-false}
 use denote.Ref.{now}
-use Rattle.meaning.specs.Answers.{byteCheck, bytesCheck}
+use Rattle.meaning.specs.Answers.{within, byteCheck, bytesCheck}
 use Rattle.meaning.specs.declared.Refusal.the-variants.{PatternByte}
 use Rattle.pattern.proofs.Checks.{within-yes, within-below, within-above, bytes-more, bytes-stop, bytes-done, long-pattern, short-pattern}
 use Rattle.pattern.proofs.bytes_check.Statement.{statement}
@@ -31,14 +34,10 @@ returns-2 c =
     let l = c .before .before .before in
     let p = now (l .before .before .args .pattern) in
     let i = l .loop .i in
-    sym (l .loop .inv .1 ∙ bytes-stop PatternByte 1 127 p i (omega arith) (within-below 1 127 (getD p i 0) (omega arith)))
-
-returns-3 : tie.Need-returns-3 Inv-loop μ-loop
-returns-3 c =
-    let l = c .before .before .before .before in
-    let p = now (l .before .before .args .pattern) in
-    let i = l .loop .i in
-    sym (l .loop .inv .1 ∙ bytes-stop PatternByte 1 127 p i (omega arith) (within-above 1 127 (getD p i 0) (omega arith) (omega arith)))
+    let bad : within 1 127 (getD p i 0) ≡ false =
+      ⊎-elim (λ w. within-below 1 127 (getD p i 0) (omega arith))
+      (λ w. within-above 1 127 (getD p i 0) (omega arith) (ltb-true 127 (getD p i 0) (w .1 .taken))) (c .if2 .came) in
+    sym (l .loop .inv .1 ∙ bytes-stop PatternByte 1 127 p i (omega arith) bad)
 
 add-i : tie.Need-add-i Inv-loop μ-loop
 add-i c = search needs
@@ -51,10 +50,11 @@ loop-again c =
     let l = c .before .before .before .before in
     let p = now (l .before .before .args .pattern) in
     let i = l .loop .i in
-    (omega arith, l .loop .inv .1 ∙ bytes-more PatternByte 1 127 p i (omega arith) (within-yes 1 127 (getD p i 0) (omega arith) (omega arith)))
+    let good = within-yes 1 127 (getD p i 0) (omega arith) (ltb-false 127 (getD p i 0) (c .if3 .left)) in
+    (omega arith, l .loop .inv .1 ∙ bytes-more PatternByte 1 127 p i (omega arith) good)
 
-returns-4 : tie.Need-returns-4 Inv-loop μ-loop
-returns-4 c =
+returns-3 : tie.Need-returns-3 Inv-loop μ-loop
+returns-3 c =
     let l = c .before in
     let p = now (l .before .before .args .pattern) in
     sym (l .loop .inv .1 ∙ bytes-done PatternByte 1 127 p (l .loop .i) (omega arith))
@@ -69,8 +69,7 @@ bytes-check-spec =
     loop-holds
     shared-slice-read-b
     returns-2
-    returns-3
     add-i
     loop-less
     loop-again
-    returns-4)
+    returns-3)
