@@ -36,10 +36,7 @@ fn escaped_end(pattern: &[u8], at: usize) -> usize
 {
     let mut behind = at;
     while behind + 1 < pattern.len() {
-        if pattern[behind] != b'\'' {
-            return behind;
-        }
-        if pattern[behind + 1] != b'\'' {
+        if pattern[behind] != b'\'' || pattern[behind + 1] != b'\'' {
             return behind;
         }
         behind += 2;
@@ -55,10 +52,7 @@ fn inside_end(pattern: &[u8], at: usize) -> usize
     let mut i = at;
     while i < pattern.len() {
         if pattern[i] == b'\'' {
-            if i + 1 == pattern.len() {
-                return i;
-            }
-            if pattern[i + 1] != b'\'' {
+            if i + 1 == pattern.len() || pattern[i + 1] != b'\'' {
                 return i;
             }
             i += 2;
@@ -130,10 +124,7 @@ fn ends_in_lone_quote(pattern: &[u8]) -> bool
     ensures { λ r. ⌜ r ≡ endsInLoneQuote (contents (now (pattern .entry))) ⌝ }
 {
     let n = pattern.len();
-    if n == 0 {
-        return false;
-    }
-    if pattern[n - 1] != b'\'' {
+    if n == 0 || pattern[n - 1] != b'\'' {
         return false;
     }
     let mut place = 0;

@@ -35,8 +35,8 @@ returns-2 c =
     let p = now (l .before .before .args .pattern) in
     let i = l .loop .i in
     let bad : within 1 127 (getD p i 0) ≡ false =
-      ⊎-elim (λ w. within-below 1 127 (getD p i 0) (omega arith))
-      (λ w. within-above 1 127 (getD p i 0) (omega arith) (ltb-true 127 (getD p i 0) (w .1 .taken))) (c .if2 .came) in
+    ⊎-elim (λ w. within-below 1 127 (getD p i 0) (omega arith))
+    (λ w. within-above 1 127 (getD p i 0) (omega arith) (ltb-true 127 (getD p i 0) (w .1 .taken))) (c .if2 .came) in
     sym (l .loop .inv .1 ∙ bytes-stop PatternByte 1 127 p i (omega arith) bad)
 
 add-i : tie.Need-add-i Inv-loop μ-loop

@@ -1,11 +1,14 @@
 -- `ends_in_lone_quote` meets its contract: at each turn the pattern ends in a lone quote just if the parts from here do.
+use mathlib.Core.Logic.{⊎-elim}
 use mathlib.Core.Path.{_≡_, refl, sym, _∙_}
 use Prim.Native.Nat.{_-_, _≤_}
 use native.Mathlib.Omega.{arith}
-use lib.ListN.{length, drop}
+use lib.ListN.{length, drop, getD}
 use borrow.Author.Needs.{needs}
+use borrow.Author.Tests.{eqb-true, eqb-false, not-true, not-false}
 use denote.Ref.{now}
 use Rattle.meaning.specs.Answers.{endsInLoneQuote}
+use Rattle.meaning.specs.Bytes.{quote}
 use Rattle.meaning.specs.Splitting.{contents}
 use Rattle.pattern.proofs.Laws.{next}
 use Rattle.pattern.proofs.LoneQuote.{lone-turn, lone-end, no-lone}
@@ -19,19 +22,17 @@ Inv-loop pattern n place₀ place = (place ≤ length pattern) × (endsInLoneQuo
 abbrev μ-loop : tie.MeasureT-loop
 μ-loop pattern n place₀ place = length pattern - place
 
-returns : tie.Need-returns Inv-loop μ-loop
-returns c =
-    let p = now (c .before .before .args .pattern) in
-    sym (no-lone p (past-end p (length p - 1) (omega arith)))
-
 sub-if2 : tie.Need-sub-if2 Inv-loop μ-loop
 sub-if2 c = search needs
 
 shared-slice-read-if2 : tie.Need-shared-slice-read-if2 Inv-loop μ-loop
 shared-slice-read-if2 c = search needs
 
-returns-2 : tie.Need-returns-2 Inv-loop μ-loop
-returns-2 c = sym (no-lone (now (c .before .before .before .before .args .pattern)) (c .if2 .taken))
+returns : tie.Need-returns Inv-loop μ-loop
+returns c =
+    let p = now (c .before .before .args .pattern) in
+    ⊎-elim (λ w. sym (no-lone p (past-end p (length p - 1) (omega arith))))
+    (λ w. sym (no-lone p (eqb-false (getD p (length p - 1) 0) quote (not-true _ (w .2 .taken))))) (c .if1 .came)
 
 loop-holds : tie.Need-loop-holds Inv-loop μ-loop
 loop-holds c = (omega arith, refl)
@@ -63,10 +64,11 @@ loop-again c =
     let n = next p (l .loop .place) (c .before .next-part .result) (omega arith) (c .before .next-part .ensures) in
     (n .fits, l .loop .inv .1 ∙ lone-turn p (l .loop .place) (c .before .next-part .result) (omega arith) (c .before .next-part .ensures))
 
-returns-3 : tie.Need-returns-3 Inv-loop μ-loop
-returns-3 c =
+returns-2 : tie.Need-returns-2 Inv-loop μ-loop
+returns-2 c =
     let l = c .before in
-    sym (l .loop .inv .1 ∙ lone-end (now (l .before .before .before .before .before .args .pattern)) (l .loop .place) (omega arith) (l .before .if2 .left))
+    let p = now (l .before .before .before .before .before .args .pattern) in
+    sym (l .loop .inv .1 ∙ lone-end p (l .loop .place) (omega arith) (eqb-true (getD p (length p - 1) 0) quote (not-false _ (l .before .if2 .left))))
 
 pub ends-in-lone-quote-spec : {M : Type 1} → statement M
 ends-in-lone-quote-spec =
@@ -74,14 +76,13 @@ ends-in-lone-quote-spec =
     (tie.spec
     Inv-loop
     μ-loop
-    returns
     sub-if2
     shared-slice-read-if2
-    returns-2
+    returns
     loop-holds
     add-loop
     next-part-requires
     add-place
     loop-less
     loop-again
-    returns-3)
+    returns-2)

@@ -1,10 +1,13 @@
 -- `inside_end` meets its contract: at each turn the inside from the start ends where that from here does.
+use mathlib.Core.Logic.{⊎-elim}
 use mathlib.Core.Path.{_≡_}
 use Prim.Native.Nat.{_+_, _-_, _≤_}
 use native.Mathlib.Omega.{arith}
-use lib.ListN.{length, drop}
+use lib.ListN.{length, drop, getD}
 use borrow.Author.Needs.{needs}
+use borrow.Author.Tests.{eqb-true, eqb-false, not-true, not-false}
 use denote.Ref.{now}
+use Rattle.meaning.specs.Bytes.{quote}
 use Rattle.pattern.specs.First.{insideSize}
 use Rattle.pattern.proofs.Scans.{inside-byte, inside-close, inside-more, inside-done, past-end}
 use Rattle.pattern.proofs.inside_end.Statement.{statement}
@@ -25,23 +28,20 @@ shared-slice-read-if1 c = search needs
 add-if2 : tie.Need-add-if2 Inv-loop μ-loop
 add-if2 c = search needs
 
-returns : tie.Need-returns Inv-loop μ-loop
-returns c =
-    let l = c .before .before .before .before in
-    let p = now (l .before .args .pattern) in
-    let i = l .loop .i in
-    omega (arith, inside-close p i (omega arith) (c .before .if1 .taken) (past-end p (i + 1) (omega arith)))
-
 add-if3 : tie.Need-add-if3 Inv-loop μ-loop
 add-if3 c = search needs
 
 shared-slice-read-if3 : tie.Need-shared-slice-read-if3 Inv-loop μ-loop
 shared-slice-read-if3 c = search needs
 
-returns-2 : tie.Need-returns-2 Inv-loop μ-loop
-returns-2 c =
-    let l = c .before .before .before .before .before .before in
-    omega (arith, inside-close (now (l .before .args .pattern)) (l .loop .i) (omega arith) (c .before .before .before .if1 .taken) (c .if3 .taken))
+returns : tie.Need-returns Inv-loop μ-loop
+returns c =
+    let l = c .before .before .before .before in
+    let p = now (l .before .args .pattern) in
+    let i = l .loop .i in
+    let closes = inside-close p i (omega arith) (c .before .if1 .taken) in
+    ⊎-elim (λ w. omega (arith, closes (past-end p (i + 1) (omega arith))))
+    (λ w. omega (arith, closes (eqb-false (getD p (i + 1) 0) quote (not-true _ (w .2 .taken))))) (c .if2 .came)
 
 add-i : tie.Need-add-i Inv-loop μ-loop
 add-i c = search needs
@@ -52,7 +52,9 @@ loop-less c = search needs
 loop-again : tie.Need-loop-again Inv-loop μ-loop
 loop-again c =
     let l = c .before .before .before .before .before .before in
-    omega (arith, inside-more (now (l .before .args .pattern)) (l .loop .i) (omega arith) (c .before .before .before .if1 .taken) (c .if3 .left))
+    let p = now (l .before .args .pattern) in
+    let i = l .loop .i in
+    omega (arith, inside-more p i (omega arith) (c .before .before .before .if1 .taken) (eqb-true (getD p (i + 1) 0) quote (not-false _ (c .if3 .left))))
 
 add-i-2 : tie.Need-add-i-2 Inv-loop μ-loop
 add-i-2 c = search needs
@@ -65,8 +67,8 @@ loop-again-2 c =
     let l = c .before .before .before in
     omega (arith, inside-byte (now (l .before .args .pattern)) (l .loop .i) (omega arith) (c .if1 .left))
 
-returns-3 : tie.Need-returns-3 Inv-loop μ-loop
-returns-3 c =
+returns-2 : tie.Need-returns-2 Inv-loop μ-loop
+returns-2 c =
     let l = c .before in
     omega (arith, inside-done (now (l .before .args .pattern)) (l .loop .i) (c .loop-test .left))
 
@@ -79,14 +81,13 @@ inside-end-spec =
     loop-holds
     shared-slice-read-if1
     add-if2
-    returns
     add-if3
     shared-slice-read-if3
-    returns-2
+    returns
     add-i
     loop-less
     loop-again
     add-i-2
     loop-less-2
     loop-again-2
-    returns-3)
+    returns-2)
