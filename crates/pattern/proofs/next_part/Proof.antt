@@ -1,11 +1,9 @@
 -- `next_part` meets its contract: each of its answers is the part with the first content.
-use mathlib.Core.Path.{_≡_, sym}
-use Prim.Native.Nat.{_+_, _*_, _-_}
+use Prim.Native.Nat.{_+_}
 use native.Mathlib.Omega.{arith}
-use lib.ListN.{drop, getD, length-drop}
+use lib.ListN.{length-drop}
 use borrow.Author.Needs.{needs}
 use denote.Ref.{now}
-use Rattle.pattern.specs.First.{runLength, escapedCount, insideSize}
 use Rattle.pattern.proofs.Answers.{part-run, part-quotes, part-quoted, part-open}
 use Rattle.pattern.proofs.next_part.Statement.{statement}
 use Rattle.pattern.proofs.next_part.Tie as tie
@@ -23,8 +21,7 @@ returns : tie.Need-returns
 returns c =
     let a = c .before .before .before .before .args in
     let p = now (a .pattern) in
-    let k : c .run-end .result - a .at ≡ runLength (getD p (a .at) 0) (drop (a .at) p) = omega arith in
-    rw k (sym (part-run p (a .at) (c .before .if1 .taken)))
+    part-run p (a .at) _ (c .before .if1 .taken) (omega arith)
 
 escaped-end-requires : tie.Need-escaped-end-requires
 escaped-end-requires c κs = search needs
@@ -36,8 +33,7 @@ returns-2 : tie.Need-returns-2
 returns-2 c =
     let a = c .before .before .before .before .before .args in
     let p = now (a .pattern) in
-    let k : c .before .escaped-end .result - a .at ≡ 2 * escapedCount (drop (a .at) p) = omega arith in
-    rw k (sym (part-quotes p (a .at) (c .before .before .if1 .left) (omega arith)))
+    part-quotes p (a .at) _ (c .before .before .if1 .left) (omega arith) (omega arith)
 
 add-inside-end : tie.Need-add-inside-end
 add-inside-end c = search needs
@@ -55,8 +51,7 @@ returns-3 : tie.Need-returns-3
 returns-3 c =
     let a = c .before .before .before .before .before .before .before .args in
     let p = now (a .pattern) in
-    let k : c .before .inside-end .result + 1 - a .at ≡ 2 + insideSize (drop (a .at + 1) p) = omega arith in
-    rw k (sym (part-quoted p (a .at) (c .before .before .before .before .if1 .left) (omega arith) (omega (arith, length-drop (a .at + 1) p))))
+    part-quoted p (a .at) _ (c .before .before .before .before .if1 .left) (omega arith) (omega (arith, length-drop (a .at + 1) p)) (omega arith)
 
 sub-t14 : tie.Need-sub-t14
 sub-t14 c = search needs
@@ -65,8 +60,7 @@ returns-4 : tie.Need-returns-4
 returns-4 c =
     let a = c .before .before .before .before .before .before .before .args in
     let p = now (a .pattern) in
-    let k : c .before .inside-end .result - a .at ≡ 1 + insideSize (drop (a .at + 1) p) = omega arith in
-    rw k (sym (part-open p (a .at) (c .before .before .before .before .if1 .left) (omega arith) (omega (arith, length-drop (a .at + 1) p))))
+    part-open p (a .at) _ (c .before .before .before .before .if1 .left) (omega arith) (omega (arith, length-drop (a .at + 1) p)) (omega arith)
 
 pub next-part-spec : {M : Type 1} → statement M
 next-part-spec =
