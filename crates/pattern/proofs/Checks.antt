@@ -1,4 +1,4 @@
--- Laws of the checks of patterns: the search for a byte that is not allowed, place by place, and where a lone quote stands.
+-- Refusals 1 and 2: the search for a byte that is not allowed, place by place, and the limit on a pattern's length.
 use mathlib.Core.Bool.{true, false}
 use mathlib.Core.List.{List}
 use mathlib.Core.Path.{_≡_}

@@ -1,11 +1,12 @@
--- Laws by which a caller walks a pattern part by part: what the part holds that next_part finds, and what is left behind it.
+-- Laws by which a caller walks a pattern part by part: `next` turns what next_part ensures into what the part holds and what
+-- is left behind it.
 use mathlib.Core.List.{List, [], _∷_}
 use mathlib.Core.Path.{_≡_, refl, ap, _∙_}
 use Prim.Native.Nat.{ℕ, _+_, _-_, _*_, _/_, _≤_, _<_}
 use native.Mathlib.Omega.{arith}
 use lib.Dec.{eqb}
 use lib.ListN.{length, getD, take, drop, replicate, length-drop}
-use lib.Seq.{drop-drop}
+use lib.Seq.{drop-drop, take-all}
 use borrow.Author.Tests.{eqb-true}
 use Rattle.laws.proofs.Tests.{by-test}
 use Rattle.meaning.specs.Splitting.{Content, run, quotes, quoted, unclosed, contents, insideLength, lengthOf, kindOf, partsFrom}
@@ -17,15 +18,17 @@ use Rattle.pattern.proofs.Inside.{Lost, lost}
 use Rattle.pattern.proofs.Scans.{head-at}
 
 -- A part's kind, place and length say what it holds.
-part-holds : (s : List ℕ) → held (kindOf (firstContent s)) (lengthOf (firstContent s)) s ≡ firstContent s
+part-holds : (p : List ℕ) (at : ℕ)
+    → held (kindOf (firstContent (drop at p))) at (lengthOf (firstContent (drop at p))) p ≡ firstContent (drop at p)
 unfolding lengthOf insideOf
-part-holds s =
+part-holds p at =
+    let s = drop at p in
     let t = drop 1 s in
     let n = inside-length t in
     let h : 2 * escapedCount s / 2 ≡ escapedCount s = omega arith in
     let i : 2 + insideLength (insideOf t) - 2 ≡ insideSize t = omega arith in
-    let j : 1 + insideLength (insideOf t) - 1 ≡ insideSize t = omega arith in
-    by-first (λ c. held (kindOf c) (lengthOf c) s ≡ c) s refl (rw h) (rw i) (λ k. rw j)
+    by-first (λ c. held (kindOf c) at (lengthOf c) p ≡ c) s (rw (head-at p at)) (rw h) (rw (← drop-drop 1 at p, i))
+    (λ k. rw (← drop-drop 1 at p, take-all (insideSize t) t k))
 
 take-run : (b : ℕ) (s : List ℕ) → take (runLength b s) s ≡ replicate (runLength b s) b
 unfolding runLength
@@ -71,6 +74,7 @@ pub record Next (p : List ℕ) (at : ℕ) (part : Part) : Type 0 where
   pub two : part .kind ≡ Quoted → 2 ≤ part .length
   -- an open part ends with the pattern
   pub end : part .kind ≡ Open → at + part .length ≡ length p
+  -- and a write may lose its last element
   pub lost : part .kind ≡ Open → Lost (drop (at + 1) p)
 
 pub next : (p : List ℕ) (at : ℕ) (part : Part) → at < length p → part ≡ partOf at (firstContent (drop at p)) → Next p at part
@@ -83,8 +87,8 @@ next p at part h e =
     let sized = first-sized (drop at p) k in
     rw e
     (record {
-      itself = rw (part-holds (drop at p));
-      walk = rw (part-holds (drop at p)) first;
+      itself = rw (part-holds p at);
+      walk = rw (part-holds p at) first;
       parts = ap (partsFrom at) first;
       some = sized .0;
       fits = omega (arith, sized .1, length-drop at p);

@@ -1,5 +1,6 @@
--- Refusal 3: whether the last part is a quote that opens and has nothing behind it, walked part by part to the last place.
-use mathlib.Core.Bool.{true, false}
+-- Refusal 3: whether the last part is a quote that opens and has nothing behind it, walked part by part to the last place;
+-- and the whole check of a pattern.
+use mathlib.Core.Bool.{Bool, true, false}
 use mathlib.Core.List.{List, [], _∷_}
 use mathlib.Core.Path.{_≡_, refl, sym, _∙_}
 use Prim.Native.Nat.{ℕ, zero, suc, _+_, _-_, _≤_, _<_}
@@ -9,14 +10,16 @@ use lib.ListN.{length, getD, drop, drop-of-length-le, length-drop}
 use lib.Seq.{drop-drop}
 use borrow.Author.Tests.{ltb-true, ltb-false, eq-eqb, ne-eqb}
 use Rattle.laws.proofs.Tests.{by-test, true-is-not-false}
-use Rattle.meaning.specs.Answers.{bytesCheck, endsInLoneQuote, patternCheck}
-use Rattle.meaning.specs.Bytes.{both, quote}
+use Rattle.meaning.specs.Answers.{_else_, bytesCheck, endsInLoneQuote, patternCheck}
+use Rattle.meaning.specs.Bytes.{when, both, quote}
 use Rattle.meaning.specs.Splitting.{Content, unclosed, contents, insideLength, lengthOf}
+use Rattle.meaning.specs.declared.Checked.{Checked}
 use Rattle.meaning.specs.declared.Checked.the-variants.{Fine, Refused}
 use Rattle.meaning.specs.declared.Part.{Part}
 use Rattle.meaning.specs.declared.Refusal.{Refusal}
 use Rattle.meaning.specs.declared.Refusal.the-variants.{LoneQuote}
 use Rattle.pattern.specs.First.{insideOf, firstContent, partOf}
+use Rattle.pattern.proofs.Checks.{fine-short}
 use Rattle.pattern.proofs.First.{inside-length, by-first, contents-first}
 use Rattle.pattern.proofs.Laws.{next}
 use Rattle.pattern.proofs.Scans.{from-here}
@@ -79,7 +82,11 @@ no-lone-from (suc n) p at h q =
     lone-turn p at part k refl ∙ no-lone-from n p (at + part .length) (omega arith) q)
     (λ e.
     let k = ltb-false (at + 1) (length p) e in
-    lone-last p at k ∙ by-test (ltb at (length p)) (λ f. let g : at ≡ length p - 1 = omega (arith, ltb-true at (length p) f) in rw (f, g, ne-eqb (getD p (length p - 1) 0) quote q)) (λ f. rw f))
+    lone-last p at k
+    ∙ by-test (ltb at (length p))
+    (λ f.
+    let g : at ≡ length p - 1 = omega (arith, ltb-true at (length p) f) in
+    rw (f, g, ne-eqb (getD p (length p - 1) 0) quote q)) (λ f. rw f))
 
 pub no-lone : (p : List ℕ) → (getD p (length p - 1) 0 ≡ quote → ⊥) → endsInLoneQuote (contents p) ≡ false
 no-lone p q = no-lone-from (length p) p 0 (omega arith) q
@@ -101,3 +108,15 @@ module _ (p : List ℕ) where
   pub check-fine : bytesCheck p ≡ Fine → endsInLoneQuote (contents p) ≡ false → patternCheck p ≡ Fine
   unfolding patternCheck
   check-fine e f = rw (e, f)
+
+both-fine : (c : Checked) (t : Bool) (why : Refusal) → (c else when t (Refused why) Fine) ≡ Fine → (c ≡ Fine) × (t ≡ false)
+both-fine Fine true why e = absurd (let z : _≡_ {A = ℕ} 0 1 = cc in omega arith)
+both-fine Fine false why e = (refl, refl)
+both-fine (Refused r) t why e = absurd (let z : _≡_ {A = ℕ} 0 1 = cc in omega arith)
+
+-- what a caller knows of a pattern that passes
+pub fine-pattern : (p : List ℕ) → patternCheck p ≡ Fine → (length p ≤ 256) × (endsInLoneQuote (contents p) ≡ false)
+unfolding patternCheck
+fine-pattern p e =
+    let f = both-fine (bytesCheck p) (endsInLoneQuote (contents p)) (LoneQuote (length p - 1)) e in
+    (fine-short p (f .0), f .1)

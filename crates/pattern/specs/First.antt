@@ -1,7 +1,7 @@
 -- Document 01, "Splitting", as a scan from the left: what the first part of a rest of the pattern holds. That the contents of
 -- the whole pattern are these, one after the other, is the law `contents-first` of proofs/First.
 use mathlib.Core.List.{List, [], _∷_}
-use Prim.Native.Nat.{ℕ, suc, _-_, _/_}
+use Prim.Native.Nat.{ℕ, suc, _+_, _-_, _/_}
 use lib.Dec.{eqb, ltb}
 use lib.ListN.{length, getD, take, drop}
 use Rattle.meaning.specs.Bytes.{when, quote}
@@ -54,12 +54,12 @@ firstContent s =
 abbrev pub partOf : ℕ → Content → Part
 partOf at c = record { kind = kindOf c; start = at; length = lengthOf c }
 
--- and back: what a part of this kind and length holds, from its bytes on
-abbrev pub held : Kind → ℕ → List ℕ → Content
-held Run n s = run (getD s 0 0) n
-held Quotes n s = quotes (n / 2)
-held Quoted n s = quoted (unescaped (take (n - 2) (drop 1 s)))
-held Open n s = unclosed (unescaped (take (n - 1) (drop 1 s)))
+-- and back: what a part of this kind, place and length holds
+abbrev pub held : Kind → ℕ → ℕ → List ℕ → Content
+held Run at n p = run (getD p at 0) n
+held Quotes at n p = quotes (n / 2)
+held Quoted at n p = quoted (unescaped (take (n - 2) (drop (at + 1) p)))
+held Open at n p = unclosed (unescaped (drop (at + 1) p))
 
 abbrev pub contentOf : List ℕ → Part → Content
-contentOf p part = held (part .kind) (part .length) (drop (part .start) p)
+contentOf p part = held (part .kind) (part .start) (part .length) p

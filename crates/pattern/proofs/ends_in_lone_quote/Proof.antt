@@ -46,29 +46,35 @@ next-part-requires c κs = search needs
 add-place : tie.Need-add-place Inv-loop μ-loop
 add-place c =
     let l = c .before .before .before in
+    let found = c .before .next-part in
     let p = now (l .before .before .before .before .before .args .pattern) in
-    let n = next p (l .loop .place) (c .before .next-part .result) (omega arith) (c .before .next-part .ensures) in
+    let n = next p (l .loop .place) (found .result) (omega arith) (found .ensures) in
     omega arith
 
 loop-less : tie.Need-loop-less Inv-loop μ-loop
 loop-less c =
     let l = c .before .before .before in
+    let found = c .before .next-part in
     let p = now (l .before .before .before .before .before .args .pattern) in
-    let n = next p (l .loop .place) (c .before .next-part .result) (omega arith) (c .before .next-part .ensures) in
+    let n = next p (l .loop .place) (found .result) (omega arith) (found .ensures) in
     omega arith
 
 loop-again : tie.Need-loop-again Inv-loop μ-loop
 loop-again c =
     let l = c .before .before .before in
+    let found = c .before .next-part in
     let p = now (l .before .before .before .before .before .args .pattern) in
-    let n = next p (l .loop .place) (c .before .next-part .result) (omega arith) (c .before .next-part .ensures) in
-    (n .fits, l .loop .inv .1 ∙ lone-turn p (l .loop .place) (c .before .next-part .result) (omega arith) (c .before .next-part .ensures))
+    let n = next p (l .loop .place) (found .result) (omega arith) (found .ensures) in (
+      n .fits,
+      l .loop .inv .1 ∙ lone-turn p (l .loop .place) (found .result) (omega arith) (found .ensures),
+    )
 
 returns-2 : tie.Need-returns-2 Inv-loop μ-loop
 returns-2 c =
     let l = c .before in
     let p = now (l .before .before .before .before .before .args .pattern) in
-    sym (l .loop .inv .1 ∙ lone-end p (l .loop .place) (omega arith) (eqb-true (getD p (length p - 1) 0) quote (not-false _ (l .before .if2 .left))))
+    let last = eqb-true (getD p (length p - 1) 0) quote (not-false _ (l .before .if2 .left)) in
+    sym (l .loop .inv .1 ∙ lone-end p (l .loop .place) (omega arith) last)
 
 pub ends-in-lone-quote-spec : {M : Type 1} → statement M
 ends-in-lone-quote-spec =

@@ -41,7 +41,8 @@ returns c =
     let i = l .loop .behind in
     ⊎-elim (λ w. omega (arith, escaped-stop p i (omega arith) (w .taken)))
     (λ w.
-    omega (arith, escaped-single p i (omega arith) (w .0 .left) (eqb-false (getD p (i + 1) 0) quote (not-true _ (w .2 .taken))))) (c .if1 .came)
+    let second = eqb-false (getD p (i + 1) 0) quote (not-true _ (w .2 .taken)) in
+    omega (arith, escaped-single p i (omega arith) (w .0 .left) second)) (c .if1 .came)
 
 add-behind : tie.Need-add-behind Inv-loop μ-loop
 add-behind c = search needs
@@ -54,7 +55,8 @@ loop-again c =
     let l = c .before .before .before .before .before in
     let p = now (l .before .args .pattern) in
     let i = l .loop .behind in
-    omega (arith, escaped-more p i (omega arith) (c .before .before .if1 .left) (eqb-true (getD p (i + 1) 0) quote (not-false _ (c .if2 .left))))
+    let second = eqb-true (getD p (i + 1) 0) quote (not-false _ (c .if2 .left)) in
+    omega (arith, escaped-more p i (omega arith) (c .before .before .if1 .left) second)
 
 returns-2 : tie.Need-returns-2 Inv-loop μ-loop
 returns-2 c =

@@ -54,7 +54,8 @@ loop-again c =
     let l = c .before .before .before .before .before .before in
     let p = now (l .before .args .pattern) in
     let i = l .loop .i in
-    omega (arith, inside-more p i (omega arith) (c .before .before .before .if1 .taken) (eqb-true (getD p (i + 1) 0) quote (not-false _ (c .if3 .left))))
+    let second = eqb-true (getD p (i + 1) 0) quote (not-false _ (c .if3 .left)) in
+    omega (arith, inside-more p i (omega arith) (c .before .before .before .if1 .taken) second)
 
 add-i-2 : tie.Need-add-i-2 Inv-loop μ-loop
 add-i-2 c = search needs

@@ -14,7 +14,9 @@ enum-told : tie.Need-enum-told
 enum-told c = search needs
 
 split-parts-requires : tie.Need-split-parts-requires
-split-parts-requires c κs = fine-short (now (c .before .before .before .before .args .pattern)) (sym (c .before .before .bytes-check .ensures) ∙ c .enum-told .given .1)
+split-parts-requires c κs =
+    let s = c .before .before in
+    fine-short (now (s .before .before .args .pattern)) (sym (s .bytes-check .ensures) ∙ c .enum-told .given .1)
 
 enum-known-checked : tie.Need-enum-known-checked
 enum-known-checked c = search needs
@@ -23,10 +25,16 @@ no-part-requires : tie.Need-no-part-requires
 no-part-requires c κs = search needs
 
 returns : tie.Need-returns
-returns c = c .split-parts .ensures ∙ split-fine (now (c .before .before .before .before .before .args .pattern)) (sym (c .before .before .before .bytes-check .ensures) ∙ c .before .enum-told .given .1)
+returns c =
+    let s = c .before .before .before in
+    let fine = sym (s .bytes-check .ensures) ∙ c .before .enum-told .given .1 in
+    c .split-parts .ensures ∙ split-fine (now (s .before .before .args .pattern)) fine
 
 returns-2 : tie.Need-returns-2
-returns-2 c = split-refused (now (c .before .before .before .before .before .before .args .pattern)) _ (c .no-part .result) (c .no-part .ensures) (sym (c .before .before .before .before .bytes-check .ensures) ∙ c .before .before .checked .given .1)
+returns-2 c =
+    let s = c .before .before .before .before in
+    let refused = sym (s .bytes-check .ensures) ∙ c .before .before .checked .given .1 in
+    split-refused (now (s .before .before .args .pattern)) _ (c .no-part .result) (c .no-part .ensures) refused
 
 pub parse-format-string-spec : {M : Type 1} → statement M
 parse-format-string-spec =

@@ -19,16 +19,28 @@ ends-in-lone-quote-requires : tie.Need-ends-in-lone-quote-requires
 ends-in-lone-quote-requires c κs = search needs
 
 sub-t7 : tie.Need-sub-t7
-sub-t7 c = lone-some (now (c .before .before .before .before .before .before .args .pattern)) (sym (c .before .ends-in-lone-quote .ensures) ∙ c .if1 .taken)
+sub-t7 c =
+    let p = now (c .before .before .before .before .before .before .args .pattern) in
+    lone-some p (sym (c .before .ends-in-lone-quote .ensures) ∙ c .if1 .taken)
 
 returns : tie.Need-returns
-returns c = sym (check-lone (now (c .before .before .before .before .before .before .args .pattern)) (sym (c .before .before .before .before .bytes-check .ensures) ∙ c .before .before .enum-told .given .1) (sym (c .before .ends-in-lone-quote .ensures) ∙ c .if1 .taken))
+returns c =
+    let s = c .before .before .before .before in
+    let fine = sym (s .bytes-check .ensures) ∙ c .before .before .enum-told .given .1 in
+    let lone = sym (c .before .ends-in-lone-quote .ensures) ∙ c .if1 .taken in
+    sym (check-lone (now (s .before .before .args .pattern)) fine lone)
 
 returns-2 : tie.Need-returns-2
-returns-2 c = sym (check-refused (now (c .before .before .before .before .before .args .pattern)) _ (sym (c .before .before .before .bytes-check .ensures) ∙ c .before .checked .given .1))
+returns-2 c =
+    let s = c .before .before .before in
+    sym (check-refused (now (s .before .before .args .pattern)) _ (sym (s .bytes-check .ensures) ∙ c .before .checked .given .1))
 
 returns-3 : tie.Need-returns-3
-returns-3 c = sym (check-fine (now (c .before .before .before .before .before .before .args .pattern)) (sym (c .before .before .before .before .bytes-check .ensures) ∙ c .before .before .enum-told .given .1) (sym (c .before .ends-in-lone-quote .ensures) ∙ c .if1 .left))
+returns-3 c =
+    let s = c .before .before .before .before in
+    let fine = sym (s .bytes-check .ensures) ∙ c .before .before .enum-told .given .1 in
+    let none = sym (c .before .ends-in-lone-quote .ensures) ∙ c .if1 .left in
+    sym (check-fine (now (s .before .before .args .pattern)) fine none)
 
 pub pattern-check-spec : {M : Type 1} → statement M
 pattern-check-spec =

@@ -36,19 +36,22 @@ add-used c = search needs
 add-at : tie.Need-add-at Inv-loop μ-loop
 add-at c =
     let l = c .before .before .before in
-    let n = next (now (l .before .before .before .args .pattern)) (l .loop .at) (c .before .next-part .result) (omega arith) (c .before .next-part .ensures) in
+    let found = c .before .next-part in
+    let n = next (now (l .before .before .before .args .pattern)) (l .loop .at) (found .result) (omega arith) (found .ensures) in
     omega arith
 
 loop-less : tie.Need-loop-less Inv-loop μ-loop
 loop-less c =
     let l = c .before .before .before in
-    let n = next (now (l .before .before .before .args .pattern)) (l .loop .at) (c .before .next-part .result) (omega arith) (c .before .next-part .ensures) in
+    let found = c .before .next-part in
+    let n = next (now (l .before .before .before .args .pattern)) (l .loop .at) (found .result) (omega arith) (found .ensures) in
     omega arith
 
 loop-again : tie.Need-loop-again Inv-loop μ-loop
 loop-again c =
     let l = c .before .before .before in
-    let n = next (now (l .before .before .before .args .pattern)) (l .loop .at) (c .before .next-part .result) (omega arith) (c .before .next-part .ensures) in
+    let found = c .before .next-part in
+    let n = next (now (l .before .before .before .args .pattern)) (l .loop .at) (found .result) (omega arith) (found .ensures) in
     filled-turn (omega arith) (omega arith) (l .loop .inv) n
 
 returns : tie.Need-returns Inv-loop μ-loop
