@@ -2,3 +2,4 @@
 pub mod numbers;
 pub mod years;
 pub mod zones;
+pub mod literals;
