@@ -17,7 +17,7 @@ use Rattle.pattern.proofs.Inside.{unescaped-turn}
 use Rattle.pattern.specs.First.{unescaped}
 
 abbrev Inv-loop : tie.InvT-loop
-Inv-loop src out₀ at next₀ i₀ out next i = 
+Inv-loop src out₀ at next₀ i₀ out next i =
     (sets out next (unescaped (drop i src)) ≡ sets out₀ at (unescaped src))
     × (next + length (unescaped (drop i src)) ≡ at + length (unescaped src))
     × (length out ≡ length out₀)
@@ -46,15 +46,21 @@ add-next c =
 bytes-of-requires : tie.Need-bytes-of-requires Inv-loop μ-loop
 bytes-of-requires c κs = search needs
 
-one-or-two : {b r : ℕ} → r ≡ when (eqb b quote) 2 1 → (1 ≤ r) × (r ≤ 2)
-one-or-two {b} e =
+one-or-two : (b : ℕ) {r : ℕ} → r ≡ when (eqb b quote) 2 1 → (1 ≤ r) × (r ≤ 2)
+one-or-two b e =
     rw e (when-is (λ (n : ℕ). (1 ≤ n) × (n ≤ 2)) (eqb b quote) (λ _. (omega arith, omega arith)) (λ _. (omega arith, omega arith)))
 
 add-i : tie.Need-add-i Inv-loop μ-loop
-add-i c = omega (arith, one-or-two (c .bytes-of .ensures))
+add-i c =
+    let L = c .before .before .before .loop in
+    let src = now (c .before .before .before .before .before .before .args .src) in
+    omega (arith, one-or-two (getD src (L .i) 0) (c .bytes-of .ensures))
 
 loop-less : tie.Need-loop-less Inv-loop μ-loop
-loop-less c = omega (arith, one-or-two (c .bytes-of .ensures))
+loop-less c =
+    let L = c .before .before .before .loop in
+    let src = now (c .before .before .before .before .before .before .args .src) in
+    omega (arith, one-or-two (getD src (L .i) 0) (c .bytes-of .ensures))
 
 loop-again : tie.Need-loop-again Inv-loop μ-loop
 loop-again c =
