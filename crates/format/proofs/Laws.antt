@@ -7,6 +7,10 @@ use lib.Dec.{eqb}
 use lib.ListN.{length, getD, take}
 use borrow.Author.Tests.{eqb-true}
 use Rattle.meaning.specs.Bytes.{quote}
+use Rattle.laws.proofs.Tests.{by-test}
+use Rattle.meaning.specs.Names.{Book}
+use Rattle.meaning.specs.Writing.{literal, endsInQuote, stepText}
+use Rattle.meaning.specs.declared.Fields.{Fields}
 use Rattle.pattern.proofs.Inside.{Lost}
 use Rattle.pattern.specs.First.{unescaped}
 use Rattle.format.specs.Literals.{openText}
@@ -18,3 +22,7 @@ open-lost s l e = rw (l .told, e) (l .rest (eqb-true (getD s (length s - 1) 0) q
 pub open-kept : (s : List ℕ) → Lost s → eqb (getD s (length s - 1) 0) quote ≡ false → openText s ≡ unescaped s
 unfolding openText
 open-kept s l e = rw (l .told, e)
+
+pub open-step : (book : Book) (f : Fields) (s : List ℕ) → stepText book f (literal (unescaped s) (endsInQuote (unescaped s))) ≡ openText s
+unfolding stepText openText
+open-step book f s = by-test (endsInQuote (unescaped s)) (λ e. rw e) (λ e. rw e)

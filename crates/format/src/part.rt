@@ -1,0 +1,77 @@
+// What a part writes, and all parts of a pattern one after the other.
+ghost use mathlib.Core.Path.{_≡_};
+ghost use Prim.Native.Nat.{_+_, _≤_};
+ghost use lib.ListN.{length};
+ghost use Rattle.laws.specs.Laid.{Laid};
+ghost use Rattle.meaning.specs.Answers.{fieldsCheck};
+ghost use Rattle.meaning.specs.Names.{english};
+ghost use Rattle.meaning.specs.Rules.{roleOf};
+ghost use Rattle.meaning.specs.Whole.{text};
+ghost use Rattle.meaning.specs.Writing.{runStep, stepOf, stepText};
+ghost use Rattle.meaning.specs.declared.Checked.the-variants.{Fine};
+ghost use Rattle.pattern.proofs.Laws.{Next};
+ghost use Rattle.pattern.specs.First.{contentOf};
+
+use crate::literals::put_open;
+use crate::literals::put_unescaped;
+use crate::numbers::put_times;
+use crate::rule::format_rule;
+use meaning::Fields;
+use meaning::Kind;
+use meaning::Pair;
+use meaning::Part;
+use meaning::Role;
+use pattern::next_part;
+use rules::role_of;
+
+fn put_run(pair: Pair, b: u8, count: usize, f: Fields, out: &mut [u8], at: usize) -> usize
+    requires { ⌜ fieldsCheck f ≡ Fine ⌝ }
+    requires { ⌜ at + length (stepText english f (runStep (roleOf pair b count) b count)) ≤ length (now out) ⌝ }
+    ensures { λ r. ⌜ Laid (now (out .entry)) (now (out .exit)) at r (stepText english f (runStep (roleOf pair b count) b count)) ⌝ }
+{
+    let role = role_of(pair, b, count);
+    match role {
+        Role::Literal => put_times(b, count, out, at),
+        Role::Symbol(rule) => format_rule(rule, f, out, at),
+    }
+}
+
+pub fn format_part(pair: Pair, pattern: &[u8], part: Part, f: Fields, out: &mut [u8], at: usize) -> usize
+    requires { ⌜ fieldsCheck f ≡ Fine ⌝ }
+    requires { ⌜ Next (now pattern) (part .start) part ⌝ }
+    requires { ⌜ at + length (stepText english f (stepOf pair (contentOf (now pattern) part))) ≤ length (now out) ⌝ }
+    ensures { λ r. ⌜ Laid (now (out .entry)) (now (out .exit)) at r (stepText english f (stepOf pair (contentOf (now (pattern .entry)) part))) ⌝ }
+{
+    let kind = part.kind;
+    let start = part.start;
+    let n = part.length;
+    match kind {
+        Kind::Run => put_run(pair, pattern[start], n, f, out, at),
+        Kind::Quotes => put_times(b'\'', n / 2, out, at),
+        Kind::Quoted => {
+            let from = start + 1;
+            let to = start + n - 1;
+            put_unescaped(&pattern[from..to], out, at)
+        }
+        Kind::Open => {
+            let from = start + 1;
+            put_open(&pattern[from..], out, at)
+        }
+    }
+}
+
+// All parts, where there is room for their text.
+pub fn format_parts(pair: Pair, pattern: &[u8], f: Fields, out: &mut [u8]) -> usize
+    requires { ⌜ fieldsCheck f ≡ Fine ⌝ }
+    requires { ⌜ length (text pair english (now pattern) f) ≤ length (now out) ⌝ }
+    ensures { λ r. ⌜ Laid (now (out .entry)) (now (out .exit)) 0 r (text pair english (now (pattern .entry)) f) ⌝ }
+{
+    let mut at = 0;
+    let mut place = 0;
+    while place < pattern.len() {
+        let part = next_part(pattern, place);
+        at = format_part(pair, pattern, part, f, out, at);
+        place += part.length;
+    }
+    at
+}
