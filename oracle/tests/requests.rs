@@ -82,6 +82,7 @@ fn a_spread_out_sample_has_every_refusal() {
     }
 }
 
+/// The sample that hold-definitions takes.
 fn spread_out_sample() -> Vec<Request> {
     let words = ["--count", "4608", "--every", "5"].map(String::from);
     let options = Options::from_args(words.into_iter()).expect("these are options");
