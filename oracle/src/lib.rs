@@ -11,6 +11,7 @@ pub mod expected;
 pub mod generator;
 pub mod limits;
 pub mod options;
+pub mod printing;
 pub mod request;
 pub mod tally;
 pub mod walk;

@@ -1,12 +1,15 @@
-//! The options that the generator and the comparer share.
+//! The options that the generator, the recorder and the comparer share.
 
 use crate::generator::Generator;
-use crate::request::Op;
+use crate::request::{Op, Request};
+use std::num::NonZeroUsize;
 use std::str::FromStr;
 
 pub struct Options {
     pub seed: u64,
     pub count: usize,
+    /// Of a longer run only each request of this step is taken.
+    pub every: NonZeroUsize,
     pub ops: Vec<Op>,
     /// A file of requests, instead of generated ones.
     pub requests: Option<String>,
@@ -19,6 +22,7 @@ impl Options {
         let mut options = Options {
             seed: 1,
             count: 1_000_000,
+            every: NonZeroUsize::MIN,
             ops: Op::ALL.to_vec(),
             requests: None,
             program: Vec::new(),
@@ -27,6 +31,7 @@ impl Options {
             match arg.as_str() {
                 "--seed" => options.seed = number(args.next())?,
                 "--count" => options.count = number(args.next())?,
+                "--every" => options.every = number(args.next())?,
                 "--ops" => options.ops = ops(&word(args.next())?)?,
                 "--requests" => options.requests = Some(word(args.next())?),
                 "--" => options.program = args.by_ref().collect(),
@@ -36,11 +41,10 @@ impl Options {
         Ok(options)
     }
 
-    /// The lines of the generated requests.
-    pub fn generated(&self) -> impl Iterator<Item = String> {
+    pub fn generated(&self) -> impl Iterator<Item = Request> {
         Generator::new(self.seed, self.ops.clone())
+            .step_by(self.every.get())
             .take(self.count)
-            .map(|request| request.to_string())
     }
 }
 
@@ -50,7 +54,8 @@ fn word(arg: Option<String>) -> Result<String, String> {
 
 fn number<T: FromStr>(arg: Option<String>) -> Result<T, String> {
     let word = word(arg)?;
-    word.parse().map_err(|_| format!("{word} is no number"))
+    word.parse()
+        .map_err(|_| format!("{word} is no number for this option"))
 }
 
 fn ops(names: &str) -> Result<Vec<Op>, String> {

@@ -3,6 +3,7 @@
 use harness::answer::answer;
 use harness::expected::{expected, Expected};
 use harness::generator::Generator;
+use harness::options::Options;
 use harness::request::{Op, Request};
 
 const FIELDS: &str = "2025 12 3 337 49 3 0 19800";
@@ -54,5 +55,45 @@ fn over_a_third_of_the_reads_are_accepted() {
             .filter(|request| matches!(expected(request), Expected::Accepted(_)))
             .count();
         assert!(accepted > 3334, "{accepted} of 10000");
+    }
+}
+
+#[test]
+fn a_spread_out_sample_has_every_symbol_at_every_usual_count() {
+    let sample = spread_out_sample();
+    for symbol in *b"GyqMwdDeabhHKkmsnXx" {
+        for count in 1..=12 {
+            let run = vec![symbol; count];
+            let is_in = sample.iter().any(|request| pattern(request) == Some(&run));
+            assert!(is_in, "{count} times {symbol}");
+        }
+    }
+}
+
+#[test]
+fn a_spread_out_sample_has_every_refusal() {
+    let answers: Vec<Expected> = spread_out_sample().iter().map(expected).collect();
+    for number in 1..=14 {
+        let start = format!("refused {number} ");
+        let is_in = answers
+            .iter()
+            .any(|answer| answer.line().starts_with(&start));
+        assert!(is_in, "refusal {number}");
+    }
+}
+
+/// The sample that hold-definitions takes.
+fn spread_out_sample() -> Vec<Request> {
+    let words = ["--count", "4608", "--every", "5"].map(String::from);
+    let options = Options::from_args(words.into_iter()).expect("these are options");
+    options.generated().collect()
+}
+
+fn pattern(request: &Request) -> Option<&Vec<u8>> {
+    match request {
+        Request::Split { pattern }
+        | Request::Write { pattern, .. }
+        | Request::Read { pattern, .. } => Some(pattern),
+        Request::ParseOffset { .. } => None,
     }
 }

@@ -8,8 +8,8 @@ use std::process::{ChildStdin, Command, ExitCode, Stdio};
 use std::sync::mpsc::{channel, Sender};
 use std::thread;
 
-const USAGE: &str =
-    "usage: compare [--seed S] [--count N] [--ops OP,OP..] [--requests FILE] -- PROGRAM [ARGS..]";
+const USAGE: &str = "usage: compare [--seed S] [--count N] [--every K] [--ops OP,OP..] \
+    [--requests FILE] -- PROGRAM [ARGS..]";
 
 fn main() -> ExitCode {
     let options = match Options::from_args(std::env::args().skip(1)) {
@@ -69,7 +69,8 @@ type Lines = Box<dyn Iterator<Item = io::Result<String>> + Send>;
 
 fn requests(options: &Options) -> io::Result<Lines> {
     let Some(path) = &options.requests else {
-        return Ok(Box::new(options.generated().map(Ok)));
+        let generated = options.generated().map(|request| Ok(request.to_string()));
+        return Ok(Box::new(generated));
     };
     let file = File::open(path).map_err(|error| about(path, error))?;
     Ok(Box::new(BufReader::new(file).lines()))
