@@ -1,7 +1,7 @@
 // Writing, document 01's column Writes: numbers out, the text of a rule and of a part, and the public writer.
 pub mod literals;
-pub mod rule;
-pub mod part;
 pub mod numbers;
+pub mod part;
+pub mod rule;
 pub mod years;
 pub mod zones;

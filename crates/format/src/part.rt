@@ -11,7 +11,6 @@ ghost use Rattle.meaning.specs.Writing.{runStep, stepOf, stepText};
 ghost use Rattle.meaning.specs.declared.Checked.the-variants.{Fine};
 ghost use Rattle.pattern.proofs.Laws.{Next};
 ghost use Rattle.pattern.specs.First.{contentOf};
-
 use crate::literals::put_open;
 use crate::literals::put_unescaped;
 use crate::numbers::put_times;
@@ -36,7 +35,14 @@ fn put_run(pair: Pair, b: u8, count: usize, f: Fields, out: &mut [u8], at: usize
     }
 }
 
-pub fn format_part(pair: Pair, pattern: &[u8], part: Part, f: Fields, out: &mut [u8], at: usize) -> usize
+pub fn format_part(
+    pair: Pair,
+    pattern: &[u8],
+    part: Part,
+    f: Fields,
+    out: &mut [u8],
+    at: usize,
+) -> usize
     requires { ⌜ fieldsCheck f ≡ Fine ⌝ }
     requires { ⌜ Next (now pattern) (part .start) part ⌝ }
     requires { ⌜ at + length (stepText english f (stepOf pair (contentOf (now pattern) part))) ≤ length (now out) ⌝ }

@@ -9,7 +9,6 @@ ghost use Rattle.meaning.specs.Bytes.{num};
 ghost use Rattle.meaning.specs.Names.{english};
 ghost use Rattle.meaning.specs.Writing.{quantityOf, nameText, ruleText};
 ghost use Rattle.meaning.specs.declared.Checked.the-variants.{Fine};
-
 use crate::numbers::put_byte;
 use crate::numbers::zero_padded;
 use crate::years::two_digit_year;

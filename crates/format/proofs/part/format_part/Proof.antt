@@ -51,7 +51,7 @@ part-put-unescaped-end c = search needs
 
 put-unescaped-requires : tie.Need-put-unescaped-requires
 unfolding stepOf stepText
-put-unescaped-requires c κs = 
+put-unescaped-requires c κs =
     let a = c .before .before .before .before .before .before .args in
     let size : a .part .start + a .part .length - 1 - (a .part .start + 1) ≡ a .part .length - 2 = omega arith in
     rw (size) (rw (c .before .before .enum-told3 .given .1) at (c .before .before .before .before .before .before .pre .1 .1))
@@ -73,14 +73,15 @@ part-put-open-end c = search needs
 
 put-open-requires : tie.Need-put-open-requires
 unfolding stepOf stepText
-put-open-requires c κs = 
+put-open-requires c κs =
     let a = c .before .before .before .before .before .before in
     let p = now (a .args .pattern) in
     let from = a .args .part .start + 1 in
-    let rest : take (length p - from) (drop from p) ≡ drop from p = take-all _ _ (rw length-drop (omega arith)) in
-    rw rest
-    (a .pre .1 .0 .lost (c .before .before .enum-told4 .given .1),
-    rw open-step at (rw (c .before .before .enum-told4 .given .1) at (a .pre .1 .1)))
+    let rest : take (length p - from) (drop from p) ≡ drop from p = take-all (length p - from) (drop from p) (rw length-drop (omega arith)) in
+    rw rest (
+      a .pre .1 .0 .lost (c .before .before .enum-told4 .given .1),
+      rw open-step at (rw (c .before .before .enum-told4 .given .1) at (a .pre .1 .1)),
+    )
 
 same-length : tie.Need-same-length
 same-length c = search needs
@@ -101,7 +102,7 @@ same-length-3 c = search needs
 
 returns-3 : tie.Need-returns-3
 unfolding stepOf stepText
-returns-3 c = 
+returns-3 c =
     let a = c .before .before .before .before .before .before .before .before .before .args in
     let size : a .part .start + a .part .length - 1 - (a .part .start + 1) ≡ a .part .length - 2 = omega arith in
     rw (c .before .before .before .before .before .enum-told3 .given .1) (rw size at (c .before .before .put-unescaped .ensures))
@@ -111,11 +112,11 @@ same-length-4 c = search needs
 
 returns-4 : tie.Need-returns-4
 unfolding stepOf stepText
-returns-4 c = 
+returns-4 c =
     let a = c .before .before .before .before .before .before .before .before .before in
     let p = now (a .args .pattern) in
     let from = a .args .part .start + 1 in
-    let rest : take (length p - from) (drop from p) ≡ drop from p = take-all _ _ (rw length-drop (omega arith)) in
+    let rest : take (length p - from) (drop from p) ≡ drop from p = take-all (length p - from) (drop from p) (rw length-drop (omega arith)) in
     rw (c .before .before .before .before .before .enum-told4 .given .1, open-step) (rw rest at (c .before .before .put-open .ensures))
 
 pub format-part-spec : {M : Type 1} → statement M

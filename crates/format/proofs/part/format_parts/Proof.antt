@@ -1,47 +1,86 @@
+-- What lies there and the text of what is left of the pattern are the whole text.
+use Prim.Native.Nat.{_+_, _-_, _≤_}
+use denote.Ref.{now}
+use lib.ListN.{length, drop, length-append}
+use lib.Seq.{sets}
+use mathlib.Core.Path.{_≡_, refl, sym, _∙_}
+use native.Mathlib.Omega.{arith}
+use Rattle.format.proofs.Laws.{text-step, text-done, starts-here}
 use Rattle.format.proofs.part.format_parts.Statement.{statement}
 use Rattle.format.proofs.part.format_parts.Tie as tie
-use Rattle.format.proofs.part.format_parts.Reads as reads
-use Rattle.format.proofs.part.format_parts.Lts as lts
-use Rattle.format.proofs.part.format_part.Reads as format-part-reads
-use Rattle.pattern.proofs.next_part.Reads as next-part-reads
+use Rattle.laws.proofs.Laid.{sets-append}
+use Rattle.meaning.specs.Names.{english}
+use Rattle.meaning.specs.Whole.{text}
+use Rattle.pattern.proofs.Laws.{next}
 
 abbrev Inv-loop : tie.InvT-loop
-Inv-loop pair pattern f out₀ at₀ place₀ out at place = ?
+Inv-loop pair pattern f out₀ at₀ place₀ out at place =
+    (sets out at (text pair english (drop place pattern) f) ≡ sets out₀ 0 (text pair english pattern f))
+    × (at + length (text pair english (drop place pattern) f) ≡ length (text pair english pattern f))
+    × (length out ≡ length out₀)
 
 abbrev μ-loop : tie.MeasureT-loop
-μ-loop pair pattern f out₀ at₀ place₀ out at place = ?
+μ-loop pair pattern f out₀ at₀ place₀ out at place = length pattern - place
 
--- src/part.rt:71:5
 loop-holds : tie.Need-loop-holds Inv-loop μ-loop
-loop-holds c = ?
+loop-holds c = (refl, omega arith, refl)
 
--- src/part.rt:72:13
 next-part-requires : tie.Need-next-part-requires Inv-loop μ-loop
-next-part-requires c κs = ?
+next-part-requires c κs = omega arith
 
--- src/part.rt:73:9
 format-part-requires : tie.Need-format-part-requires Inv-loop μ-loop
-format-part-requires c κs = ?
+format-part-requires c κs =
+    let a = c .before .before .before .before .before .before .args in
+    let p = now (a .pattern) in
+    let L = c .before .before .before .loop in
+    let part = c .before .next-part .result in
+    let n = next p (L .place) part (omega arith) (c .before .next-part .ensures) in
+    let step = text-step (a .pair) english (a .f) p (L .place) part n in
+    (c .before .before .before .before .before .before .pre .0, (starts-here n, omega (arith, rw length-append at (rw step at (L .inv .1)), L .inv .2, c .before .before .before .before .before .before .pre .1)))
 
--- src/part.rt:74:9
 add-place : tie.Need-add-place Inv-loop μ-loop
-add-place c = ?
+add-place c =
+    let a = c .before .before .before .before .before .before .before .before .before .before .args in
+    let p = now (a .pattern) in
+    let L = c .before .before .before .before .before .before .before .loop in
+    let part = c .before .before .before .before .before .next-part .result in
+    let n = next p (L .place) part (omega arith) (c .before .before .before .before .before .next-part .ensures) in
+    let step = text-step (a .pair) english (a .f) p (L .place) part n in
+    omega (arith, n .fits)
 
--- src/part.rt:71:5
 loop-less : tie.Need-loop-less Inv-loop μ-loop
-loop-less c = ?
+loop-less c =
+    let a = c .before .before .before .before .before .before .before .before .before .before .args in
+    let p = now (a .pattern) in
+    let L = c .before .before .before .before .before .before .before .loop in
+    let part = c .before .before .before .before .before .next-part .result in
+    let n = next p (L .place) part (omega arith) (c .before .before .before .before .before .next-part .ensures) in
+    let step = text-step (a .pair) english (a .f) p (L .place) part n in
+    omega (arith, n .some, n .fits)
 
--- src/part.rt:71:5
 loop-again : tie.Need-loop-again Inv-loop μ-loop
-loop-again c = ?
+loop-again c =
+    let a = c .before .before .before .before .before .before .before .before .before .before .args in
+    let p = now (a .pattern) in
+    let L = c .before .before .before .before .before .before .before .loop in
+    let part = c .before .before .before .before .before .next-part .result in
+    let n = next p (L .place) part (omega arith) (c .before .before .before .before .before .next-part .ensures) in
+    let step = text-step (a .pair) english (a .f) p (L .place) part n in
+    let wrote = c .before .before .before .format-part in (
+      rw (wrote .ensures .held, wrote .ensures .end, ← sets-append, ← step) (L .inv .0),
+      omega (arith, rw length-append at (rw step at (L .inv .1)), wrote .ensures .end),
+      wrote .kept .1 .1 .1 .1 .0 ∙ L .inv .2,
+    )
 
--- src/part.rt:64:1
 same-length : tie.Need-same-length Inv-loop μ-loop
-same-length c = ?
+same-length c = c .before .loop .inv .2
 
--- src/part.rt:64:1
 returns : tie.Need-returns Inv-loop μ-loop
-returns c = ?
+returns c =
+    let a = c .before .before .before .before .args in
+    let L = c .before .loop in
+    let none = text-done (a .pair) english (a .f) (now (a .pattern)) (L .place) (c .loop-test .left) in
+    record { end = omega (arith, rw none at (L .inv .1)); held = rw none at (L .inv .0) }
 
 pub format-parts-spec : {M : Type 1} → statement M
 format-parts-spec =

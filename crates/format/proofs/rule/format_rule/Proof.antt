@@ -53,7 +53,7 @@ enum-known-rule-6 c = search needs
 
 zero-padded-i-requires : tie.Need-zero-padded-i-requires
 unfolding ruleText
-zero-padded-i-requires c κs = 
+zero-padded-i-requires c κs =
     let a = c .before .before .before .before .before .before in
     let e = toZ-ofZ w32 (a .args .f .year) (record { sfits = c .struct-told .given .0 .1 }) in
     rw e (rw (c .before .before .before .rule6 .given .1) at (a .pre .1))
@@ -63,7 +63,7 @@ enum-known-rule-7 c = search needs
 
 zero-padded-i-requires-2 : tie.Need-zero-padded-i-requires-2
 unfolding ruleText
-zero-padded-i-requires-2 c κs = 
+zero-padded-i-requires-2 c κs =
     let a = c .before .before .before .before .before .before in
     let e = toZ-ofZ w32 (a .args .f .year) (record { sfits = c .struct-told2 .given .0 .1 }) in
     rw e (rw (c .before .before .before .rule7 .given .1) at (a .pre .1))
@@ -73,7 +73,7 @@ enum-told-2 c = search needs
 
 two-digit-year-requires : tie.Need-two-digit-year-requires
 unfolding ruleText
-two-digit-year-requires c κs = 
+two-digit-year-requires c κs =
     let a = c .before .before .before .before .before in
     let e = toZ-ofZ w32 (a .args .f .year) (record { sfits = c .struct-told3 .given .0 .1 }) in
     rw e (rw (c .before .before .enum-told2 .given .1) at (a .pre .1))
@@ -83,7 +83,7 @@ enum-known-rule-8 c = search needs
 
 format-zone-requires : tie.Need-format-zone-requires
 unfolding ruleText
-format-zone-requires c κs = 
+format-zone-requires c κs =
     let a = c .before .before .before .before .before .before in
     let e = toZ-ofZ w32 (a .args .f .offset) (record { sfits = c .struct-told4 .given .1 .1 .1 .1 .1 .1 .1 .0 .1 }) in
     rw e (rw (c .before .before .before .rule8 .given .1) at (a .pre .1))
@@ -135,7 +135,7 @@ same-length-7 c = search needs
 
 returns-7 : tie.Need-returns-7
 unfolding ruleText
-returns-7 c = 
+returns-7 c =
     let a = c .before .before .before .before .before .before .before .before .before in
     let e = toZ-ofZ w32 (a .args .f .year) (record { sfits = c .before .before .before .struct-told .given .0 .1 }) in
     rw (c .before .before .before .before .before .before .rule6 .given .1) (rw e at (c .before .before .zero-padded-i .ensures))
@@ -145,7 +145,7 @@ same-length-8 c = search needs
 
 returns-8 : tie.Need-returns-8
 unfolding ruleText
-returns-8 c = 
+returns-8 c =
     let a = c .before .before .before .before .before .before .before .before .before in
     let e = toZ-ofZ w32 (a .args .f .year) (record { sfits = c .before .before .before .struct-told2 .given .0 .1 }) in
     rw (c .before .before .before .before .before .before .rule7 .given .1) (rw e at (c .before .before .zero-padded-i2 .ensures))
@@ -155,7 +155,7 @@ same-length-9 c = search needs
 
 returns-9 : tie.Need-returns-9
 unfolding ruleText
-returns-9 c = 
+returns-9 c =
     let a = c .before .before .before .before .before .before .before .before in
     let e = toZ-ofZ w32 (a .args .f .year) (record { sfits = c .before .before .before .struct-told3 .given .0 .1 }) in
     rw (c .before .before .before .before .before .enum-told2 .given .1) (rw e at (c .before .before .two-digit-year .ensures))
@@ -165,7 +165,7 @@ same-length-10 c = search needs
 
 returns-10 : tie.Need-returns-10
 unfolding ruleText
-returns-10 c = 
+returns-10 c =
     let a = c .before .before .before .before .before .before .before .before .before in
     let e = toZ-ofZ w32 (a .args .f .offset) (record { sfits = c .before .before .before .struct-told4 .given .1 .1 .1 .1 .1 .1 .1 .0 .1 }) in
     rw (c .before .before .before .before .before .before .rule8 .given .1) (rw e at (c .before .before .format-zone .ensures))

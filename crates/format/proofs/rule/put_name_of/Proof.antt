@@ -11,7 +11,7 @@ place-of-requires c κs = search needs
 
 format-name-requires : tie.Need-format-name-requires
 unfolding nameText
-format-name-requires c κs = 
+format-name-requires c κs =
     let a = c .before .before .before in
     rw (c .before .place-of .ensures) (place-there (a .args .names) (a .args .f) (allowed (a .args .f) (a .pre .0)), a .pre .1)
 
