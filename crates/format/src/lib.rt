@@ -3,5 +3,6 @@ pub mod literals;
 pub mod numbers;
 pub mod part;
 pub mod rule;
+pub mod writer;
 pub mod years;
 pub mod zones;

@@ -17,6 +17,7 @@ use Rattle.meaning.specs.declared.Quantity.{Quantity}
 use Rattle.meaning.specs.declared.Quantity.the-variants.{Month, Quarter, Week, Day, DayOfYear, Weekday, WeekdayFromMonday, Hour1To12, Hour0To11, Hour0To23, Hour1To24, Minute, Second, Fraction}
 use Rattle.meaning.specs.declared.Refusal.{Refusal}
 use Rattle.laws.specs.Widths.{mostDigits}
+use Rattle.laws.proofs.Checks.{else-fine, fine-unless}
 use Rattle.laws.proofs.Tests.{by-test, both-true}
 
 pub record Allowed (f : Fields) : Type 0 where
@@ -28,15 +29,6 @@ pub record Allowed (f : Fields) : Type 0 where
   pub wday : f .wday ≤ 6
   pub nanos : f .nanos ≤ 86399999999999
   pub offset : natAbs (f .offset) ≤ 86399
-
--- both checks are fine where the first that refuses is none
-pub else-fine : (a b : Checked) → (a else b) ≡ Fine → (a ≡ Fine) × (b ≡ Fine)
-else-fine Fine b h = (refl, h)
-else-fine (Refused why) b h = absurd (let z : _≡_ {A = ℕ} 0 1 = cc in omega arith)
-
-pub fine-unless : (t : Bool) (why : Refusal) → refuseUnless t why ≡ Fine → t ≡ true
-fine-unless true why h = refl
-fine-unless false why h = absurd (let z : _≡_ {A = ℕ} 0 1 = cc in omega arith)
 
 -- a bound of a field, and the checks behind it
 in-range : (low high n : ℕ) (why : Refusal) (next : Checked) → (refuseUnless (within low high n) why else next) ≡ Fine

@@ -4,6 +4,7 @@ pub mod Digits
 pub mod Readers
 pub mod Numbers
 pub mod Names
+pub mod Checks
 pub mod Fields
 pub mod Places
 pub mod Texts

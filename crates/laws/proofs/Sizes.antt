@@ -32,8 +32,9 @@ use Rattle.meaning.specs.declared.Role.the-variants as role
 use Rattle.meaning.specs.declared.Rule.{Rule}
 use Rattle.meaning.specs.declared.Rule.the-variants.{Number, SkippedNumber, LetterQuarter, SkippedName, MatchedName, Letters, Years, FixedYear, TwoDigitYear, Zone}
 use Rattle.laws.specs.Widths.{mostDigits, longest, groupMost, mostBytes}
+use Rattle.laws.proofs.Checks.{else-fine, fine-unless}
 use Rattle.laws.proofs.Digits.{length-num, num-fits, width-at-most}
-use Rattle.laws.proofs.Fields.{Allowed, allowed, quantity-below, else-fine, fine-unless}
+use Rattle.laws.proofs.Fields.{Allowed, allowed, quantity-below}
 use Rattle.laws.proofs.Splitting.{total, parts-fill, isSome, runs-are-some}
 use Rattle.laws.proofs.Tests.{by-test, both-true, every, when-is, true-is-not-false}
 

@@ -1,0 +1,16 @@
+// The Date pair, Date::format and Date::parse of the Rust: the same walk with time symbols as plain literals.
+ghost use mathlib.Core.Path.{_≡_};
+ghost use Rattle.meaning.specs.Names.{english};
+ghost use Rattle.meaning.specs.Whole.{write, output};
+
+use format::writer::format_with;
+use meaning::Fields;
+use meaning::Pair;
+use meaning::Wrote;
+
+// The Date pair's writer.
+pub fn format(pattern: &[u8], f: Fields, out: &mut [u8]) -> Wrote
+    ensures { λ r. ⌜ (r ≡ write Pair.Date english (now (pattern .entry)) f (now (out .entry))) × (now (out .exit) ≡ output Pair.Date english (now (pattern .entry)) f (now (out .entry))) ⌝ }
+{
+    format_with(Pair::Date, pattern, f, out)
+}
