@@ -27,7 +27,7 @@ all-short [] t i h = absurd (omega arith)
 all-short (n ∷ lens) t zero h = leb→le n rowWidth (both-tests (leb n rowWidth) (allShort lens) t .0)
 all-short (n ∷ lens) t (suc i) h = all-short lens (both-tests (leb n rowWidth) (allShort lens) t .1) i (omega arith)
 
-pub table-length : (rows lens : List ℕ) → length (table rows lens) ≡ length lens
+table-length : (rows lens : List ℕ) → length (table rows lens) ≡ length lens
 table-length rows [] = refl
 table-length rows (n ∷ lens) = ap suc (table-length (drop rowWidth rows) lens)
 
