@@ -14,7 +14,7 @@ use Rattle.laws.proofs.Tests.{when-true, when-false}
 use Rattle.meaning.specs.Bytes.{both, when}
 use Rattle.meaning.specs.Readers.{begins, firstName, got, stopped}
 use Rattle.meaning.specs.declared.Trouble.the-variants.{NoName}
-use Rattle.constants.specs.Table.{table, tableOk, allShort}
+use Rattle.constants.specs.Table.{rowWidth, table, nameAt, tableOk, allShort}
 
 -- ---- what a row holds
 
@@ -22,31 +22,31 @@ both-tests : (a b : Bool) → T (both a b) → T a × T b
 both-tests true b t = (tt, t)
 both-tests false b t = absurd t
 
-all-short : (lens : List ℕ) → T (allShort lens) → (i : ℕ) → i < length lens → getD lens i 0 ≤ 20
+all-short : (lens : List ℕ) → T (allShort lens) → (i : ℕ) → i < length lens → getD lens i 0 ≤ rowWidth
 all-short [] t i h = absurd (omega arith)
-all-short (n ∷ lens) t zero h = leb→le n 20 (both-tests (leb n 20) (allShort lens) t .0)
-all-short (n ∷ lens) t (suc i) h = all-short lens (both-tests (leb n 20) (allShort lens) t .1) i (omega arith)
+all-short (n ∷ lens) t zero h = leb→le n rowWidth (both-tests (leb n rowWidth) (allShort lens) t .0)
+all-short (n ∷ lens) t (suc i) h = all-short lens (both-tests (leb n rowWidth) (allShort lens) t .1) i (omega arith)
 
-pub table-length : (rows lens : List ℕ) → length (table rows lens) ≡ length lens
+table-length : (rows lens : List ℕ) → length (table rows lens) ≡ length lens
 table-length rows [] = refl
-table-length rows (n ∷ lens) = ap suc (table-length (drop 20 rows) lens)
+table-length rows (n ∷ lens) = ap suc (table-length (drop rowWidth rows) lens)
 
-table-at : (rows lens : List ℕ) (i : ℕ) → i < length lens → getD (table rows lens) i [] ≡ take (getD lens i 0) (drop (i * 20) rows)
+table-at : (rows lens : List ℕ) (i : ℕ) → i < length lens → nameAt rows lens i ≡ take (getD lens i 0) (drop (i * rowWidth) rows)
 table-at rows [] i h = absurd (omega arith)
 table-at rows (n ∷ lens) zero h = refl
 table-at rows (n ∷ lens) (suc i) h =
-    let e : 20 + i * 20 ≡ suc i * 20 = omega arith in
-    table-at (drop 20 rows) lens i (omega arith) ∙ rw (drop-drop, e)
+    let e : rowWidth + i * rowWidth ≡ suc i * rowWidth = omega arith in
+    table-at (drop rowWidth rows) lens i (omega arith) ∙ rw (drop-drop, e)
 
 pub record Row (rows lens : List ℕ) (i : ℕ) : Type 0 where
-  pub inside : i * 20 + getD lens i 0 ≤ length rows
-  pub size : length (getD (table rows lens) i []) ≡ getD lens i 0
-  pub byte : (j : ℕ) → j < getD lens i 0 → getD (getD (table rows lens) i []) j 0 ≡ getD rows (i * 20 + j) 0
+  pub inside : i * rowWidth + getD lens i 0 ≤ length rows
+  pub size : length (nameAt rows lens i) ≡ getD lens i 0
+  pub byte : (j : ℕ) → j < getD lens i 0 → getD (nameAt rows lens i) j 0 ≡ getD rows (i * rowWidth + j) 0
 
 pub row : (rows lens : List ℕ) (i : ℕ) → T (tableOk rows lens) → i < length lens → Row rows lens i
 row rows lens i t h =
-    let both′ = both-tests (eqb (length rows) (length lens * 20)) (allShort lens) t in
-    let long = eqb→eq (length rows) (length lens * 20) (both′ .0) in
+    let both′ = both-tests (eqb (length rows) (length lens * rowWidth)) (allShort lens) t in
+    let long = eqb→eq (length rows) (length lens * rowWidth) (both′ .0) in
     let short = all-short lens (both′ .1) i h in
     record {
       inside = omega arith;
@@ -87,7 +87,7 @@ module _ (name s : List ℕ) (j : ℕ) where
 
 module _ (rows lens s : List ℕ) (i : ℕ) where
   abbrev name : List ℕ
-  name = getD (table rows lens) i []
+  name = nameAt rows lens i
 
   step : i < length lens → firstName i (drop i (table rows lens)) s
       ≡ when (begins name s) (got (length name) i) (firstName (i + 1) (drop (i + 1) (table rows lens)) s)

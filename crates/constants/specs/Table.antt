@@ -1,26 +1,34 @@
--- Names held as rows of 20 bytes with their lengths beside them, and what a match in such a table finds.
+-- Names held as rows of one width with their lengths beside them, and what a match in such a table finds.
 use mathlib.Core.Bool.{Bool, true, false}
 use mathlib.Core.List.{List, [], _∷_}
 use Prim.Native.Nat.{ℕ, _*_}
 use lib.Dec.{eqb, leb}
-use lib.ListN.{length, take, drop}
+use lib.ListN.{length, take, drop, getD}
 use Rattle.meaning.specs.Bytes.{both}
 use Rattle.meaning.specs.Readers.{Got, got, stopped}
 use Rattle.constants.specs.declared.Found.{Found}
 use Rattle.constants.specs.declared.Found.the-variants.{Name, Nothing}
 
+-- the bytes of a row: no name has more
+abbrev pub rowWidth : ℕ
+rowWidth = 20
+
 -- the names that the rows hold
 abbrev pub table : List ℕ → List ℕ → List (List ℕ)
 table rows [] = []
-table rows (n ∷ lens) = take n rows ∷ table (drop 20 rows) lens
+table rows (n ∷ lens) = take n rows ∷ table (drop rowWidth rows) lens
+
+-- the name at an index, none past the last
+abbrev pub nameAt : List ℕ → List ℕ → ℕ → List ℕ
+nameAt rows lens i = getD (table rows lens) i []
 
 abbrev pub allShort : List ℕ → Bool
 allShort [] = true
-allShort (n ∷ lens) = both (leb n 20) (allShort lens)
+allShort (n ∷ lens) = both (leb n rowWidth) (allShort lens)
 
 -- a row for each length, and no length above a row's: computed where a table is written out
 abbrev pub tableOk : List ℕ → List ℕ → Bool
-tableOk rows lens = both (eqb (length rows) (length lens * 20)) (allShort lens)
+tableOk rows lens = both (eqb (length rows) (length lens * rowWidth)) (allShort lens)
 
 -- what a match gives, as the matcher answers it
 abbrev pub foundIn : Got ℕ → Found

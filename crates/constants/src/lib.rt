@@ -1,4 +1,4 @@
-// The English names of document 01, one matcher of a name at the front of a text and one writer of a name.
+// The English names of document 01: a matcher and a writer over any table of names, and over its lists of names.
 mod rows;
 
 ghost use mathlib.Core.List.{[]};
@@ -9,16 +9,17 @@ ghost use lib.ListN.{length, getD};
 ghost use Rattle.laws.specs.Laid.{Laid};
 ghost use Rattle.meaning.specs.Names.{names, english};
 ghost use Rattle.meaning.specs.Readers.{matchName};
-ghost use Rattle.constants.specs.Table.{tableOk, table, foundIn};
+ghost use Rattle.constants.specs.Table.{table, nameAt, tableOk, foundIn};
 use meaning::NameList;
+use rows::ROW_WIDTH;
 
-// What a match finds: which name of the list begins the text, and its length.
+// The name that begins a text, or none.
 pub enum Found {
     Name { index: usize, length: usize },
     Nothing,
 }
 
-// "the first name in the table order that begins the text"
+// "takes the first name in the table order that begins the text"
 pub fn first_name(rows: &[u8], lens: &[u8], text: &[u8]) -> Found
     requires { ⌜ T (tableOk (now rows) (now lens)) ⌝ }
     ensures { λ r. ⌜ r ≡ foundIn (matchName (table (now (rows .entry)) (now (lens .entry))) (now (text .entry))) ⌝ }
@@ -27,7 +28,7 @@ pub fn first_name(rows: &[u8], lens: &[u8], text: &[u8]) -> Found
         let length = lens[index] as usize;
         if length <= text.len() {
             for j in 0..length {
-                if rows[index * 20 + j] != text[j] {
+                if rows[index * ROW_WIDTH + j] != text[j] {
                     continue 'names;
                 }
             }
@@ -37,21 +38,21 @@ pub fn first_name(rows: &[u8], lens: &[u8], text: &[u8]) -> Found
     Found::Nothing
 }
 
-// The name at an index, written at a place.
+// Writes a name at a place and gives the next place.
 pub fn put_name(rows: &[u8], lens: &[u8], index: usize, out: &mut [u8], at: usize) -> usize
     requires { ⌜ T (tableOk (now rows) (now lens)) ⌝ }
     requires { ⌜ index < length (now lens) ⌝ }
-    requires { ⌜ at + length (getD (table (now rows) (now lens)) index []) ≤ length (now out) ⌝ }
-    ensures { λ r. ⌜ Laid (now (out .entry)) (now (out .exit)) at r (getD (table (now (rows .entry)) (now (lens .entry))) index []) ⌝ }
+    requires { ⌜ at + length (nameAt (now rows) (now lens) index) ≤ length (now out) ⌝ }
+    ensures { λ r. ⌜ Laid (now (out .entry)) (now (out .exit)) at r (nameAt (now (rows .entry)) (now (lens .entry)) index) ⌝ }
 {
     let size = lens[index] as usize;
     for j in 0..size {
-        out[at + j] = rows[index * 20 + j];
+        out[at + j] = rows[index * ROW_WIDTH + j];
     }
     at + size
 }
 
-// The length of the name at an index, and 0 past the last.
+// A name's length, and 0 past the last name.
 pub fn name_length(lens: &[u8], index: usize) -> usize
     ensures { λ r. ⌜ r ≡ getD (now (lens .entry)) index 0 ⌝ }
 {
@@ -62,9 +63,11 @@ pub fn name_length(lens: &[u8], index: usize) -> usize
     }
 }
 
+// The first name of a list that begins the text.
 pub fn match_name(list: NameList, text: &[u8]) -> Found
     ensures { λ r. ⌜ r ≡ foundIn (matchName (names english list) (now (text .entry))) ⌝ }
 {
+    // A constant that is lent without a `let` is laid out before the match, with those of every other arm.
     match list {
         NameList::EraAbbreviated => {
             let rows = rows::ERA_ABBREVIATED;
@@ -164,6 +167,7 @@ pub fn match_name(list: NameList, text: &[u8]) -> Found
     }
 }
 
+// Writes a name of a list at a place and gives the next place.
 pub fn format_name(list: NameList, index: usize, out: &mut [u8], at: usize) -> usize
     requires { ⌜ index < length (names english list) ⌝ }
     requires { ⌜ at + length (getD (names english list) index []) ≤ length (now out) ⌝ }
@@ -171,183 +175,126 @@ pub fn format_name(list: NameList, index: usize, out: &mut [u8], at: usize) -> u
 {
     match list {
         NameList::EraAbbreviated => {
-            let rows = rows::ERA_ABBREVIATED;
-            let lens = rows::ERA_ABBREVIATED_LENS;
-            put_name(&rows, &lens, index, out, at)
+            let names = rows::ERA_ABBREVIATED;
+            let lengths = rows::ERA_ABBREVIATED_LENS;
+            put_name(&names, &lengths, index, out, at)
         }
         NameList::EraNarrow => {
-            let rows = rows::ERA_NARROW;
-            let lens = rows::ERA_NARROW_LENS;
-            put_name(&rows, &lens, index, out, at)
+            let names = rows::ERA_NARROW;
+            let lengths = rows::ERA_NARROW_LENS;
+            put_name(&names, &lengths, index, out, at)
         }
         NameList::EraWide => {
-            let rows = rows::ERA_WIDE;
-            let lens = rows::ERA_WIDE_LENS;
-            put_name(&rows, &lens, index, out, at)
+            let names = rows::ERA_WIDE;
+            let lengths = rows::ERA_WIDE_LENS;
+            put_name(&names, &lengths, index, out, at)
         }
         NameList::QuarterWide => {
-            let rows = rows::QUARTER_WIDE;
-            let lens = rows::QUARTER_WIDE_LENS;
-            put_name(&rows, &lens, index, out, at)
+            let names = rows::QUARTER_WIDE;
+            let lengths = rows::QUARTER_WIDE_LENS;
+            put_name(&names, &lengths, index, out, at)
         }
         NameList::MonthAbbreviated => {
-            let rows = rows::MONTH_ABBREVIATED;
-            let lens = rows::MONTH_ABBREVIATED_LENS;
-            put_name(&rows, &lens, index, out, at)
+            let names = rows::MONTH_ABBREVIATED;
+            let lengths = rows::MONTH_ABBREVIATED_LENS;
+            put_name(&names, &lengths, index, out, at)
         }
         NameList::MonthWide => {
-            let rows = rows::MONTH_WIDE;
-            let lens = rows::MONTH_WIDE_LENS;
-            put_name(&rows, &lens, index, out, at)
+            let names = rows::MONTH_WIDE;
+            let lengths = rows::MONTH_WIDE_LENS;
+            put_name(&names, &lengths, index, out, at)
         }
         NameList::MonthNarrow => {
-            let rows = rows::MONTH_NARROW;
-            let lens = rows::MONTH_NARROW_LENS;
-            put_name(&rows, &lens, index, out, at)
+            let names = rows::MONTH_NARROW;
+            let lengths = rows::MONTH_NARROW_LENS;
+            put_name(&names, &lengths, index, out, at)
         }
         NameList::WdayAbbreviated => {
-            let rows = rows::WDAY_ABBREVIATED;
-            let lens = rows::WDAY_ABBREVIATED_LENS;
-            put_name(&rows, &lens, index, out, at)
+            let names = rows::WDAY_ABBREVIATED;
+            let lengths = rows::WDAY_ABBREVIATED_LENS;
+            put_name(&names, &lengths, index, out, at)
         }
         NameList::WdayWide => {
-            let rows = rows::WDAY_WIDE;
-            let lens = rows::WDAY_WIDE_LENS;
-            put_name(&rows, &lens, index, out, at)
+            let names = rows::WDAY_WIDE;
+            let lengths = rows::WDAY_WIDE_LENS;
+            put_name(&names, &lengths, index, out, at)
         }
         NameList::WdayNarrow => {
-            let rows = rows::WDAY_NARROW;
-            let lens = rows::WDAY_NARROW_LENS;
-            put_name(&rows, &lens, index, out, at)
+            let names = rows::WDAY_NARROW;
+            let lengths = rows::WDAY_NARROW_LENS;
+            put_name(&names, &lengths, index, out, at)
         }
         NameList::WdayShort => {
-            let rows = rows::WDAY_SHORT;
-            let lens = rows::WDAY_SHORT_LENS;
-            put_name(&rows, &lens, index, out, at)
+            let names = rows::WDAY_SHORT;
+            let lengths = rows::WDAY_SHORT_LENS;
+            put_name(&names, &lengths, index, out, at)
         }
         NameList::PeriodUpper => {
-            let rows = rows::PERIOD_LETTERS;
-            let lens = rows::PERIOD_LETTERS_LENS;
-            put_name(&rows, &lens, index, out, at)
+            let names = rows::PERIOD_LETTERS;
+            let lengths = rows::PERIOD_LETTERS_LENS;
+            put_name(&names, &lengths, index, out, at)
         }
         NameList::PeriodLower => {
-            let rows = rows::PERIOD_LETTERS;
-            let lens = rows::PERIOD_LETTERS_LENS;
-            put_name(&rows, &lens, index, out, at)
+            let names = rows::PERIOD_LETTERS;
+            let lengths = rows::PERIOD_LETTERS_LENS;
+            put_name(&names, &lengths, index, out, at)
         }
         NameList::PeriodDotted => {
-            let rows = rows::PERIOD_DOTTED;
-            let lens = rows::PERIOD_DOTTED_LENS;
-            put_name(&rows, &lens, index, out, at)
+            let names = rows::PERIOD_DOTTED;
+            let lengths = rows::PERIOD_DOTTED_LENS;
+            put_name(&names, &lengths, index, out, at)
         }
         NameList::PeriodLetter => {
-            let rows = rows::PERIOD_LETTER;
-            let lens = rows::PERIOD_LETTER_LENS;
-            put_name(&rows, &lens, index, out, at)
+            let names = rows::PERIOD_LETTER;
+            let lengths = rows::PERIOD_LETTER_LENS;
+            put_name(&names, &lengths, index, out, at)
         }
         NameList::NoonUpper => {
-            let rows = rows::NOON_WORDS;
-            let lens = rows::NOON_WORDS_LENS;
-            put_name(&rows, &lens, index, out, at)
+            let names = rows::NOON_WORDS;
+            let lengths = rows::NOON_WORDS_LENS;
+            put_name(&names, &lengths, index, out, at)
         }
         NameList::NoonLower => {
-            let rows = rows::NOON_WORDS;
-            let lens = rows::NOON_WORDS_LENS;
-            put_name(&rows, &lens, index, out, at)
+            let names = rows::NOON_WORDS;
+            let lengths = rows::NOON_WORDS_LENS;
+            put_name(&names, &lengths, index, out, at)
         }
         NameList::NoonDotted => {
-            let rows = rows::NOON_DOTTED;
-            let lens = rows::NOON_DOTTED_LENS;
-            put_name(&rows, &lens, index, out, at)
+            let names = rows::NOON_DOTTED;
+            let lengths = rows::NOON_DOTTED_LENS;
+            put_name(&names, &lengths, index, out, at)
         }
         NameList::NoonLetter => {
-            let rows = rows::NOON_LETTER;
-            let lens = rows::NOON_LETTER_LENS;
-            put_name(&rows, &lens, index, out, at)
+            let names = rows::NOON_LETTER;
+            let lengths = rows::NOON_LETTER_LENS;
+            put_name(&names, &lengths, index, out, at)
         }
     }
 }
 
-// The length of a name of a list, and 0 past its last.
+// The length of a name of a list, and 0 past its last name.
 pub fn length_of_name(list: NameList, index: usize) -> usize
     ensures { λ r. ⌜ r ≡ length (getD (names english list) index []) ⌝ }
 {
     match list {
-        NameList::EraAbbreviated => {
-            let lens = rows::ERA_ABBREVIATED_LENS;
-            name_length(&lens, index)
-        }
-        NameList::EraNarrow => {
-            let lens = rows::ERA_NARROW_LENS;
-            name_length(&lens, index)
-        }
-        NameList::EraWide => {
-            let lens = rows::ERA_WIDE_LENS;
-            name_length(&lens, index)
-        }
-        NameList::QuarterWide => {
-            let lens = rows::QUARTER_WIDE_LENS;
-            name_length(&lens, index)
-        }
-        NameList::MonthAbbreviated => {
-            let lens = rows::MONTH_ABBREVIATED_LENS;
-            name_length(&lens, index)
-        }
-        NameList::MonthWide => {
-            let lens = rows::MONTH_WIDE_LENS;
-            name_length(&lens, index)
-        }
-        NameList::MonthNarrow => {
-            let lens = rows::MONTH_NARROW_LENS;
-            name_length(&lens, index)
-        }
-        NameList::WdayAbbreviated => {
-            let lens = rows::WDAY_ABBREVIATED_LENS;
-            name_length(&lens, index)
-        }
-        NameList::WdayWide => {
-            let lens = rows::WDAY_WIDE_LENS;
-            name_length(&lens, index)
-        }
-        NameList::WdayNarrow => {
-            let lens = rows::WDAY_NARROW_LENS;
-            name_length(&lens, index)
-        }
-        NameList::WdayShort => {
-            let lens = rows::WDAY_SHORT_LENS;
-            name_length(&lens, index)
-        }
-        NameList::PeriodUpper => {
-            let lens = rows::PERIOD_LETTERS_LENS;
-            name_length(&lens, index)
-        }
-        NameList::PeriodLower => {
-            let lens = rows::PERIOD_LETTERS_LENS;
-            name_length(&lens, index)
-        }
-        NameList::PeriodDotted => {
-            let lens = rows::PERIOD_DOTTED_LENS;
-            name_length(&lens, index)
-        }
-        NameList::PeriodLetter => {
-            let lens = rows::PERIOD_LETTER_LENS;
-            name_length(&lens, index)
-        }
-        NameList::NoonUpper => {
-            let lens = rows::NOON_WORDS_LENS;
-            name_length(&lens, index)
-        }
-        NameList::NoonLower => {
-            let lens = rows::NOON_WORDS_LENS;
-            name_length(&lens, index)
-        }
-        NameList::NoonDotted => {
-            let lens = rows::NOON_DOTTED_LENS;
-            name_length(&lens, index)
-        }
-        NameList::NoonLetter => {
-            let lens = rows::NOON_LETTER_LENS;
-            name_length(&lens, index)
-        }
+        NameList::EraAbbreviated => name_length(&rows::ERA_ABBREVIATED_LENS, index),
+        NameList::EraNarrow => name_length(&rows::ERA_NARROW_LENS, index),
+        NameList::EraWide => name_length(&rows::ERA_WIDE_LENS, index),
+        NameList::QuarterWide => name_length(&rows::QUARTER_WIDE_LENS, index),
+        NameList::MonthAbbreviated => name_length(&rows::MONTH_ABBREVIATED_LENS, index),
+        NameList::MonthWide => name_length(&rows::MONTH_WIDE_LENS, index),
+        NameList::MonthNarrow => name_length(&rows::MONTH_NARROW_LENS, index),
+        NameList::WdayAbbreviated => name_length(&rows::WDAY_ABBREVIATED_LENS, index),
+        NameList::WdayWide => name_length(&rows::WDAY_WIDE_LENS, index),
+        NameList::WdayNarrow => name_length(&rows::WDAY_NARROW_LENS, index),
+        NameList::WdayShort => name_length(&rows::WDAY_SHORT_LENS, index),
+        NameList::PeriodUpper => name_length(&rows::PERIOD_LETTERS_LENS, index),
+        NameList::PeriodLower => name_length(&rows::PERIOD_LETTERS_LENS, index),
+        NameList::PeriodDotted => name_length(&rows::PERIOD_DOTTED_LENS, index),
+        NameList::PeriodLetter => name_length(&rows::PERIOD_LETTER_LENS, index),
+        NameList::NoonUpper => name_length(&rows::NOON_WORDS_LENS, index),
+        NameList::NoonLower => name_length(&rows::NOON_WORDS_LENS, index),
+        NameList::NoonDotted => name_length(&rows::NOON_DOTTED_LENS, index),
+        NameList::NoonLetter => name_length(&rows::NOON_LETTER_LENS, index),
     }
 }

@@ -1,3 +1,8 @@
+// The names of document 01, from constants.rs where it has them: rows of one width, filled up with `_`, with the lengths beside.
+
+// The longest name that a table can hold.
+pub const ROW_WIDTH: usize = 20;
+
 pub const MONTH_WIDE: [u8; 240] = *b"\
     January_____________\
     February____________\

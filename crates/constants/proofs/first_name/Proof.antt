@@ -1,22 +1,21 @@
-use mathlib.Core.List.{List, []}
-use mathlib.Core.Path.{_≡_, refl, sym, ap, _∙_}
-use Prim.Native.Nat.{ℕ, _+_, _≤_, _<_, _-_, _*_}
+-- `constants::first_name` meets its contract. The loop over names keeps the match that remains, the loop over bytes the
+-- comparison that remains and what the name's row holds.
+use mathlib.Core.Path.{_≡_, refl, sym, _∙_}
+use Prim.Native.Nat.{_≤_, _<_, _-_}
 use native.Mathlib.Omega.{arith}
 use borrow.Author.Needs.{needs}
 use denote.Ref.{now}
-use lib.ListN.{length, getD, drop}
+use lib.ListN.{length, drop}
 use Rattle.meaning.specs.Readers.{begins, firstName, matchName}
-use Rattle.constants.specs.Table.{table, foundIn}
+use Rattle.constants.specs.Table.{table, nameAt}
 use Rattle.constants.proofs.Laws.{Row, row, too-long, same-byte, other-byte, all-bytes, this-name, next-name, no-name}
 use Rattle.constants.proofs.first_name.Statement.{statement}
 use Rattle.constants.proofs.first_name.Tie as tie
-use Rattle.constants.proofs.first_name.Reads as reads
-use Rattle.constants.proofs.first_name.Lts as lts
 
 abbrev Inv-loop : tie.InvT-loop
 Inv-loop rows lens text index₀ size j₀ index-end index j =
     (index ≡ index₀) × (j ≤ size) × (Row rows lens index₀)
-    × (begins (getD (table rows lens) index₀ []) text ≡ begins (drop j (getD (table rows lens) index₀ [])) (drop j text))
+    × (begins (nameAt rows lens index₀) text ≡ begins (drop j (nameAt rows lens index₀)) (drop j text))
 
 abbrev μ-loop : tie.MeasureT-loop
 μ-loop rows lens text index₀ size j₀ index-end index j = size - j
@@ -118,7 +117,7 @@ names-again-2 c =
     let o = c .before .before in
     let a = o .before .before .args in
     let at = row (now (a .rows)) (now (a .lens)) (o .before .names .index) (o .before .before .pre) (o .names-test .taken) in
-    let h : length (now (a .text)) < length (getD (table (now (a .rows)) (now (a .lens))) (o .before .names .index) []) = omega arith in
+    let h : length (now (a .text)) < length (nameAt (now (a .rows)) (now (a .lens)) (o .before .names .index)) = omega arith in
     (search needs, o .before .names .inv .1 ∙ next-name (now (a .rows)) (now (a .lens)) (now (a .text)) _ (o .names-test .taken) (too-long _ _ h))
 
 returns-2 : tie.Need-returns-2 Inv-loop μ-loop Inv-names μ-names

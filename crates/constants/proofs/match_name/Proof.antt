@@ -1,4 +1,5 @@
--- `constants::match_name` meets its contract: in each arm the table computes to the list's names.
+-- `constants::match_name` meets its contract: in each arm the table computes to the list's names. The answers stand arm by arm,
+-- first those up to the call, then those of the return.
 use borrow.Author.Needs.{needs}
 use Rattle.meaning.specs.Bytes.{bytes}
 use Rattle.meaning.specs.Names.{names, english}

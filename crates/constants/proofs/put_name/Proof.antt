@@ -1,24 +1,21 @@
-use mathlib.Core.List.{[]}
-use mathlib.Core.Path.{_≡_, refl, sym, ap, _∙_}
-use Prim.Native.Nat.{ℕ, _+_, _≤_, _<_, _-_, _*_}
+-- `constants::put_name` meets its contract. The loop keeps the bytes that remain to be laid and what the name's row holds.
+use mathlib.Core.Path.{_≡_, refl, sym, _∙_}
+use Prim.Native.Nat.{_+_, _≤_, _-_}
 use native.Mathlib.Nat.{add-zero}
 use native.Mathlib.Omega.{arith}
 use borrow.Author.Needs.{needs}
-use denote.Ref.{now}
-use lib.ListN.{length, getD, drop, length-set}
+use lib.ListN.{length, drop, length-set}
 use lib.Seq.{sets}
 use Rattle.laws.proofs.Laid.{lay-next, lay-done}
-use Rattle.constants.specs.Table.{table}
+use Rattle.constants.specs.Table.{nameAt}
 use Rattle.constants.proofs.Laws.{Row, row}
 use Rattle.constants.proofs.put_name.Statement.{statement}
 use Rattle.constants.proofs.put_name.Tie as tie
-use Rattle.constants.proofs.put_name.Reads as reads
-use Rattle.constants.proofs.put_name.Lts as lts
 
 abbrev Inv-loop : tie.InvT-loop
 Inv-loop rows lens index out₀ at size j₀ out j =
     (j ≤ size) × (length out ≡ length out₀) × (Row rows lens index)
-    × (sets out (at + j) (drop j (getD (table rows lens) index [])) ≡ sets out₀ at (getD (table rows lens) index []))
+    × (sets out (at + j) (drop j (nameAt rows lens index)) ≡ sets out₀ at (nameAt rows lens index))
 
 abbrev μ-loop : tie.MeasureT-loop
 μ-loop rows lens index out₀ at size j₀ out j = size - j
