@@ -2,7 +2,6 @@
 ghost use mathlib.Core.Path.{_≡_};
 ghost use Rattle.meaning.specs.Names.{english};
 ghost use Rattle.meaning.specs.Whole.{write, output};
-
 use format::writer::format_with;
 use meaning::Fields;
 use meaning::Pair;

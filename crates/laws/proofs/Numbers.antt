@@ -63,7 +63,7 @@ module _ (least most : ℕ) (s r : List ℕ) (from : least ≤ length s) (some�
   taken-comes-back book now q u z small =
       let n : Signed = record { negative = false; size = decimal 0 s } in
       let number : numberOf Count (take (length s) (s ++ r)) ≡ some n = rw take-append-seam (digits-come-back Count s some′ all small) in
-      rw (reaches, take-goes-on Count (length s) (s ++ r) n (simp length-append (omega arith)) number, add-zero, add-zero)
+      rw (reaches, take-goes-on Count (length s) (s ++ r) n (simp length-append (omega arith)) number) (simp add-zero)
 
   pub skipped-comes-back : (book : Book) (now : ℕ) (q : Quantity) → readRule book now (SkippedNumber q least most) (s ++ r) ≡ got (length s) Nothing
   unfolding readRule

@@ -5,13 +5,12 @@ use mathlib.Core.List.{List, [], _∷_}
 use mathlib.Core.Path.{_≡_, refl, ap, _∙_}
 use Prim.Native.Nat.{ℕ, zero, suc, _+_, _<_}
 use native.Mathlib.Omega.{arith}
-use borrow.Author.Needs.{needs}
 use borrow.Author.Tests.{eq-eqb, ne-eqb, le-leb, lt-leb, lt-ltb, le-ltb}
 use lib.ListN.{length, getD}
 use Rattle.meaning.specs.Bytes.{when, both}
 
 -- what a branch of the code knows, put into a definition's choices: `returns c = search chosen`
-pub ruleset chosen = (eq-eqb, ne-eqb, le-leb, lt-leb, lt-ltb, le-ltb, needs)
+pub ruleset chosen = (eq-eqb, ne-eqb, le-leb, lt-leb, lt-ltb, le-ltb)
 
 -- by cases on a test, with what it says
 pub by-test : {P : Type 0} (b : Bool) → (b ≡ true → P) → (b ≡ false → P) → P

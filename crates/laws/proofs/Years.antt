@@ -55,7 +55,7 @@ year-carried : (m : ℕ) (t r : List ℕ) (n : Signed) → m ≡ length t → nu
     → (takeYear m >>= λ z. done (year z)) (t ++ r) ≡ got (length t) (year (integer n))
 year-carried m t r n h e =
     let number : numberOf Year (take (length t) (t ++ r)) ≡ some n = rw take-append-seam e in
-    rw (h, take-goes-on Year (length t) (t ++ r) n (simp length-append (omega arith)) number, add-zero, add-zero)
+    rw (h, take-goes-on Year (length t) (t ++ r) n (simp length-append (omega arith)) number) (simp add-zero)
 
 -- the text of a year, by its sign
 module _ (k n : ℕ) (small : n ≤ 5879611) where
