@@ -17,6 +17,7 @@ use Rattle.meaning.specs.declared.Group.{Group}
 use Rattle.meaning.specs.declared.Group.the-variants.{Never, NotZero, Always}
 use Rattle.meaning.specs.declared.NameList.{NameList}
 use Rattle.meaning.specs.declared.NameList.the-variants.{EraAbbreviated, EraNarrow, EraWide, QuarterWide, MonthAbbreviated, MonthWide, MonthNarrow, WdayAbbreviated, WdayWide, WdayNarrow, WdayShort, PeriodUpper, PeriodLower, PeriodDotted, PeriodLetter, NoonUpper, NoonLower, NoonDotted, NoonLetter}
+use Rattle.meaning.specs.declared.ParseUnit.{ParseUnit}
 use Rattle.meaning.specs.declared.ParseUnit.the-variants as unit
 use Rattle.meaning.specs.declared.Quantity.{Quantity}
 use Rattle.meaning.specs.declared.Quantity.the-variants.{Month, Quarter, Week, Day, DayOfYear, Weekday, WeekdayFromMonday, Hour1To12, Hour0To11, Hour0To23, Hour1To24, Minute, Second, Fraction}
@@ -66,14 +67,17 @@ yearLength s = minusFirst s + digitRun (drop (minusFirst s) s)
 abbrev pub year : ℤ → Carried
 year z = Value unit.Year z
 
+-- so many bytes of a year
+abbrev pub takenYear : ℕ → Reader Carried
+takenYear k = takeYear k >>= λ z. done (year z)
+
 -- yy "reads 3 bytes at `-`, else 2 and adds current year / 1000 * 1000"
 abbrev pub millennium : ℕ → ℕ
 millennium now = now / 1000 * 1000
 
 abbrev pub twoDigitYear : ℕ → Reader Carried
 twoDigitYear now s =
-    when (eqb (minusFirst s) 1) ((takeYear 3 >>= λ z. done (year z)) s)
-    ((takeYear 2 >>= λ z. done (year (z +ℤ pos (millennium now)))) s)
+    when (eqb (minusFirst s) 1) (takenYear 3 s) ((takeYear 2 >>= λ z. done (year (z +ℤ pos (millennium now)))) s)
 
 -- a group of a zone. Where it may be missing it is there if its first digit is.
 abbrev pub colonLength : Bool → ℕ
@@ -103,30 +107,46 @@ zoneBehind size utc = done (pos 0)
 zoneBehind size ahead = size >>= λ n. done (pos n)
 zoneBehind size behindUtc = size >>= λ n. done (negℤ (pos n))
 
+abbrev pub takenZone : Bool → Bool → Group → Group → Reader Carried
+takenZone z c minutes seconds = zoneSign z >>= zoneBehind (zoneSize c minutes seconds) >>= λ o. done (Value unit.Offset o)
+
 -- a number that stands for zero
 abbrev pub zeroFor : ℕ → ℕ → ℕ
 zeroFor z n = when (eqb n z) 0 n
 
+-- so many bytes of a number
+abbrev pub takenNumber : ParseUnit → ℕ → ℕ → Reader Carried
+takenNumber u z k = takeCount k >>= λ n. done (Value u (pos (zeroFor z n)))
+
+-- so many bytes that carry nothing
+abbrev pub passed : ℕ → Reader Carried
+passed k = skip k >> done Nothing
+
+-- a name, and so many bytes that are one
+abbrev pub matchedName : Book → NameList → Reader Carried
+matchedName book l = matchName (names book l) >>= λ i. done (nameCarries l i)
+
+abbrev pub matchedLetters : Book → NameList → ℕ → Reader Carried
+matchedLetters book l n = letters n (names book l) >>= λ i. done (nameCarries l i)
+
 -- what a symbol reads
 unfoldable pub readRule : Book → ℕ → Rule → Reader Carried
 unfolding reach skip nameCarries names matchName letters digitRun zoneSize zoneSign
-readRule book now (Number q least most u z) s =
-    (takeCount (reach (most - least) least s) >>= λ n. done (Value u (pos (zeroFor z n)))) s
-readRule book now (SkippedNumber q least most) s = (skip (reach (most - least) least s) >> done Nothing) s
-readRule book now LetterQuarter s = (skip 2 >> done Nothing) s
-readRule book now (SkippedName l n) s = (skip n >> done Nothing) s
-readRule book now (MatchedName l) s = (matchName (names book l) >>= λ i. done (nameCarries l i)) s
-readRule book now (Letters l n) s = (letters n (names book l) >>= λ i. done (nameCarries l i)) s
-readRule book now (Years k) s = (takeYear (yearLength s) >>= λ z. done (year z)) s
-readRule book now (FixedYear k) s = (takeYear (minusFirst s + k) >>= λ z. done (year z)) s
+readRule book now (Number q least most u z) s = takenNumber u z (reach (most - least) least s) s
+readRule book now (SkippedNumber q least most) s = passed (reach (most - least) least s) s
+readRule book now LetterQuarter s = passed 2 s
+readRule book now (SkippedName l n) s = passed n s
+readRule book now (MatchedName l) s = matchedName book l s
+readRule book now (Letters l n) s = matchedLetters book l n s
+readRule book now (Years k) s = takenYear (yearLength s) s
+readRule book now (FixedYear k) s = takenYear (minusFirst s + k) s
 readRule book now TwoDigitYear s = twoDigitYear now s
-readRule book now (Zone z c minutes seconds) s =
-    (zoneSign z >>= zoneBehind (zoneSize c minutes seconds) >>= λ o. done (Value unit.Offset o)) s
+readRule book now (Zone z c minutes seconds) s = takenZone z c minutes seconds s
 
 -- what a part reads
 unfoldable pub readStep : Book → ℕ → Step → Reader Carried
 unfolding readRule skip
-readStep book now (literal w lost) s = (skip (length w) >> done Nothing) s
+readStep book now (literal w lost) s = passed (length w) s
 readStep book now (field rule) s = readRule book now rule s
 
 -- "h, K [hour mod 12], H, k [hour]": what a number carries is what this quantity writes

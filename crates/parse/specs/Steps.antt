@@ -4,12 +4,15 @@ use mathlib.Core.Option.{Option, none, some}
 use Prim.Native.Nat.{ℕ, _+_}
 use Rattle.meaning.specs.Numerals.{Signed}
 use Rattle.meaning.specs.Readers.{Got, got, stopped}
+use Rattle.meaning.specs.declared.Carried.{Carried}
 use Rattle.meaning.specs.declared.Trouble.{Trouble}
 use Rattle.meaning.specs.declared.Trouble.the-variants.{TooFew, NoNumber, NoName, NoSign}
 use Rattle.parse.specs.declared.cursor.Matched.{Matched}
 use Rattle.parse.specs.declared.cursor.Matched.the-variants as matched
 use Rattle.parse.specs.declared.cursor.Skipped.{Skipped}
 use Rattle.parse.specs.declared.cursor.Skipped.the-variants as skipped
+use Rattle.parse.specs.declared.cursor.PartRead.{PartRead}
+use Rattle.parse.specs.declared.cursor.PartRead.the-variants as part
 use Rattle.parse.specs.declared.cursor.Taken.{Taken}
 use Rattle.parse.specs.declared.cursor.Taken.the-variants as taken
 use Rattle.parse.specs.declared.numbers.Number.{Number}
@@ -45,3 +48,9 @@ skippedAt at (stopped why i) = skipped.Stopped why (at + i)
 abbrev pub matchedAt : ℕ → Got ℕ → Matched
 matchedAt at (got k i) = matched.Name i (record { at = at + k })
 matchedAt at (stopped why i) = matched.Stopped why (at + i)
+
+-- what a part gives
+
+abbrev pub partAt : ℕ → Got Carried → PartRead
+partAt at (got k carried) = part.Got carried (record { at = at + k })
+partAt at (stopped why i) = part.Stopped why (at + i)

@@ -9,6 +9,7 @@ ghost use Rattle.parse.specs.Steps as steps;
 use crate::numbers::Number;
 use crate::numbers::read_number;
 use constants::Found;
+use meaning::Carried;
 use meaning::NameList;
 use meaning::Numeral;
 use meaning::Trouble;
@@ -37,6 +38,12 @@ pub enum Skipped {
 pub enum Matched {
     Stopped { trouble: Trouble, place: usize },
     Name { index: usize, next: Cursor },
+}
+
+// What a part gives: the value that it carries.
+pub enum PartRead {
+    Stopped { trouble: Trouble, place: usize },
+    Got { carried: Carried, next: Cursor },
 }
 
 impl Cursor {
