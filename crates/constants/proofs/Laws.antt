@@ -1,14 +1,14 @@
 -- Laws of tables and matches, for the loops of the matcher and of the writer: what a row holds, a turn over the bytes of a
 -- name, and a turn over names.
 use mathlib.Core.Bool.{Bool, true, false}
-use mathlib.Core.List.{List, [], _∷_, map}
-use mathlib.Core.Path.{_≡_, refl, sym, ap, _∙_}
+use mathlib.Core.List.{List, [], _∷_}
+use mathlib.Core.Path.{_≡_, refl, ap, _∙_}
 use Prim.Native.Nat.{ℕ, zero, suc, _+_, _*_, _≤_, _<_}
 use native.Mathlib.Numerals.{add-one}
 use native.Mathlib.Omega.{arith}
 use borrow.Author.Tests.{eq-eqb, ne-eqb}
 use lib.Dec.{T, eqb, eqb→eq, leb, leb→le}
-use lib.ListN.{length, take, drop, getD, length-take, length-drop, drop-of-length-le, List·getD-map}
+use lib.ListN.{length, take, drop, getD, length-take, length-drop, drop-of-length-le}
 use lib.Seq.{drop-cons, drop-drop, getD-take, getD-drop}
 use Rattle.laws.proofs.Tests.{when-true, when-false}
 use Rattle.meaning.specs.Bytes.{both, when}
@@ -53,10 +53,6 @@ row rows lens i t h =
       size = rw (table-at rows lens i h) (simp (length-take, length-drop) (omega arith));
       byte = λ j k. rw (table-at rows lens i h, getD-take, getD-drop);
     }
-
--- what lies beside the rows of written-out names
-pub lengths-at : (names : List (List ℕ)) (i : ℕ) → length (getD names i []) ≡ getD (map length names) i 0
-lengths-at names i = sym (List·getD-map length names i [])
 
 -- ---- a turn over the bytes of a name
 

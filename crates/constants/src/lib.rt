@@ -52,17 +52,6 @@ pub fn put_name(rows: &[u8], lens: &[u8], index: usize, out: &mut [u8], at: usiz
     at + size
 }
 
-// A name's length, and 0 past the last name.
-pub fn name_length(lens: &[u8], index: usize) -> usize
-    ensures { λ r. ⌜ r ≡ getD (now (lens .entry)) index 0 ⌝ }
-{
-    if index < lens.len() {
-        lens[index] as usize
-    } else {
-        0
-    }
-}
-
 // The first name of a list that begins the text.
 pub fn match_name(list: NameList, text: &[u8]) -> Found
     ensures { λ r. ⌜ r ≡ foundIn (matchName (names english list) (now (text .entry))) ⌝ }
@@ -269,32 +258,5 @@ pub fn format_name(list: NameList, index: usize, out: &mut [u8], at: usize) -> u
             let lengths = rows::NOON_LETTER_LENS;
             put_name(&names, &lengths, index, out, at)
         }
-    }
-}
-
-// The length of a name of a list, and 0 past its last name.
-pub fn length_of_name(list: NameList, index: usize) -> usize
-    ensures { λ r. ⌜ r ≡ length (getD (names english list) index []) ⌝ }
-{
-    match list {
-        NameList::EraAbbreviated => name_length(&rows::ERA_ABBREVIATED_LENS, index),
-        NameList::EraNarrow => name_length(&rows::ERA_NARROW_LENS, index),
-        NameList::EraWide => name_length(&rows::ERA_WIDE_LENS, index),
-        NameList::QuarterWide => name_length(&rows::QUARTER_WIDE_LENS, index),
-        NameList::MonthAbbreviated => name_length(&rows::MONTH_ABBREVIATED_LENS, index),
-        NameList::MonthWide => name_length(&rows::MONTH_WIDE_LENS, index),
-        NameList::MonthNarrow => name_length(&rows::MONTH_NARROW_LENS, index),
-        NameList::WdayAbbreviated => name_length(&rows::WDAY_ABBREVIATED_LENS, index),
-        NameList::WdayWide => name_length(&rows::WDAY_WIDE_LENS, index),
-        NameList::WdayNarrow => name_length(&rows::WDAY_NARROW_LENS, index),
-        NameList::WdayShort => name_length(&rows::WDAY_SHORT_LENS, index),
-        NameList::PeriodUpper => name_length(&rows::PERIOD_LETTERS_LENS, index),
-        NameList::PeriodLower => name_length(&rows::PERIOD_LETTERS_LENS, index),
-        NameList::PeriodDotted => name_length(&rows::PERIOD_DOTTED_LENS, index),
-        NameList::PeriodLetter => name_length(&rows::PERIOD_LETTER_LENS, index),
-        NameList::NoonUpper => name_length(&rows::NOON_WORDS_LENS, index),
-        NameList::NoonLower => name_length(&rows::NOON_WORDS_LENS, index),
-        NameList::NoonDotted => name_length(&rows::NOON_DOTTED_LENS, index),
-        NameList::NoonLetter => name_length(&rows::NOON_LETTER_LENS, index),
     }
 }
