@@ -1,4 +1,5 @@
-// Reading, document 01's column Reads: numbers in, the cursor, what a rule and a part read, and the public reader.
+// Reading, document 01's column Reads: numbers in, the cursor and its steps. What a rule and a part read, and the public
+// reader, are not here yet.
 pub mod cursor;
-pub mod steps;
 pub mod numbers;
+pub mod steps;

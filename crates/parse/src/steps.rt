@@ -1,19 +1,14 @@
-// The steps of which every rule is read: bytes passed over, a number, a name.
+// The steps of which rules are read: bytes passed over, a number.
 ghost use mathlib.Core.Path.{_≡_};
 ghost use Prim.Native.Nat.{_≤_};
 ghost use lib.ListN.{length, drop};
-ghost use Rattle.meaning.specs.Names.{english};
-ghost use Rattle.meaning.specs.Numerals.{integer};
 ghost use Rattle.meaning.specs.Reading as reading;
 ghost use Rattle.parse.specs.Steps.{partAt};
-
 use crate::cursor::Cursor;
-use crate::cursor::Matched;
 use crate::cursor::PartRead;
 use crate::cursor::Skipped;
 use crate::cursor::Taken;
 use meaning::Carried;
-use meaning::NameList;
 use meaning::Numeral;
 use meaning::ParseUnit;
 

@@ -1,38 +1,37 @@
+-- What the take gives, with the value that stands for 0.
 use borrow.Author.Needs.{needs}
+use denote.Ref.{now}
+use lib.ListN.{drop}
+use Rattle.parse.proofs.Parts.{part-number, widened}
 use Rattle.parse.proofs.steps.take_number.Statement.{statement}
 use Rattle.parse.proofs.steps.take_number.Tie as tie
-use Rattle.parse.proofs.steps.take_number.Reads as reads
-use Rattle.parse.proofs.steps.take_number.Lts as lts
-use Rattle.parse.proofs.cursor.Cursor.take.Reads as take-reads
-use Rattle.parse.proofs.steps.zero_for.Reads as zero-for-reads
 
--- src/steps.rt:45:11
 take-requires : tie.Need-take-requires
 take-requires c κs = search needs
 
--- src/steps.rt:46:26
 enum-known-trouble : tie.Need-enum-known-trouble
 enum-known-trouble c = search needs
 
--- src/steps.rt:49:13
 enum-known-size : tie.Need-enum-known-size
 enum-known-size c = search needs
 
--- src/steps.rt:52:25
 zero-for-requires : tie.Need-zero-for-requires
 zero-for-requires c κs = search needs
 
--- src/steps.rt:52:25
 cast-value : tie.Need-cast-value
 cast-value c = search needs
 
--- src/steps.rt:41:1
 returns : tie.Need-returns
-returns c = ?
+returns c =
+    let a = c .before .before .before .before .before .args in
+    let s = drop (a .cursor .at) (now (a .text)) in
+    rw (part-number (a .unit) (a .zero) (a .k) (a .cursor .at) s, ← c .before .before .before .take .ensures, c .before .trouble .given .1)
 
--- src/steps.rt:41:1
 returns-2 : tie.Need-returns-2
-returns-2 c = ?
+returns-2 c =
+    let a = c .before .before .before .before .before .before .args in
+    let s = drop (a .cursor .at) (now (a .text)) in
+    rw (part-number (a .unit) (a .zero) (a .k) (a .cursor .at) s, ← c .before .before .before .before .take .ensures, c .before .before .size .given .1, widened (c .zero-for .result) (search needs), c .zero-for .ensures)
 
 pub take-number-spec : {M : Type 1} → statement M
 take-number-spec =
