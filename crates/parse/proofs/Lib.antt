@@ -1,3 +1,4 @@
 pub mod Sizing
 pub mod Moves
 pub mod Parts
+pub mod Runs

@@ -1,19 +1,19 @@
 -- Laws of what a part gives, from what its one step gave: a step and then a value made of its answer.
 use mathlib.Core.List.{List}
 use mathlib.Core.Path.{_≡_, refl}
-use Prim.Native.Nat.{ℕ, _+_, _^_, _<_}
+use Prim.Native.Nat.{ℕ, zero, suc, _+_, _^_, _<_}
 use native.Mathlib.Nat.{add-zero}
 use native.Mathlib.Omega.{arith}
-use lib.IntN.{pos}
+use lib.IntN.{ℤ, pos, negℤ, _-ℤ_, +ℤ-idl}
 use mir.Facts.{toZ-pos}
 use mir.Syntax.{w64}
-use mir.Val.{toZ}
-use Rattle.meaning.specs.Numerals.{Signed}
+use mir.Val.{SFits, toZ}
+use Rattle.meaning.specs.Numerals.{Signed, integer}
 use Rattle.meaning.specs.Readers.{Got, got, stopped, Reader, _>>=_, done, skip, takeNumber, goOn}
-use Rattle.meaning.specs.Reading.{passed, takenNumber, zeroFor}
+use Rattle.meaning.specs.Reading.{passed, takenNumber, takenYear, zeroFor, year}
 use Rattle.meaning.specs.declared.Carried.{Carried}
 use Rattle.meaning.specs.declared.Carried.the-variants.{Nothing, Value}
-use Rattle.meaning.specs.declared.Numeral.the-variants.{Count}
+use Rattle.meaning.specs.declared.Numeral.the-variants.{Count, Year}
 use Rattle.meaning.specs.declared.ParseUnit.{ParseUnit}
 use Rattle.parse.specs.Steps.{takenAt, skippedAt, partAt}
 use Rattle.parse.specs.declared.cursor.PartRead.{PartRead}
@@ -72,6 +72,23 @@ part-number u z k at s =
     )
     (number-got (λ n. Value u (pos (zeroFor z (n .size)))) at (takeNumber Count k s))
 
+pub part-year : (k at : ℕ) (s : List ℕ)
+    → partAt at (takenYear k s) ≡ numberBy (λ n. year (integer n)) (takenAt at (takeNumber Year k s))
+part-year k at s =
+    rw (
+      made {B = Carried} year (takeNumber Year k >>= λ n. done (integer n)) s,
+      made {B = ℤ} (λ (n : Signed). integer n) (takeNumber Year k) s,
+      made-twice (λ (n : Signed). integer n) year (takeNumber Year k s),
+    )
+    (number-got (λ n. year (integer n)) at (takeNumber Year k s))
+
 -- a number of 32 bits is itself in 64 signed ones
 pub widened : (n : ℕ) → n < 2 ^ 32 → toZ w64 n ≡ pos n
 widened n h = toZ-pos w64 (omega arith)
+
+pub negated : (n : ℕ) → pos 0 -ℤ pos n ≡ negℤ (pos n)
+negated n = +ℤ-idl (negℤ (pos n))
+
+pub negated-fits : (n : ℕ) → n < 2 ^ 32 → SFits w64 (negℤ (pos n))
+negated-fits zero h = record { sfits = omega arith }
+negated-fits (suc n) h = record { sfits = omega arith }

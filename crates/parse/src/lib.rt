@@ -3,3 +3,4 @@
 pub mod cursor;
 pub mod numbers;
 pub mod steps;
+pub mod years;
