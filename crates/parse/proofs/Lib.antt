@@ -2,3 +2,4 @@ pub mod Sizing
 pub mod Moves
 pub mod Parts
 pub mod Runs
+pub mod Reaches

@@ -1,0 +1,28 @@
+// How many bytes a number takes: document 01's "greedy".
+ghost use mathlib.Core.Path.{_≡_};
+ghost use Prim.Native.Nat.{_-_, _≤_};
+ghost use lib.ListN.{length, drop};
+ghost use Rattle.meaning.specs.Readers.{reach};
+
+// So many bytes at least, and at most, as digits follow.
+pub fn extent(least: usize, most: usize, text: &[u8], at: usize) -> usize
+    requires { ⌜ (at ≤ length (now text)) × (most ≤ 256) ⌝ }
+    ensures { λ r. ⌜ r ≡ reach (most - least) least (drop at (now (text .entry))) ⌝ }
+{
+    let mut k = least;
+    while k < most {
+        let place = at + k;
+        if text.len() <= place {
+            return k;
+        }
+        let b = text[place];
+        if b < b'0' {
+            return k;
+        }
+        if b'9' < b {
+            return k;
+        }
+        k += 1;
+    }
+    k
+}
