@@ -13,6 +13,9 @@ use format::numbers::put_bytes;
 use lines::words::word_from;
 use meaning::Pair;
 
+// A line with more bytes is no request.
+pub const LONGEST: usize = 20000;
+
 // What is asked: the first word of a line.
 enum Request {
     Split,
@@ -36,10 +39,12 @@ fn request_of(name: &[u8]) -> Request {
 
 // The answer to a line, both with no line's end, in the output from its start, and how long it is.
 pub fn answer(line: &[u8], out: &mut [u8]) -> usize
-    requires { ⌜ length (now line) ≤ 20000 ⌝ }
     requires { ⌜ 16384 ≤ length (now out) ⌝ }
     ensures { λ r. ⌜ Counts r (now (out .exit)) ⌝ }
 {
+    if LONGEST < line.len() {
+        return bad_request(out);
+    }
     let name = word_from(line, 0);
     let start = name.start;
     let end = name.end;
