@@ -2,7 +2,6 @@
 ghost use mathlib.Core.Path.{_≡_};
 ghost use Prim.Native.Nat.{_≤_};
 ghost use lib.ListN.{length};
-ghost use Rattle.io.specs.Counts.{Counts};
 use answers::answer;
 use libc::STDIN_FILENO;
 use libc::STDOUT_FILENO;
@@ -15,23 +14,28 @@ struct Rest {
     ended: bool,
 }
 
+fn write_out(out: &[u8], n: usize)
+    requires { ⌜ n ≤ length (now out) ⌝ }
+{
+    io::write_all(STDOUT_FILENO, &out[..n]);
+}
+
 // The place for an answer: the output is written out where it may have no room for one.
 fn with_room(out: &[u8], at: usize) -> usize
-    requires { ⌜ Counts at (now out) ⌝ }
+    requires { ⌜ at ≤ length (now out) ⌝ }
     ensures { λ r. ⌜ r ≤ 49151 ⌝ }
 {
     if at <= 49151 {
         return at;
     }
-    io::write_all(STDOUT_FILENO, &out[..at]);
+    write_out(out, at);
     0
 }
 
 // The answer to a line and a line's end, behind the answers before.
 fn add_answer(line: &[u8], out: &mut [u8], at: usize) -> usize
-    requires { ⌜ length (now out) ≡ 65536 ⌝ }
-    requires { ⌜ Counts at (now out) ⌝ }
-    ensures { λ r. ⌜ Counts r (now (out .exit)) ⌝ }
+    requires { ⌜ (length (now out) ≡ 65536) × (at ≤ 65536) ⌝ }
+    ensures { λ r. ⌜ r ≤ 65536 ⌝ }
 {
     let start = with_room(out, at);
     let end = out.len() - 1;
@@ -53,7 +57,7 @@ fn answer_lines(bytes: &[u8], out: &mut [u8]) -> usize
         at = end + 1;
         end = line_end(bytes, at);
     }
-    io::write_all(STDOUT_FILENO, &out[..filled]);
+    write_out(out, filled);
     at
 }
 
@@ -65,7 +69,7 @@ fn answer_last(line: &[u8], out: &mut [u8])
         return;
     }
     let n = add_answer(line, out, 0);
-    io::write_all(STDOUT_FILENO, &out[..n]);
+    write_out(out, n);
 }
 
 // Of a line that is too long just so many bytes are kept that it stays too long.
@@ -75,22 +79,29 @@ fn kept(n: usize) -> usize
     if n < 20001 { n } else { 20001 }
 }
 
-// Reads once, behind the bytes that are held, and answers what came.
+// Reads once, behind the bytes that are held, and gives the place behind what came.
+fn read_behind(row: &mut [u8], held: usize) -> usize
+    requires { ⌜ held ≤ length (now row) ⌝ }
+    ensures { λ r. ⌜ (held ≤ r) × (r ≤ length (now (row .exit))) ⌝ }
+{
+    let got = libc::read(STDIN_FILENO, &mut row[held..]);
+    held + io::count(got, &row[held..])
+}
+
+// Reads once and answers what came.
 fn read_more(row: &mut [u8], held: usize, out: &mut [u8]) -> Rest
     requires { ⌜ (length (now row) ≡ 65536) × (held ≤ 20001) ⌝ }
     requires { ⌜ length (now out) ≡ 65536 ⌝ }
     ensures { λ r. ⌜ r .held ≤ 20001 ⌝ }
 {
-    let got = libc::read(STDIN_FILENO, &mut row[held..]);
-    let n = io::count(got, &row[held..]);
-    if n == 0 {
+    let filled = read_behind(row, held);
+    if filled == held {
         answer_last(&row[..held], out);
         return Rest {
             held: 0,
             ended: true,
         };
     }
-    let filled = held + n;
     let used = answer_lines(&row[..filled], out);
     let rest = kept(filled - used);
     move_down(row, used, rest);
