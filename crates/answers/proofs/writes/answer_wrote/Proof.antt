@@ -1,0 +1,96 @@
+-- What a writer reports is within the output that it was lent.
+use mathlib.Core.Path.{sym}
+use native.Mathlib.Omega.{arith}
+use lib.ListN.{length-take}
+use lib.Seq.{length-take-le}
+use borrow.Author.Needs.{needs}
+use denote.Ref.{now}
+use Rattle.answers.proofs.writes.answer_wrote.Statement.{statement}
+use Rattle.answers.proofs.writes.answer_wrote.Tie as tie
+use Rattle.answers.proofs.writes.answer_wrote.Reads as reads
+use Rattle.answers.proofs.writes.answer_wrote.Lts as lts
+use Rattle.answers.proofs.refusals.answer_refused.Reads as answer-refused-reads
+use Rattle.answers.proofs.writes.first_altered.Reads as first-altered-reads
+use Rattle.answers.proofs.writes.put_altered.Reads as put-altered-reads
+use Rattle.answers.proofs.writes.put_text.Reads as put-text-reads
+use Rattle.answers.proofs.writes.written.Reads as written-reads
+
+-- src/writes.rt:98:9
+written-requires : tie.Need-written-requires
+written-requires c κs = search needs
+
+-- src/writes.rt:99:9
+first-altered-requires : tie.Need-first-altered-requires
+first-altered-requires c κs = search needs
+
+-- src/writes.rt:101:9
+put-altered-requires : tie.Need-put-altered-requires
+put-altered-requires c κs = search needs
+
+-- src/writes.rt:101:9
+same-length : tie.Need-same-length
+same-length c = search needs
+
+-- src/writes.rt:101:9
+returns : tie.Need-returns
+returns c = search needs
+
+-- src/writes.rt:104:38
+enum-told : tie.Need-enum-told
+enum-told c = search needs
+
+-- src/writes.rt:104:38
+slice-aggregate-put-text : tie.Need-slice-aggregate-put-text
+slice-aggregate-put-text c =
+    let w = c .before .before .before .before .before .written in
+    sym (length-take-le (w .result) (now (c .before .before .before .before .before .before .before .before .args .text)) (omega (arith, w .ensures)))
+
+-- src/writes.rt:104:29
+put-text-requires : tie.Need-put-text-requires
+put-text-requires c κs =
+    let w = c .before .before .before .before .before .before .written in
+    let a = c .before .before .before .before .before .before .before .before .before in
+    (simp length-take (omega (arith, a .pre .0 .1)), search needs)
+
+-- src/writes.rt:105:24
+enum-known-wrote : tie.Need-enum-known-wrote
+enum-known-wrote c = search needs
+
+-- src/writes.rt:105:32
+answer-refused-requires : tie.Need-answer-refused-requires
+answer-refused-requires c κs = search needs
+
+-- src/writes.rt:93:1
+same-length-2 : tie.Need-same-length-2
+same-length-2 c = search needs
+
+-- src/writes.rt:93:1
+returns-2 : tie.Need-returns-2
+returns-2 c = search needs
+
+-- src/writes.rt:93:1
+same-length-3 : tie.Need-same-length-3
+same-length-3 c = search needs
+
+-- src/writes.rt:93:1
+returns-3 : tie.Need-returns-3
+returns-3 c = search needs
+
+pub answer-wrote-spec : {M : Type 1} → statement M
+answer-wrote-spec =
+    tie.close
+    (tie.spec
+    written-requires
+    first-altered-requires
+    put-altered-requires
+    same-length
+    returns
+    enum-told
+    slice-aggregate-put-text
+    put-text-requires
+    enum-known-wrote
+    answer-refused-requires
+    same-length-2
+    returns-2
+    same-length-3
+    returns-3)

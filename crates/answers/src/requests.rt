@@ -1,0 +1,184 @@
+// The words of a request, each with the place of the next one. A word that is not what is asked for leaves the place at
+// the line's end, where a word is empty: so all were good exactly if the place behind the last is beyond the end.
+ghost use mathlib.Core.Path.{_≡_};
+ghost use Prim.Native.Nat.{_*_, _≤_};
+ghost use lib.IntN.{pos, negℤ};
+ghost use lib.ListN.{length};
+ghost use Rattle.io.specs.Counts.{Counts};
+ghost use Rattle.meaning.specs.Bytes.{when};
+ghost use Rattle.meaning.specs.Numerals.{integer};
+use lines::hex::Decoded;
+use lines::hex::decode;
+use lines::numbers::Number;
+use lines::numbers::number_of;
+use lines::words::word_from;
+use meaning::Fields;
+
+pub struct NumberAt {
+    pub negative: bool,
+    pub size: u64,
+    pub next: usize,
+}
+
+pub struct CountAt {
+    pub value: u64,
+    pub next: usize,
+}
+
+pub struct SignedAt {
+    pub value: i32,
+    pub next: usize,
+}
+
+pub struct FieldsAt {
+    pub fields: Fields,
+    pub next: usize,
+}
+
+pub struct BytesAt {
+    pub length: usize,
+    pub next: usize,
+}
+
+fn number_at(line: &[u8], at: usize) -> NumberAt {
+    let word = word_from(line, at);
+    let start = word.start;
+    let end = word.end;
+    match number_of(&line[start..end]) {
+        Number::Is { negative, size } => NumberAt {
+            negative: negative,
+            size: size,
+            next: end + 1,
+        },
+        Number::Bad => NumberAt {
+            negative: false,
+            size: 0,
+            next: line.len(),
+        },
+    }
+}
+
+// A number with no sign and at most so large.
+pub fn count_at(line: &[u8], at: usize, most: u64) -> CountAt
+    ensures { λ r. ⌜ r .value ≤ most ⌝ }
+{
+    let number = number_at(line, at);
+    if number.negative || most < number.size {
+        return CountAt {
+            value: 0,
+            next: line.len(),
+        };
+    }
+    CountAt {
+        value: number.size,
+        next: number.next,
+    }
+}
+
+fn most_signed(negative: bool) -> u64
+    ensures { λ r. ⌜ r ≡ when negative 2147483648 2147483647 ⌝ }
+{
+    if negative { 2147483648 } else { 2147483647 }
+}
+
+fn opposite_of(size: u64) -> i32
+    requires { ⌜ size ≤ 2147483648 ⌝ }
+    ensures { λ r. ⌜ r ≡ negℤ (pos size) ⌝ }
+{
+    if size == 0 {
+        return 0;
+    }
+    let before = (size - 1) as i32;
+    let opposite = 0 - before;
+    opposite - 1
+}
+
+fn integer_of(negative: bool, size: u64) -> i32
+    requires { ⌜ size ≤ when negative 2147483648 2147483647 ⌝ }
+    ensures { λ r. ⌜ r ≡ integer (record { negative = negative; size = size }) ⌝ }
+{
+    if negative {
+        return opposite_of(size);
+    }
+    size as i32
+}
+
+// A number of 32 signed bits.
+pub fn signed_at(line: &[u8], at: usize) -> SignedAt {
+    let number = number_at(line, at);
+    if most_signed(number.negative) < number.size {
+        return SignedAt {
+            value: 0,
+            next: line.len(),
+        };
+    }
+    SignedAt {
+        value: integer_of(number.negative, number.size),
+        next: number.next,
+    }
+}
+
+// The eight fields, each up to what its type holds.
+pub fn fields_at(line: &[u8], at: usize) -> FieldsAt {
+    let year = signed_at(line, at);
+    let month = count_at(line, year.next, 4294967295);
+    let day = count_at(line, month.next, 4294967295);
+    let doy = count_at(line, day.next, 4294967295);
+    let week = count_at(line, doy.next, 4294967295);
+    let wday = count_at(line, week.next, 4294967295);
+    let nanos = count_at(line, wday.next, 18446744073709551615);
+    let offset = signed_at(line, nanos.next);
+    let fields = Fields {
+        year: year.value,
+        month: month.value as u32,
+        day: day.value as u32,
+        doy: doy.value as u32,
+        week: week.value as u32,
+        wday: wday.value as u32,
+        nanos: nanos.value,
+        offset: offset.value,
+    };
+    FieldsAt {
+        fields: fields,
+        next: offset.next,
+    }
+}
+
+// A byte string, in the output from its start.
+pub fn bytes_at(line: &[u8], at: usize, out: &mut [u8]) -> BytesAt
+    requires { ⌜ length (now line) ≤ 2 * length (now out) ⌝ }
+    ensures { λ r. ⌜ Counts (r .length) (now (out .exit)) ⌝ }
+{
+    let word = word_from(line, at);
+    let start = word.start;
+    let end = word.end;
+    if start == end {
+        return BytesAt {
+            length: 0,
+            next: line.len(),
+        };
+    }
+    if check::same(&line[start..end], b"-") {
+        return BytesAt {
+            length: 0,
+            next: end + 1,
+        };
+    }
+    match decode(&line[start..end], out) {
+        Decoded::Length(n) => BytesAt {
+            length: n,
+            next: end + 1,
+        },
+        Decoded::Bad => BytesAt {
+            length: 0,
+            next: line.len(),
+        },
+    }
+}
+
+// Room for the bytes of any line.
+pub fn bytes_row() -> [u8; 10000]
+    ensures { λ r. ⌜ 10000 ≡ length r ⌝ }
+{
+    [0; 10000]
+}

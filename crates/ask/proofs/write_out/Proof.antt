@@ -1,0 +1,25 @@
+-- The part has the length that it is lent at.
+use mathlib.Core.Path.{sym}
+use lib.Seq.{length-take-le}
+use borrow.Author.Needs.{needs}
+use denote.Ref.{now}
+use Rattle.ask.proofs.write_out.Statement.{statement}
+use Rattle.ask.proofs.write_out.Tie as tie
+use Rattle.ask.proofs.write_out.Reads as reads
+use Rattle.ask.proofs.write_out.Lts as lts
+use Rattle.io.proofs.write_all.Reads as write-all-reads
+
+-- src/main.rt:20:34
+slice-aggregate-write-all : tie.Need-slice-aggregate-write-all
+slice-aggregate-write-all c = let a = c .before .before .args in sym (length-take-le (a .n) (now (a .out)) (search needs))
+
+-- src/main.rt:20:5
+write-all-requires : tie.Need-write-all-requires
+write-all-requires c κs = search needs
+
+-- src/main.rt:17:1
+returns : tie.Need-returns
+returns c = search needs
+
+pub write-out-spec : {M : Type 1} → statement M
+write-out-spec = tie.close (tie.spec slice-aggregate-write-all write-all-requires returns)

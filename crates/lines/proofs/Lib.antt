@@ -1,0 +1,3 @@
+pub mod HexDigits
+pub mod Decimals
+pub mod Moves

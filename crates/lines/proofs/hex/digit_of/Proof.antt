@@ -1,0 +1,25 @@
+use Rattle.laws.proofs.Tests.{chosen}
+use borrow.Author.Needs.{needs}
+use Rattle.lines.proofs.hex.digit_of.Statement.{statement}
+use Rattle.lines.proofs.hex.digit_of.Tie as tie
+use Rattle.lines.proofs.hex.digit_of.Reads as reads
+use Rattle.lines.proofs.hex.digit_of.Lts as lts
+
+-- src/hex.rt:54:17
+add-result : tie.Need-add-result
+add-result c = search needs
+
+-- src/hex.rt:54:33
+add-result-2 : tie.Need-add-result-2
+add-result-2 c = search needs
+
+-- src/hex.rt:50:1
+returns : tie.Need-returns
+returns c = search chosen
+
+-- src/hex.rt:50:1
+returns-2 : tie.Need-returns-2
+returns-2 c = search chosen
+
+pub digit-of-spec : {M : Type 1} → statement M
+digit-of-spec = tie.close (tie.spec add-result add-result-2 returns returns-2)

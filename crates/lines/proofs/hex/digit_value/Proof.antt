@@ -1,0 +1,33 @@
+use Rattle.laws.proofs.Tests.{chosen}
+use borrow.Author.Needs.{needs}
+use Rattle.lines.proofs.hex.digit_value.Statement.{statement}
+use Rattle.lines.proofs.hex.digit_value.Tie as tie
+use Rattle.lines.proofs.hex.digit_value.Reads as reads
+use Rattle.lines.proofs.hex.digit_value.Lts as lts
+
+-- src/hex.rt:20:9
+returns : tie.Need-returns
+returns c = search chosen
+
+-- src/hex.rt:23:9
+returns-2 : tie.Need-returns-2
+returns-2 c = search chosen
+
+-- src/hex.rt:26:9
+returns-3 : tie.Need-returns-3
+returns-3 c = search chosen
+
+-- src/hex.rt:29:16
+sub-result : tie.Need-sub-result
+sub-result c = search needs
+
+-- src/hex.rt:29:9
+returns-4 : tie.Need-returns-4
+returns-4 c = search chosen
+
+-- src/hex.rt:16:1
+returns-5 : tie.Need-returns-5
+returns-5 c = search chosen
+
+pub digit-value-spec : {M : Type 1} → statement M
+digit-value-spec = tie.close (tie.spec returns returns-2 returns-3 sub-result returns-4 returns-5)

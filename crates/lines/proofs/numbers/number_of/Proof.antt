@@ -1,0 +1,80 @@
+-- The first byte is a minus or a digit.
+use mathlib.Core.Bool.{true, false}
+use mathlib.Core.Path.{ap, sym, _∙_}
+use native.Mathlib.Omega.{arith}
+use borrow.Author.Needs.{needs}
+use denote.Ref.{now}
+use Rattle.lines.proofs.Decimals.{number-of-none, number-of-negative, number-of-bare}
+use Rattle.lines.specs.Decimal.{signed}
+use Rattle.lines.proofs.numbers.number_of.Statement.{statement}
+use Rattle.lines.proofs.numbers.number_of.Tie as tie
+use Rattle.lines.proofs.numbers.number_of.Reads as reads
+use Rattle.lines.proofs.numbers.number_of.Lts as lts
+use Rattle.lines.proofs.numbers.signed.Reads as signed-reads
+use Rattle.lines.proofs.numbers.size_of.Reads as size-of-reads
+
+-- src/numbers.rt:60:9
+returns : tie.Need-returns
+returns c = sym (number-of-none (now (c .before .before .args .word)) (omega arith))
+
+-- src/numbers.rt:62:8
+shared-slice-read-if2 : tie.Need-shared-slice-read-if2
+shared-slice-read-if2 c = search needs
+
+-- src/numbers.rt:63:37
+sub-size-of : tie.Need-sub-size-of
+sub-size-of c = search needs
+
+-- src/numbers.rt:63:37
+part-size-of-start : tie.Need-part-size-of-start
+part-size-of-start c = search needs
+
+-- src/numbers.rt:63:37
+part-size-of-end : tie.Need-part-size-of-end
+part-size-of-end c = search needs
+
+-- src/numbers.rt:63:29
+size-of-requires : tie.Need-size-of-requires
+size-of-requires c κs = search needs
+
+-- src/numbers.rt:63:9
+signed-requires : tie.Need-signed-requires
+signed-requires c κs = search needs
+
+-- src/numbers.rt:63:9
+returns-2 : tie.Need-returns-2
+returns-2 c =
+    let w = now (c .before .before .before .before .before .before .before .args .word) in
+    c .signed .ensures ∙ ap (signed true) (c .before .size-of .ensures)
+    ∙ sym (number-of-negative w (omega arith) (c .before .before .before .if2 .taken))
+
+-- src/numbers.rt:65:19
+size-of-requires-2 : tie.Need-size-of-requires-2
+size-of-requires-2 c κs = search needs
+
+-- src/numbers.rt:65:5
+signed-requires-2 : tie.Need-signed-requires-2
+signed-requires-2 c κs = search needs
+
+-- src/numbers.rt:56:1
+returns-3 : tie.Need-returns-3
+returns-3 c =
+    let w = now (c .before .before .before .before .before .before .args .word) in
+    c .signed2 .ensures ∙ ap (signed false) (c .before .size-of2 .ensures)
+    ∙ sym (number-of-bare w (omega arith) (c .before .before .if2 .left))
+
+pub number-of-spec : {M : Type 1} → statement M
+number-of-spec =
+    tie.close
+    (tie.spec
+    returns
+    shared-slice-read-if2
+    sub-size-of
+    part-size-of-start
+    part-size-of-end
+    size-of-requires
+    signed-requires
+    returns-2
+    size-of-requires-2
+    signed-requires-2
+    returns-3)

@@ -1,0 +1,58 @@
+-- A minus or nothing, then the digits.
+use native.Mathlib.Omega.{arith}
+use Rattle.laws.proofs.Laid.{laid-then}
+use borrow.Author.Needs.{needs}
+use Rattle.lines.proofs.numbers.put_number.Statement.{statement}
+use Rattle.lines.proofs.numbers.put_number.Tie as tie
+use Rattle.lines.proofs.numbers.put_number.Reads as reads
+use Rattle.lines.proofs.numbers.put_number.Lts as lts
+use Rattle.format.proofs.numbers.put_byte.Reads as put-byte-reads
+use Rattle.lines.proofs.numbers.put_size.Reads as put-size-reads
+
+-- src/numbers.rt:88:13
+put-byte-requires : tie.Need-put-byte-requires
+put-byte-requires c κs = search needs
+
+-- src/numbers.rt:89:9
+put-size-requires : tie.Need-put-size-requires
+put-size-requires c κs = search needs
+
+-- src/numbers.rt:89:9
+same-length : tie.Need-same-length
+same-length c = search needs
+
+-- src/numbers.rt:89:9
+returns : tie.Need-returns
+returns c =
+    let put = c .before .before .put-size .ensures in
+    rw (c .before .before .before .before .before .before .before .before .if1 .taken)
+    (record {
+      width = put .width;
+      fewest = put .fewest;
+      laid = laid-then (c .before .before .before .before .before .before .put-byte .ensures) (put .laid);
+      small = omega (arith, put .small, c .before .before .before .before .before .before .put-byte .ensures .end);
+    })
+
+-- src/numbers.rt:91:5
+put-size-requires-2 : tie.Need-put-size-requires-2
+put-size-requires-2 c κs = search needs
+
+-- src/numbers.rt:83:1
+same-length-2 : tie.Need-same-length-2
+same-length-2 c = search needs
+
+-- src/numbers.rt:83:1
+returns-2 : tie.Need-returns-2
+returns-2 c = rw (c .before .before .before .before .if1 .left) (c .before .before .put-size2 .ensures)
+
+pub put-number-spec : {M : Type 1} → statement M
+put-number-spec =
+    tie.close
+    (tie.spec
+    put-byte-requires
+    put-size-requires
+    same-length
+    returns
+    put-size-requires-2
+    same-length-2
+    returns-2)

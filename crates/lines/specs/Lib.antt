@@ -1,0 +1,3 @@
+pub mod Words
+pub mod Hex
+pub mod Decimal

@@ -1,0 +1,25 @@
+// Lines in a row of bytes that is filled from its start, and the rest that stays for more to come.
+ghost use mathlib.Core.Path.{_≡_};
+ghost use Prim.Native.Nat.{_+_, _≤_, min, _-_};
+ghost use lib.ListN.{length, take, drop};
+ghost use lib.Seq.{sets};
+
+// The place of the line's end from a place on, or the end of the bytes.
+pub fn line_end(bytes: &[u8], at: usize) -> usize
+    requires { ⌜ at ≤ length (now bytes) ⌝ }
+    ensures { λ r. ⌜ (at ≤ r) × (r ≤ length (now (bytes .entry))) ⌝ }
+{
+    bytes::scan::find(bytes, at, bytes.len(), b'\n')
+}
+
+// Moves so many bytes from a place on to the start.
+pub fn move_down(row: &mut [u8], from: usize, count: usize)
+    requires { ⌜ from + count ≤ length (now row) ⌝ }
+    ensures { λ _. ⌜ now (row .exit) ≡ sets (now (row .entry)) 0 (take count (drop from (now (row .entry)))) ⌝ }
+{
+    let mut i = 0;
+    while i < count {
+        row[i] = row[from + i];
+        i += 1;
+    }
+}
