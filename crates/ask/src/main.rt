@@ -7,6 +7,7 @@ use libc::STDIN_FILENO;
 use libc::STDOUT_FILENO;
 use lines::input::line_end;
 use lines::input::move_down;
+use lines::input::read_behind;
 
 // What a read leaves: so many bytes of a line that has not ended, or the end of the input.
 struct Rest {
@@ -79,22 +80,13 @@ fn kept(n: usize) -> usize
     if n < 20001 { n } else { 20001 }
 }
 
-// Reads once, behind the bytes that are held, and gives the place behind what came.
-fn read_behind(row: &mut [u8], held: usize) -> usize
-    requires { ⌜ held ≤ length (now row) ⌝ }
-    ensures { λ r. ⌜ (held ≤ r) × (r ≤ length (now (row .exit))) ⌝ }
-{
-    let got = libc::read(STDIN_FILENO, &mut row[held..]);
-    held + io::count(got, &row[held..])
-}
-
 // Reads once and answers what came.
 fn read_more(row: &mut [u8], held: usize, out: &mut [u8]) -> Rest
     requires { ⌜ (length (now row) ≡ 65536) × (held ≤ 20001) ⌝ }
     requires { ⌜ length (now out) ≡ 65536 ⌝ }
     ensures { λ r. ⌜ r .held ≤ 20001 ⌝ }
 {
-    let filled = read_behind(row, held);
+    let filled = read_behind(STDIN_FILENO, row, held);
     if filled == held {
         answer_last(&row[..held], out);
         return Rest {

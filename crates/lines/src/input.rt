@@ -1,6 +1,6 @@
 // Lines in a row of bytes that is filled from its start, and the rest that stays for more to come.
 ghost use mathlib.Core.Path.{_≡_};
-ghost use Prim.Native.Nat.{_+_, _≤_, min, _-_};
+ghost use Prim.Native.Nat.{_+_, _≤_};
 ghost use lib.ListN.{length, take, drop};
 ghost use lib.Seq.{sets};
 
@@ -22,4 +22,13 @@ pub fn move_down(row: &mut [u8], from: usize, count: usize)
         row[i] = row[from + i];
         i += 1;
     }
+}
+
+// Reads once, behind the bytes that are held, and gives the place behind what came.
+pub fn read_behind(fd: i32, row: &mut [u8], held: usize) -> usize
+    requires { ⌜ held ≤ length (now row) ⌝ }
+    ensures { λ r. ⌜ (held ≤ r) × (r ≤ length (now (row .exit))) ⌝ }
+{
+    let got = libc::read(fd, &mut row[held..]);
+    held + io::count(got, &row[held..])
 }

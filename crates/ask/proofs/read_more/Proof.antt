@@ -10,7 +10,7 @@ use Rattle.ask.proofs.read_more.Lts as lts
 use Rattle.ask.proofs.answer_last.Reads as answer-last-reads
 use Rattle.ask.proofs.answer_lines.Reads as answer-lines-reads
 use Rattle.ask.proofs.kept.Reads as kept-reads
-use Rattle.ask.proofs.read_behind.Reads as read-behind-reads
+use Rattle.lines.proofs.input.read_behind.Reads as read-behind-reads
 use Rattle.lines.proofs.input.move_down.Reads as move-down-reads
 
 -- src/main.rt:97:9
@@ -25,7 +25,7 @@ slice-reshare-prefix-answer-last c = search needs
 slice-aggregate-answer-last : tie.Need-slice-aggregate-answer-last
 slice-aggregate-answer-last c =
     let r = c .before .before .before .before .read-behind in
-    sym (length-take-le (c .before .before .before .before .before .before .before .before .args .held) (r .last .0) (omega (arith, r .ensures .0, r .ensures .1)))
+    sym (length-take-le (c .before .before .before .before .before .before .before .before .args .held) (r .last .1 .0) (omega (arith, r .ensures .0, r .ensures .1)))
 
 -- src/main.rt:99:9
 answer-last-requires : tie.Need-answer-last-requires
@@ -51,7 +51,7 @@ slice-reshare-prefix-answer-lines c = search needs
 slice-aggregate-answer-lines : tie.Need-slice-aggregate-answer-lines
 slice-aggregate-answer-lines c =
     let r = c .before .before .before .before .read-behind in
-    sym (length-take-le (r .result) (r .last .0) (r .ensures .1))
+    sym (length-take-le (r .result) (r .last .1 .0) (r .ensures .1))
 
 -- src/main.rt:105:9
 answer-lines-requires : tie.Need-answer-lines-requires
@@ -61,7 +61,7 @@ answer-lines-requires c κs = search needs
 sub-kept : tie.Need-sub-kept
 sub-kept c =
     let r = c .before .before .before .before .before .before .before .before .read-behind in
-    omega (arith, c .before .before .answer-lines .ensures, length-take-le (r .result) (r .last .0) (r .ensures .1))
+    omega (arith, c .before .before .answer-lines .ensures, length-take-le (r .result) (r .last .1 .0) (r .ensures .1))
 
 -- src/main.rt:106:9
 kept-requires : tie.Need-kept-requires
@@ -71,7 +71,7 @@ kept-requires c κs = search needs
 move-down-requires : tie.Need-move-down-requires
 move-down-requires c κs =
     let r = c .before .before .before .before .before .before .before .before .before .before .read-behind in
-    omega (arith, c .before .kept .ensures .0, c .before .before .before .before .answer-lines .ensures, r .ensures .1, length-take-le (r .result) (r .last .0) (r .ensures .1))
+    omega (arith, c .before .kept .ensures .0, c .before .before .before .before .answer-lines .ensures, r .ensures .1, length-take-le (r .result) (r .last .1 .0) (r .ensures .1))
 
 -- src/main.rt:92:1
 same-length-3 : tie.Need-same-length-3
