@@ -106,7 +106,13 @@ fn answer_wrote(wrote: Wrote, text: &[u8], out: &mut [u8]) -> usize
     }
 }
 
-fn answer_written(pair: Pair, pattern: &[u8], fields: Fields, text: &mut [u8], out: &mut [u8]) -> usize
+fn answer_written(
+    pair: Pair,
+    pattern: &[u8],
+    fields: Fields,
+    text: &mut [u8],
+    out: &mut [u8],
+) -> usize
     requires { ⌜ length (now text) ≤ 4096 ⌝ }
     requires { ⌜ 16384 ≤ length (now out) ⌝ }
     ensures { λ r. ⌜ Counts r (now (out .exit)) ⌝ }

@@ -114,7 +114,7 @@ decoded-small word n e =
 -- a byte's digits, where the writer is at
 hex-next : (l : List ℕ) (next : ℕ) (s : List ℕ) (i : ℕ) → i < length s
     → sets (set (set l next (glyph (getD s i 0 / 16))) (next + 1) (glyph (getD s i 0 % 16))) (next + 2) (toHex (drop (i + 1) s))
-      ≡ sets l next (toHex (drop i s))
+    ≡ sets l next (toHex (drop i s))
 unfolding toHex
 hex-next l next s i h =
     let e : i + 1 ≡ suc i = omega arith in
