@@ -25,7 +25,7 @@ fn text_length(pair: Pair, pattern: &[u8], f: Fields) -> usize
     format_parts(pair, pattern, f, &mut row)
 }
 
-// Whether there is room, which 8 bytes for each of the pattern always are: 0, or the bytes that are needed.
+// Whether there is room, which 8 bytes for each of the pattern always are; refused with the bytes that are needed.
 fn room_check(pair: Pair, pattern: &[u8], f: Fields, room: usize) -> Checked
     requires { ⌜ patternCheck (now pattern) ≡ Fine ⌝ }
     requires { ⌜ fieldsCheck f ≡ Fine ⌝ }
