@@ -3,3 +3,4 @@ pub mod Moves
 pub mod Parts
 pub mod Runs
 pub mod Reaches
+pub mod Offsets

@@ -4,5 +4,6 @@ pub mod checks;
 pub mod cursor;
 pub mod extent;
 pub mod numbers;
+pub mod offset;
 pub mod steps;
 pub mod years;
