@@ -93,7 +93,7 @@ pub fn tell(why: Refusal) -> Told
     }
 }
 
-fn put_detail(d: Detail, out: &mut [u8], at: usize) -> usize
+pub fn put_detail(d: Detail, out: &mut [u8], at: usize) -> usize
     requires { ⌜ at + 22 ≤ length (now out) ⌝ }
     ensures { λ r. ⌜ r ≤ at + 22 ⌝ }
 {
