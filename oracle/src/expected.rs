@@ -42,12 +42,12 @@ fn first_limit(request: &Request) -> Option<Expected> {
         Request::Write {
             pattern, fields, ..
         } => limit(pattern_limit(pattern))
-            .or_else(|| lone_quote(pattern))
+            .or_else(|| lone_quote(pattern).map(Expected::Refused))
             .or_else(|| limit(field_limit(fields))),
         Request::Read {
             pattern, text, now, ..
         } => limit(pattern_limit(pattern))
-            .or_else(|| lone_quote(pattern))
+            .or_else(|| lone_quote(pattern).map(Expected::Refused))
             .or_else(|| limit(year_limit(*now)))
             .or_else(|| limit(text_limit(text))),
         Request::ParseOffset { text } => limit(text_limit(text)),
@@ -59,10 +59,10 @@ fn limit(line: Option<String>) -> Option<Expected> {
 }
 
 /// Refusal 3, which the Rust shows by a panic once it comes to that part.
-fn lone_quote(pattern: &[u8]) -> Option<Expected> {
+pub(crate) fn lone_quote(pattern: &[u8]) -> Option<String> {
     let last = *walk::split(as_pattern(pattern)?).last()?;
     let alone = last.kind == Kind::Open && last.length == 1;
-    alone.then(|| Expected::Refused(refused(3, &[last.start as i64])))
+    alone.then(|| refused(3, &[last.start as i64]))
 }
 
 /// The limits have been checked, so the Rust can be asked.

@@ -7,12 +7,15 @@ mod guard;
 mod util;
 
 pub mod answer;
+pub mod check;
+pub mod differences;
 pub mod expected;
 pub mod generator;
 pub mod limits;
 pub mod options;
 pub mod printing;
 pub mod request;
+pub mod running;
 pub mod tally;
 pub mod walk;
 

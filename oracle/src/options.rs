@@ -10,7 +10,8 @@ pub struct Options {
     pub count: usize,
     /// Of a longer run only each request of this step is taken.
     pub every: NonZeroUsize,
-    pub ops: Vec<Op>,
+    /// All of them where none is named.
+    pub ops: Option<Vec<Op>>,
     /// A file of requests, instead of generated ones.
     pub requests: Option<String>,
     /// The program to compare, with its arguments.
@@ -18,12 +19,20 @@ pub struct Options {
 }
 
 impl Options {
-    pub fn from_args(mut args: impl Iterator<Item = String>) -> Result<Options, String> {
+    pub fn from_args(args: impl Iterator<Item = String>) -> Result<Options, String> {
+        Options::with_count(1_000_000, args)
+    }
+
+    /// With the given count where the arguments name none.
+    pub fn with_count(
+        count: usize,
+        mut args: impl Iterator<Item = String>,
+    ) -> Result<Options, String> {
         let mut options = Options {
             seed: 1,
-            count: 1_000_000,
+            count,
             every: NonZeroUsize::MIN,
-            ops: Op::ALL.to_vec(),
+            ops: None,
             requests: None,
             program: Vec::new(),
         };
@@ -32,7 +41,7 @@ impl Options {
                 "--seed" => options.seed = number(args.next())?,
                 "--count" => options.count = number(args.next())?,
                 "--every" => options.every = number(args.next())?,
-                "--ops" => options.ops = ops(&word(args.next())?)?,
+                "--ops" => options.ops = Some(ops(&word(args.next())?)?),
                 "--requests" => options.requests = Some(word(args.next())?),
                 "--" => options.program = args.by_ref().collect(),
                 _ => return Err(format!("unknown option {arg}")),
@@ -42,7 +51,8 @@ impl Options {
     }
 
     pub fn generated(&self) -> impl Iterator<Item = Request> {
-        Generator::new(self.seed, self.ops.clone())
+        let ops = self.ops.clone().unwrap_or(Op::ALL.to_vec());
+        Generator::new(self.seed, ops)
             .step_by(self.every.get())
             .take(self.count)
     }

@@ -152,7 +152,7 @@ fn read_request<'a>(pair: Pair, words: &mut impl Iterator<Item = &'a str>) -> Op
     })
 }
 
-fn fields<'a>(words: &mut impl Iterator<Item = &'a str>) -> Option<Fields> {
+pub(crate) fn fields<'a>(words: &mut impl Iterator<Item = &'a str>) -> Option<Fields> {
     Some(Fields {
         year: number(words)?,
         month: number(words)?,
@@ -165,7 +165,7 @@ fn fields<'a>(words: &mut impl Iterator<Item = &'a str>) -> Option<Fields> {
     })
 }
 
-fn field_words(fields: &Fields) -> String {
+pub fn field_words(fields: &Fields) -> String {
     format!(
         "{} {} {} {} {} {} {} {}",
         fields.year,
@@ -179,7 +179,7 @@ fn field_words(fields: &Fields) -> String {
     )
 }
 
-fn number<'a, T: FromStr>(words: &mut impl Iterator<Item = &'a str>) -> Option<T> {
+pub(crate) fn number<'a, T: FromStr>(words: &mut impl Iterator<Item = &'a str>) -> Option<T> {
     let word = words.next()?;
     if word.starts_with('+') {
         return None;
@@ -187,7 +187,7 @@ fn number<'a, T: FromStr>(words: &mut impl Iterator<Item = &'a str>) -> Option<T
     word.parse().ok()
 }
 
-fn bytes<'a>(words: &mut impl Iterator<Item = &'a str>) -> Option<Vec<u8>> {
+pub(crate) fn bytes<'a>(words: &mut impl Iterator<Item = &'a str>) -> Option<Vec<u8>> {
     let word = words.next()?;
     if word == "-" {
         return Some(Vec::new());

@@ -1,22 +1,25 @@
 //! The count of a comparison, with the first differences in full.
 
 use crate::answer::BAD_REQUEST;
+use crate::differences::Differences;
 use crate::expected::{expected, Expected};
 use crate::request::{Op, Request};
 use std::fmt;
 
-const DIFFERENCES_SHOWN: usize = 10;
+/// What holds a program's answers, one after the other, and prints how they did.
+pub trait Hold: fmt::Display {
+    /// Holds the program's answer to a request against the expected one.
+    fn hold(&mut self, line: &str, answer: &str);
+
+    fn differences(&mut self) -> &mut Differences;
+}
 
 #[derive(Default)]
 pub struct Tally {
     by_op: [Row; Op::ALL.len()],
     /// Lines that are no request.
     others: Row,
-    shown: Vec<String>,
-    /// Requests that the program gave no answer to.
-    unanswered: usize,
-    /// Answers that the program gave to no request.
-    unasked: usize,
+    differences: Differences,
 }
 
 #[derive(Clone, Copy, Default)]
@@ -28,9 +31,8 @@ struct Row {
     differences: usize,
 }
 
-impl Tally {
-    /// Holds the program's answer to a request against the expected one.
-    pub fn hold(&mut self, line: &str, answer: &str) {
+impl Hold for Tally {
+    fn hold(&mut self, line: &str, answer: &str) {
         let (row, expected) = match Request::from_line(line) {
             Some(request) => (&mut self.by_op[request.op() as usize], expected(&request)),
             None => (&mut self.others, Expected::Limit(BAD_REQUEST.to_string())),
@@ -38,32 +40,16 @@ impl Tally {
         row.count(&expected);
         if answer != expected.line() {
             row.differences += 1;
-            if self.shown.len() < DIFFERENCES_SHOWN {
-                self.shown.push(format!(
-                    "request  {line}\nexpected {}\nanswered {answer}\n",
-                    expected.line()
-                ));
-            }
+            self.differences.note(&[
+                ("request", line),
+                ("expected", expected.line()),
+                ("answered", answer),
+            ]);
         }
     }
 
-    pub fn note_unanswered(&mut self) {
-        self.unanswered += 1;
-    }
-
-    pub fn note_unasked(&mut self, answers: usize) {
-        self.unasked += answers;
-    }
-
-    /// Whether the program answered every request as expected, and nothing else.
-    pub fn is_clean(&self) -> bool {
-        self.total().differences + self.unanswered + self.unasked == 0
-    }
-
-    fn total(&self) -> Row {
-        self.by_op
-            .iter()
-            .fold(self.others, |sum, row| sum.plus(row))
+    fn differences(&mut self) -> &mut Differences {
+        &mut self.differences
     }
 }
 
@@ -98,9 +84,7 @@ impl Row {
 
 impl fmt::Display for Tally {
     fn fmt(&self, f: &mut fmt::Formatter<'_>) -> fmt::Result {
-        for difference in &self.shown {
-            writeln!(f, "{difference}")?;
-        }
+        self.differences.print_first(f)?;
         writeln!(
             f,
             "{:<14}{:>10}{:>10}{:>10}{:>10}{:>13}",
@@ -110,14 +94,11 @@ impl fmt::Display for Tally {
             self.by_op[op as usize].print(op.name(), f)?;
         }
         self.others.print("no request", f)?;
-        self.total().print("all", f)?;
-        if self.unanswered + self.unasked > 0 {
-            writeln!(
-                f,
-                "{} requests had no answer, {} answers no request",
-                self.unanswered, self.unasked
-            )?;
-        }
-        Ok(())
+        let total = self
+            .by_op
+            .iter()
+            .fold(self.others, |sum, row| sum.plus(row));
+        total.print("all", f)?;
+        self.differences.print_missing(f)
     }
 }

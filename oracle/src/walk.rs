@@ -49,6 +49,22 @@ pub struct Stopped {
     pub cause: Cause,
 }
 
+/// A pattern's parts as the Rust holds them, for the full pair to write and read one by one.
+pub struct Parts(Vec<String>);
+
+/// A written text with the places where its parts start, its end included.
+pub struct Written {
+    pub text: String,
+    pub places: Vec<usize>,
+}
+
+/// What one part reads: the bytes taken, and the unit and value that it carries.
+#[derive(Debug, PartialEq, Eq)]
+pub struct PartRead {
+    pub taken: usize,
+    pub carried: Option<(usize, i64)>,
+}
+
 const ESCAPED_QUOTE: char = '\0';
 const QUOTE: char = '\'';
 
@@ -99,6 +115,49 @@ pub fn read(pair: Pair, pattern: &str, text: &str, now: i32) -> Result<Reading, 
 
 pub fn parse_offset(text: &str) -> Result<i32, Cause> {
     guarded(|| parse::parse_offset(text))
+}
+
+impl Parts {
+    pub fn of(pattern: &str) -> Parts {
+        Parts(parse_format_string(pattern))
+    }
+
+    pub fn count(&self) -> usize {
+        self.0.len()
+    }
+
+    /// The byte and the length of a run.
+    pub fn run(&self, part: usize) -> Option<(u8, usize)> {
+        let run = Some(&self.0[part]).filter(|part| kind_of(part) == Kind::Run)?;
+        Some((run.as_bytes()[0], run.len()))
+    }
+
+    /// Writes the parts from the given one on.
+    pub fn write_from(&self, first: usize, fields: &Fields) -> Result<Written, Cause> {
+        give_fields(*fields);
+        guarded(|| {
+            let parts = &self.0[first..];
+            let mut text = String::with_capacity(8 * parts.len());
+            let mut places = Vec::with_capacity(parts.len() + 1);
+            for part in parts {
+                places.push(text.len());
+                text += &write_part(Pair::Full, part, fields);
+            }
+            places.push(text.len());
+            Ok(Written { text, places })
+        })
+    }
+
+    /// Reads the one part from the start of the text.
+    pub fn read_one(&self, part: usize, text: &str, now: i32) -> Result<PartRead, Cause> {
+        give_current_year(now);
+        let mut rest = text.to_string();
+        let carried = guarded(|| read_part(Pair::Full, &self.0[part], &mut rest))?;
+        Ok(PartRead {
+            taken: text.len() - rest.len(),
+            carried: carried.map(|carried| (carried.unit as usize, carried.value)),
+        })
+    }
 }
 
 impl Reading {

@@ -44,6 +44,9 @@ const YEARS_OUT: [i32; 5] = [0, 5_879_612, -5_879_612, i32::MAX, i32::MIN];
 const NANOSECONDS_OUT: [u64; 4] = [DAY, DAY + 1, 1 << 63, u64::MAX];
 const OFFSETS_OUT: [i32; 4] = [86_400, -86_400, i32::MAX, i32::MIN];
 
+/// How many rounds go through every list.
+pub const BOUNDARIES: usize = YEARS.len();
+
 /// All fields at a boundary, each going through its own list.
 pub fn at_boundaries(round: usize) -> Fields {
     Fields {

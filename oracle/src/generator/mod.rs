@@ -1,5 +1,6 @@
 //! Requests without end, the same for the same seed and ops.
 
+mod checks;
 mod fields;
 mod offsets;
 mod patterns;
@@ -10,7 +11,9 @@ use crate::answer::text_of;
 use crate::calendar::Fields;
 use crate::request::{Op, Request, MOST_ROOM};
 use crate::walk::Pair;
-use random::Random;
+pub use checks::CheckGenerator;
+pub(crate) use fields::{at_boundaries, in_range, BOUNDARIES};
+pub use random::Random;
 
 pub struct Generator {
     random: Random,

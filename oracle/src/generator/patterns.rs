@@ -2,13 +2,14 @@
 
 use super::random::Random;
 
-const SYMBOLS: &[u8; 19] = b"GyqMwdDeabhHKkmsnXx";
-const COUNTS: [usize; 16] = [1, 2, 3, 4, 5, 6, 7, 8, 9, 10, 11, 12, 20, 100, 255, 256];
+pub const SYMBOLS: &[u8; 19] = b"GyqMwdDeabhHKkmsnXx";
+pub const COUNTS: [usize; 16] = [1, 2, 3, 4, 5, 6, 7, 8, 9, 10, 11, 12, 20, 100, 255, 256];
 /// How many different runs of one symbol there are.
 const RUNS: usize = SYMBOLS.len() * COUNTS.len();
 
 const FAMILIES: usize = 12;
 const RUN_FAMILY: usize = 0;
+const FIRST_RANDOM: usize = 3;
 
 /// The families take turns; those that enumerate come one step further each time.
 pub fn pattern(turn: usize, random: &mut Random) -> Vec<u8> {
@@ -17,7 +18,19 @@ pub fn pattern(turn: usize, random: &mut Random) -> Vec<u8> {
         RUN_FAMILY => symbol_run(step),
         1 => short(step),
         2 => short_with_quotes(step),
-        3 => around_the_limits(random),
+        family => of_random_family(family, random),
+    }
+}
+
+/// Of a family that enumerates nothing, picked as often as it has a turn.
+pub fn at_random(random: &mut Random) -> Vec<u8> {
+    let family = random.between(FIRST_RANDOM as i64, FAMILIES as i64 - 1);
+    of_random_family(family as usize, random)
+}
+
+fn of_random_family(family: usize, random: &mut Random) -> Vec<u8> {
+    match family {
+        FIRST_RANDOM => around_the_limits(random),
         4 => noise(random),
         5 => disturbed(random),
         _ => ordinary(random),

@@ -1,0 +1,116 @@
+//! The pattern check, found by trying: records are written with the Rust and read back part by part.
+
+mod carried;
+mod records;
+mod request;
+mod tally;
+
+pub use request::CheckRequest;
+pub use tally::CheckTally;
+
+use crate::answer::as_pattern;
+use crate::calendar::Fields;
+use crate::expected::lone_quote;
+use crate::generator::{at_boundaries, in_range, Random, BOUNDARIES};
+use crate::limits::{pattern_limit, year_limit};
+use crate::walk::{Parts, Written};
+
+const RANDOM_RECORDS: usize = 8;
+
+#[derive(Debug, PartialEq, Eq)]
+pub enum Verdict {
+    Refused(String),
+    Yes,
+    /// The first part that does not come back for some record, and such a record.
+    No(usize, Fields),
+}
+
+/// The verdict on a pattern, as far as the records tried can show it.
+pub fn verdict(request: &CheckRequest, random: &mut Random) -> Verdict {
+    if let Some(line) = refused(request) {
+        return Verdict::Refused(line);
+    }
+    let trial = Trial::of(request);
+    match trial.first_failure(random) {
+        Some((part, fields)) => Verdict::No(part, fields),
+        None => Verdict::Yes,
+    }
+}
+
+/// Refusals 1, 2, 3 and 14, in this order.
+fn refused(request: &CheckRequest) -> Option<String> {
+    pattern_limit(&request.pattern)
+        .or_else(|| lone_quote(&request.pattern))
+        .or_else(|| year_limit(request.now))
+}
+
+/// A pattern within the limits, to be tried on records.
+pub struct Trial {
+    parts: Parts,
+    now: i32,
+}
+
+impl Trial {
+    pub fn of(request: &CheckRequest) -> Trial {
+        let pattern = as_pattern(&request.pattern).expect("a pattern within the limits is ASCII");
+        Trial {
+            parts: Parts::of(pattern),
+            now: request.now,
+        }
+    }
+
+    /// The first part that the record fails at.
+    pub fn first_failing(&self, fields: &Fields) -> Option<usize> {
+        self.first_failing_before(self.parts.count(), fields)
+    }
+
+    fn first_failing_before(&self, end: usize, fields: &Fields) -> Option<usize> {
+        let written = self.written_from(0, fields);
+        (0..end).find(|part| {
+            let (start, next) = (written.places[*part], written.places[*part + 1]);
+            !self.comes_back(*part, &written.text[start..], next - start, fields)
+        })
+    }
+
+    fn first_failure(&self, random: &mut Random) -> Option<(usize, Fields)> {
+        let mut first = None;
+        let mut end = self.parts.count();
+        for fields in all_at_once(random) {
+            if let Some(part) = self.first_failing_before(end, &fields) {
+                (first, end) = (Some((part, fields)), part);
+            }
+        }
+        (0..end)
+            .find_map(|part| Some((part, self.failing_around(part)?)))
+            .or(first)
+    }
+
+    fn failing_around(&self, part: usize) -> Option<Fields> {
+        records::around(&self.parts, part).find(|fields| {
+            let written = self.written_from(part, fields);
+            !self.comes_back(part, &written.text, written.places[1], fields)
+        })
+    }
+
+    fn written_from(&self, part: usize, fields: &Fields) -> Written {
+        let written = self.parts.write_from(part, fields);
+        written.expect("the Rust writes every allowed record")
+    }
+
+    /// Whether the part takes just the bytes that it wrote, and gives what it carries.
+    fn comes_back(&self, part: usize, text: &str, length: usize, fields: &Fields) -> bool {
+        let carried = self
+            .parts
+            .run(part)
+            .and_then(|(symbol, count)| carried::carried(symbol, count, fields));
+        self.parts
+            .read_one(part, text, self.now)
+            .is_ok_and(|read| read.taken == length && read.carried == carried)
+    }
+}
+
+/// Records in which all fields vary at once: the boundaries, and some at random.
+fn all_at_once(random: &mut Random) -> impl Iterator<Item = Fields> + '_ {
+    let boundaries = (0..BOUNDARIES).map(at_boundaries);
+    boundaries.chain((0..RANDOM_RECORDS).map(|_| in_range(random)))
+}

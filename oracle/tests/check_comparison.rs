@@ -1,0 +1,158 @@
+//! What the comparison of the check holds a program's answers to, and which patterns it asks about.
+
+use harness::check::{verdict, CheckRequest, CheckTally};
+use harness::generator::{CheckGenerator, Random};
+use harness::tally::Hold;
+use std::collections::HashSet;
+use std::process::Command;
+
+const ONE_DIGIT: &str = "2025 1 1 1 1 3 0 3600";
+const TWO_DIGITS: &str = "2025 12 31 365 52 3 0 3600";
+
+/// What is wrong with the answer to a check of the pattern.
+fn fault(pattern: &str, answer: &str) -> Option<String> {
+    let request = CheckRequest {
+        pattern: pattern.into(),
+        now: 2025,
+    };
+    request.fault(&verdict(&request, &mut Random::new(1)), answer)
+}
+
+#[track_caller]
+fn fine(pattern: &str, answer: &str) {
+    assert_eq!(fault(pattern, answer), None);
+}
+
+#[track_caller]
+fn faulty(pattern: &str, answer: &str, why: &str) {
+    assert_eq!(fault(pattern, answer).as_deref(), Some(why));
+}
+
+#[test]
+fn a_yes_is_held_to_the_records() {
+    fine("d/MM", "yes");
+    faulty("d/M", "yes", "another answer");
+    faulty("d/MM", "no", "another answer");
+    faulty("d/MM", "refused 3 0", "another answer");
+    faulty(
+        "d/MM",
+        &format!("no 2 {TWO_DIGITS}"),
+        "the record comes back",
+    );
+}
+
+#[test]
+fn any_record_that_fails_at_the_first_failing_part_will_do() {
+    fine("d/M", &format!("no 2 {TWO_DIGITS}"));
+    fine("d/M", "no 2 -3 10 5 7 9 0 1 -1");
+}
+
+#[test]
+fn the_record_shown_must_fail_there() {
+    faulty("d/M", &format!("no 2 {ONE_DIGIT}"), "the record comes back");
+    faulty(
+        "d/M",
+        &format!("no 0 {TWO_DIGITS}"),
+        "the record fails at part 2",
+    );
+    faulty(
+        "d5M",
+        &format!("no 2 {TWO_DIGITS}"),
+        "an earlier part fails",
+    );
+}
+
+#[test]
+fn the_record_shown_must_be_allowed_and_spelled_as_one() {
+    faulty(
+        "d/M",
+        "no 2 0 12 31 365 52 3 0 3600",
+        "the record is refused 4 1",
+    );
+    faulty(
+        "d/M",
+        "no 2 2025 12 31 365 52 3 0 86400",
+        "the record is refused 4 8",
+    );
+    faulty("d/M", "no 2", "another answer");
+    faulty("d/M", &format!("no 2 {TWO_DIGITS} 0"), "another answer");
+    faulty("d/M", &format!("no 02 {TWO_DIGITS}"), "another answer");
+}
+
+#[test]
+fn a_refusal_is_held_to_its_line() {
+    fine("d'", "refused 3 1");
+    faulty("d'", "refused 3", "another answer");
+    faulty("d'", &format!("no 0 {ONE_DIGIT}"), "another answer");
+}
+
+#[test]
+fn its_own_verdicts_are_without_difference() {
+    let mut tally = CheckTally::new(1);
+    for request in CheckGenerator::new(1).take(400) {
+        let answer = verdict(&request, &mut Random::new(2)).to_string();
+        tally.hold(&request.to_string(), &answer);
+    }
+    tally.hold("check 64", "bad request");
+    assert!(tally.differences().are_none(), "{tally}");
+}
+
+#[test]
+fn a_program_that_always_says_yes_is_found_out() {
+    assert_eq!(
+        status_with("while read -r line; do echo yes; done"),
+        Some(1)
+    );
+}
+
+#[test]
+fn a_program_that_says_nothing_is_found_out() {
+    assert_eq!(status_with("cat >/dev/null"), Some(1));
+}
+
+fn status_with(script: &str) -> Option<i32> {
+    let comparer = env!("CARGO_BIN_EXE_compare_check");
+    let run = Command::new(comparer)
+        .args(["--count", "100", "--", "sh", "-c", script])
+        .output();
+    run.expect("the comparer runs").status.code()
+}
+
+#[test]
+fn generated_requests_read_back_from_their_lines() {
+    for request in CheckGenerator::new(1).take(10_000) {
+        assert_eq!(CheckRequest::from_line(&request.to_string()), Some(request));
+    }
+}
+
+#[test]
+fn a_default_run_has_every_listed_pattern() {
+    assert!(CheckGenerator::whole_list() >= 100_000);
+    let asked: HashSet<Vec<u8>> = CheckGenerator::new(1)
+        .take(CheckGenerator::whole_list())
+        .map(|request| request.pattern)
+        .collect();
+    let listed = [
+        "",
+        "d/M",
+        "'d'",
+        "XXXXX5",
+        "XXXXX.5",
+        "XXXXX'5'5",
+        "yyyyyyyn",
+        "'5''5'd5",
+        "xxxxx//'a5'",
+        "DDDDDDDDDDDDDDDDDDDDkkkkkkkkkkkk",
+    ];
+    for pattern in listed {
+        assert!(asked.contains(pattern.as_bytes()), "{pattern}");
+    }
+    for symbol in *b"GyqMwdDeabhHKkmsnXx" {
+        for count in [1, 2, 3, 4, 5, 6, 7, 8, 9, 10, 11, 12, 20, 100, 255, 256] {
+            assert!(
+                asked.contains(&vec![symbol; count]),
+                "{count} times {symbol}"
+            );
+        }
+    }
+}
