@@ -45,13 +45,13 @@ fn refused(request: &CheckRequest) -> Option<String> {
 }
 
 /// A pattern within the limits, to be tried on records.
-pub struct Trial {
+struct Trial {
     parts: Parts,
     now: i32,
 }
 
 impl Trial {
-    pub fn of(request: &CheckRequest) -> Trial {
+    fn of(request: &CheckRequest) -> Trial {
         let pattern = as_pattern(&request.pattern).expect("a pattern within the limits is ASCII");
         Trial {
             parts: Parts::of(pattern),
@@ -60,7 +60,7 @@ impl Trial {
     }
 
     /// The first part that the record fails at.
-    pub fn first_failing(&self, fields: &Fields) -> Option<usize> {
+    fn first_failing(&self, fields: &Fields) -> Option<usize> {
         self.first_failing_before(self.parts.count(), fields)
     }
 
