@@ -1,7 +1,7 @@
 -- What an unclosed part writes, by its last byte; and the text of a pattern, part by part.
 use mathlib.Core.Bool.{true, false}
 use mathlib.Core.List.{List, [], _++_}
-use mathlib.Core.Path.{_≡_, ap, subst⁻¹}
+use mathlib.Core.Path.{_≡_}
 use Prim.Native.Nat.{ℕ, _+_, _-_, _≤_}
 use lib.Dec.{eqb}
 use lib.ListN.{length, getD, take, drop, drop-of-length-le}
@@ -41,7 +41,3 @@ text-step pair book f p at part n = rw (n .walk)
 pub text-done : (pair : Pair) (book : Book) (f : Fields) (p : List ℕ) (at : ℕ) → length p ≤ at → text pair book (drop at p) f ≡ []
 unfolding text steps texts contents elements outside
 text-done pair book f p at h = rw (drop-of-length-le p h)
-
--- a part starts where it was found
-pub starts-here : {p : List ℕ} {at : ℕ} {part : Part} → Next p at part → Next p (part .start) part
-starts-here {p} {at} {part} n = subst⁻¹ (λ (k : ℕ). Next p k part) (ap (λ (q : Part). q .start) (n .itself)) n

@@ -4,17 +4,11 @@ ghost use Prim.Native.Nat.{_+_, _-_, _≤_};
 ghost use lib.Dec.{eqb};
 ghost use lib.ListN.{length, getD};
 ghost use Rattle.laws.specs.Laid.{Laid};
-ghost use Rattle.meaning.specs.Bytes.{when, quote};
+ghost use Rattle.meaning.specs.Bytes.{quote};
 ghost use Rattle.pattern.proofs.Inside.{Lost};
 ghost use Rattle.pattern.specs.First.{unescaped};
 ghost use Rattle.format.specs.Literals.{openText};
-
-// How many pattern bytes stand for this one: a quote inside is the first of two.
-fn bytes_of(b: u8) -> usize
-    ensures { λ r. ⌜ r ≡ when (eqb b quote) 2 1 ⌝ }
-{
-    if b == b'\'' { 2 } else { 1 }
-}
+use pattern::quoted::bytes_of;
 
 pub fn put_unescaped(src: &[u8], out: &mut [u8], at: usize) -> usize
     requires { ⌜ at + length (unescaped (now src)) ≤ length (now out) ⌝ }

@@ -4,7 +4,7 @@ use mathlib.Core.Bool.{Bool, true, false}
 use mathlib.Core.List.{List, [], _∷_, _++_, map}
 use mathlib.Core.Option.{Option, none, some}
 use Prim.Native.Char.{Char, code}
-use Prim.Native.Nat.{ℕ, zero, suc, _+_, _*_, _-_}
+use Prim.Native.Nat.{ℕ, zero, suc, _+_, _*_, _-_, _/_, _%_, _^_}
 use lib.Dec.{eqb, leb}
 use lib.IntN.{ℤ, pos, negℤ, natAbs}
 use lib.ListN.{length, getD, take, drop, replicate}
@@ -134,6 +134,10 @@ bits (mark ∷ marks) = when mark 1 0 + 2 * bits marks
 unfoldable pub howMany : List Bool → ℕ
 howMany [] = 0
 howMany (mark ∷ marks) = when mark 1 0 + howMany marks
+
+-- what a user of the record tests: whether bit k of a mask is set
+unfoldable pub marked : ℕ → ℕ → Bool
+marked mask k = eqb (mask / 2 ^ k % 2) 1
 
 abbrev pub readingOf : Checked → ℕ → List Carried → Reading
 readingOf checked taken gave =

@@ -3,3 +3,5 @@ pub mod Moves
 pub mod Parts
 pub mod Runs
 pub mod Reaches
+pub mod Within
+pub mod Zoning

@@ -11,20 +11,20 @@ use Rattle.laws.proofs.Readers.{reach-on, reach-ends}
 use Rattle.meaning.specs.Bytes.{isDigit, digitAt}
 use Rattle.meaning.specs.Readers.{reach}
 
-module _ (s : List ℕ) (at k most : ℕ) where
-  digit-there : digitAt k (drop at s) ≡ isDigit (getD s (at + k) 0)
-  unfolding digitAt
-  digit-there = rw (getD-drop)
+pub digit-there : (s : List ℕ) (at k : ℕ) → digitAt k (drop at s) ≡ isDigit (getD s (at + k) 0)
+unfolding digitAt
+digit-there s at k = rw (getD-drop)
 
+module _ (s : List ℕ) (at k most : ℕ) where
   one-more : k < most → most - k ≡ suc (most - suc k)
   one-more h = omega arith
 
   pub reach-more : k < most → isDigit (getD s (at + k) 0) ≡ true
       → reach (most - k) k (drop at s) ≡ reach (most - (k + 1)) (k + 1) (drop at s)
-  reach-more h e = rw (one-more h, add-one) (reach-on (most - suc k) k (drop at s) (rw (digit-there) e))
+  reach-more h e = rw (one-more h, add-one) (reach-on (most - suc k) k (drop at s) (rw (digit-there s at k) e))
 
   pub reach-stops : k < most → isDigit (getD s (at + k) 0) ≡ false → reach (most - k) k (drop at s) ≡ k
-  reach-stops h e = rw (one-more h) (reach-ends (most - suc k) k (drop at s) (rw (digit-there) e))
+  reach-stops h e = rw (one-more h) (reach-ends (most - suc k) k (drop at s) (rw (digit-there s at k) e))
 
   pub reach-done : most ≤ k → reach (most - k) k (drop at s) ≡ k
   unfolding reach

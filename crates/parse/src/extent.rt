@@ -6,16 +6,16 @@ ghost use Rattle.meaning.specs.Readers.{reach};
 
 // So many bytes at least, and at most, as digits follow.
 pub fn extent(least: usize, most: usize, text: &[u8], at: usize) -> usize
-    requires { ⌜ (at ≤ length (now text)) × (most ≤ 256) ⌝ }
+    requires { ⌜ at ≤ length (now text) ⌝ }
     ensures { λ r. ⌜ r ≡ reach (most - least) least (drop at (now (text .entry))) ⌝ }
 {
+    let left = text.len() - at;
     let mut k = least;
     while k < most {
-        let place = at + k;
-        if text.len() <= place {
+        if left <= k {
             return k;
         }
-        let b = text[place];
+        let b = text[at + k];
         if b < b'0' {
             return k;
         }

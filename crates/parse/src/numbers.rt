@@ -1,6 +1,6 @@
 // Numbers in: one number reader with a sign rule.
 ghost use mathlib.Core.Path.{_≡_};
-ghost use Prim.Native.Nat.{_≤_};
+ghost use Prim.Native.Nat.{_^_, _<_};
 ghost use Rattle.meaning.specs.Numerals as numerals;
 ghost use Rattle.meaning.specs.Readers.{takeNumber};
 ghost use Rattle.parse.specs.Steps.{numberIn, gotNumber};
@@ -83,4 +83,12 @@ pub fn read_number(kind: Numeral, k: usize, text: &[u8]) -> Number
         Sign::Minus => sized(kind, true, &text[1..k]),
         Sign::Bare => sized(kind, false, &text[..k]),
     }
+}
+
+pub fn integer_of(negative: bool, size: u64) -> i64
+    requires { ⌜ size < 2 ^ 63 ⌝ }
+    ensures { λ r. ⌜ r ≡ numerals.integer (record { negative = negative; size = size }) ⌝ }
+{
+    let n = size as i64;
+    if negative { 0 - n } else { n }
 }

@@ -2,28 +2,21 @@
 ghost use mathlib.Core.Path.{_≡_};
 ghost use Prim.Native.Nat.{_+_, _≤_};
 ghost use lib.ListN.{length, drop};
-ghost use Rattle.meaning.specs.Bytes as bytes;
-ghost use Rattle.meaning.specs.Numerals.{integer};
 ghost use Rattle.meaning.specs.Reading as reading;
-ghost use Rattle.parse.specs.Steps.{partAt};
+ghost use Rattle.parse.specs.Steps.{partAt, yearSince};
 use crate::cursor::Cursor;
 use crate::cursor::PartRead;
 use crate::cursor::Taken;
+use crate::numbers::integer_of;
 use meaning::Carried;
 use meaning::Numeral;
 use meaning::ParseUnit;
+use meaning::Trouble;
 
-fn integer_of(negative: bool, size: u32) -> i64
-    ensures { λ r. ⌜ r ≡ integer (record { negative = negative; size = size }) ⌝ }
-{
-    let n = size as i64;
-    if negative { 0 - n } else { n }
-}
-
-// So many bytes of a year.
-pub fn take_year(k: usize, text: &[u8], cursor: Cursor) -> PartRead
+// So many bytes of a year, counted on from one.
+fn take_year(since: u32, k: usize, text: &[u8], cursor: Cursor) -> PartRead
     requires { ⌜ cursor .at ≤ length (now text) ⌝ }
-    ensures { λ r. ⌜ r ≡ partAt (cursor .at) (reading.takenYear k (drop (cursor .at) (now (text .entry)))) ⌝ }
+    ensures { λ r. ⌜ r ≡ partAt (cursor .at) (yearSince since k (drop (cursor .at) (now (text .entry)))) ⌝ }
 {
     match cursor.take(Numeral::Year, k, text) {
         Taken::Stopped { trouble, place } => PartRead::Stopped { trouble, place },
@@ -32,7 +25,7 @@ pub fn take_year(k: usize, text: &[u8], cursor: Cursor) -> PartRead
             size,
             next,
         } => {
-            let value = integer_of(negative, size);
+            let value = integer_of(negative, size as u64) + since as i64;
             PartRead::Got {
                 carried: Carried::Value(ParseUnit::Year, value),
                 next,
@@ -78,15 +71,32 @@ pub fn parse_years(text: &[u8], cursor: Cursor) -> PartRead
     let at = cursor.at;
     let minus = minus_first(text, at);
     let digits = digit_run(text, at + minus);
-    take_year(minus + digits, text, cursor)
+    take_year(0, minus + digits, text, cursor)
 }
 
 // y from 5 up: so many bytes, and one more at a minus.
 pub fn parse_fixed_year(count: usize, text: &[u8], cursor: Cursor) -> PartRead
-    requires { ⌜ (cursor .at ≤ length (now text)) × (count ≤ 256) ⌝ }
+    requires { ⌜ cursor .at ≤ length (now text) ⌝ }
     ensures { λ r. ⌜ r ≡ partAt (cursor .at) (reading.takenYear (reading.minusFirst (drop (cursor .at) (now (text .entry))) + count) (drop (cursor .at) (now (text .entry)))) ⌝ }
 {
     let at = cursor.at;
     let minus = minus_first(text, at);
-    take_year(minus + count, text, cursor)
+    if text.len() - at - minus < count {
+        return PartRead::Stopped {
+            trouble: Trouble::TooFew,
+            place: at,
+        };
+    }
+    take_year(0, minus + count, text, cursor)
+}
+
+// yy: three bytes at a minus, else two that count from the current millennium.
+pub fn parse_two_digit_year(current_year: u32, text: &[u8], cursor: Cursor) -> PartRead
+    requires { ⌜ cursor .at ≤ length (now text) ⌝ }
+    ensures { λ r. ⌜ r ≡ partAt (cursor .at) (reading.twoDigitYear «current_year» (drop (cursor .at) (now (text .entry)))) ⌝ }
+{
+    if minus_first(text, cursor.at) == 1 {
+        return take_year(0, 3, text, cursor);
+    }
+    take_year(current_year / 1000 * 1000, 2, text, cursor)
 }

@@ -8,7 +8,7 @@ use lib.Dec.{eqb}
 use lib.ListN.{length, getD, take, drop}
 use lib.Seq.{drop-drop}
 use borrow.Author.Tests.{eqb-false}
-use Rattle.laws.proofs.Tests.{by-test}
+use Rattle.laws.proofs.Tests.{by-test, when-is}
 use Rattle.meaning.specs.Bytes.{when, quote}
 use Rattle.meaning.specs.Writing.{endsInQuote}
 use Rattle.pattern.specs.First.{insideSize, unescaped}
@@ -28,6 +28,11 @@ unescaped-turn s i h =
     let k : (i + 1) + when (eqb (getD s i 0) quote) 1 0 ≡ i + when (eqb (getD s i 0) quote) 2 1 =
     by-test (eqb (getD s i 0) quote) (λ e. rw e (omega arith)) (λ e. rw e (omega arith)) in
     rw (from-here s i h, unescaped-first (getD s i 0) (drop (i + 1) s), drop-drop, k)
+
+-- how many bytes that is
+pub one-or-two : (b : ℕ) {r : ℕ} → r ≡ when (eqb b quote) 2 1 → (1 ≤ r) × (r ≤ 2)
+one-or-two b e =
+    rw e (when-is (λ (n : ℕ). (1 ≤ n) × (n ≤ 2)) (eqb b quote) (λ _. (omega arith, omega arith)) (λ _. (omega arith, omega arith)))
 
 -- What a write loses of an inside that nothing closes: if the last byte is a quote, it and the one before are the last element.
 pub record Lost (s : List ℕ) : Type 0 where

@@ -1,7 +1,7 @@
 -- Laws by which a caller walks a pattern part by part: `next` turns what next_part ensures into what the part holds and what
 -- is left behind it.
 use mathlib.Core.List.{List, [], _∷_}
-use mathlib.Core.Path.{_≡_, refl, ap, _∙_}
+use mathlib.Core.Path.{_≡_, refl, ap, _∙_, subst⁻¹}
 use Prim.Native.Nat.{ℕ, _+_, _-_, _*_, _/_, _≤_, _<_}
 use native.Mathlib.Omega.{arith}
 use lib.Dec.{eqb}
@@ -98,3 +98,7 @@ next p at part h e =
           λ k. omega (arith, sized .1, open-whole (drop at p) k .0, length-drop 1 (drop at p), length-drop at p);
       lost = λ k. rw (← drop-drop 1 at p) (lost (drop 1 (drop at p)) (open-whole (drop at p) k .1));
     })
+
+-- a part starts where it was found
+pub starts-here : {p : List ℕ} {at : ℕ} {part : Part} → Next p at part → Next p (part .start) part
+starts-here {p} {at} {part} n = subst⁻¹ (λ (k : ℕ). Next p k part) (ap (λ (q : Part). q .start) (n .itself)) n

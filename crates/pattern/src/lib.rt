@@ -1,4 +1,5 @@
 // "Splitting" of document 01: the parts of a pattern, one by one or all at once, and the refusals 1 to 3 of patterns.
+pub mod quoted;
 
 use meaning::Checked;
 use meaning::Kind;

@@ -1,8 +1,7 @@
 -- What lies there and what the bytes still to come stand for are the whole inside.
-use Prim.Native.Nat.{ℕ, _+_, _-_, _≤_}
+use Prim.Native.Nat.{_+_, _-_}
 use borrow.Author.Needs.{needs}
 use denote.Ref.{now}
-use lib.Dec.{eqb}
 use lib.ListN.{length, getD, drop, length-set, drop-of-length-le}
 use lib.Seq.{sets}
 use mathlib.Core.List.{_∷_}
@@ -11,9 +10,7 @@ use native.Mathlib.Numerals.{add-one}
 use native.Mathlib.Omega.{arith}
 use Rattle.format.proofs.literals.put_unescaped.Statement.{statement}
 use Rattle.format.proofs.literals.put_unescaped.Tie as tie
-use Rattle.laws.proofs.Tests.{when-is}
-use Rattle.meaning.specs.Bytes.{when, quote}
-use Rattle.pattern.proofs.Inside.{unescaped-turn}
+use Rattle.pattern.proofs.Inside.{unescaped-turn, one-or-two}
 use Rattle.pattern.specs.First.{unescaped}
 
 abbrev Inv-loop : tie.InvT-loop
@@ -45,10 +42,6 @@ add-next c =
 
 bytes-of-requires : tie.Need-bytes-of-requires Inv-loop μ-loop
 bytes-of-requires c κs = search needs
-
-one-or-two : (b : ℕ) {r : ℕ} → r ≡ when (eqb b quote) 2 1 → (1 ≤ r) × (r ≤ 2)
-one-or-two b e =
-    rw e (when-is (λ (n : ℕ). (1 ≤ n) × (n ≤ 2)) (eqb b quote) (λ _. (omega arith, omega arith)) (λ _. (omega arith, omega arith)))
 
 add-i : tie.Need-add-i Inv-loop μ-loop
 add-i c =

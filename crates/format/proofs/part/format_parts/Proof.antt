@@ -5,13 +5,13 @@ use lib.ListN.{length, drop, length-append}
 use lib.Seq.{sets}
 use mathlib.Core.Path.{_≡_, refl, sym, _∙_}
 use native.Mathlib.Omega.{arith}
-use Rattle.format.proofs.Laws.{text-step, text-done, starts-here}
+use Rattle.format.proofs.Laws.{text-step, text-done}
 use Rattle.format.proofs.part.format_parts.Statement.{statement}
 use Rattle.format.proofs.part.format_parts.Tie as tie
 use Rattle.laws.proofs.Laid.{sets-append}
 use Rattle.meaning.specs.Names.{english}
 use Rattle.meaning.specs.Whole.{text}
-use Rattle.pattern.proofs.Laws.{next}
+use Rattle.pattern.proofs.Laws.{next, starts-here}
 
 abbrev Inv-loop : tie.InvT-loop
 Inv-loop pair pattern f out₀ at₀ place₀ out at place =

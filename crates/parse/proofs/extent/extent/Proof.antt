@@ -11,22 +11,25 @@ use Rattle.parse.proofs.extent.extent.Statement.{statement}
 use Rattle.parse.proofs.extent.extent.Tie as tie
 
 abbrev Inv-loop : tie.InvT-loop
-Inv-loop least most text at k₀ k = reach (most - k) k (drop at text) ≡ reach (most - least) least (drop at text)
+Inv-loop least most text at left k₀ k = reach (most - k) k (drop at text) ≡ reach (most - least) least (drop at text)
 
 abbrev μ-loop : tie.MeasureT-loop
-μ-loop least most text at k₀ k = most - k
+μ-loop least most text at left k₀ k = most - k
+
+sub-left : tie.Need-sub-left Inv-loop μ-loop
+sub-left c = omega arith
 
 loop-holds : tie.Need-loop-holds Inv-loop μ-loop
 loop-holds c = omega arith
-
-add-place : tie.Need-add-place Inv-loop μ-loop
-add-place c = omega arith
 
 returns : tie.Need-returns Inv-loop μ-loop
 returns c =
     let a = c .before .before .before .args in
     let L = c .before .before .loop in
-    omega (arith, reach-stops (now (a .text)) (a .at) (L .k) (a .most) (c .before .loop-test .taken) (no-digit (now (a .text)) (a .at) (L .k) (a .most) (c .if1 .taken)), L .inv)
+    omega (arith, reach-stops (now (a .text)) (a .at) (L .k) (a .most) (c .before .loop-test .taken) (no-digit (now (a .text)) (a .at) (L .k) (a .most) (omega arith)), L .inv)
+
+add-b : tie.Need-add-b Inv-loop μ-loop
+add-b c = omega arith
 
 shared-slice-read-b : tie.Need-shared-slice-read-b Inv-loop μ-loop
 shared-slice-read-b c = omega arith
@@ -67,9 +70,10 @@ extent-spec =
     (tie.spec
     Inv-loop
     μ-loop
+    sub-left
     loop-holds
-    add-place
     returns
+    add-b
     shared-slice-read-b
     returns-2
     returns-3

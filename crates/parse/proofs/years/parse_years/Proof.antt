@@ -1,10 +1,11 @@
 -- The sign, and the digits that stand behind it.
+use Prim.Native.Nat.{_+_}
 use borrow.Author.Needs.{needs}
 use denote.Ref.{now}
 use lib.ListN.{drop, length-drop}
 use lib.Seq.{drop-drop}
-use Prim.Native.Nat.{_+_}
 use native.Mathlib.Omega.{arith}
+use Rattle.parse.proofs.Parts.{year-in-full}
 use Rattle.parse.proofs.Runs.{minus-fits, run-fits}
 use Rattle.parse.proofs.years.parse_years.Statement.{statement}
 use Rattle.parse.proofs.years.parse_years.Tie as tie
@@ -43,11 +44,16 @@ take-year-requires c κs = search needs
 returns : tie.Need-returns
 returns c =
     let a = c .before .before .before .before .args in
-    let s = drop (a .cursor .at) (now (a .text)) in
+    let at = a .cursor .at in
+    let text = now (a .text) in
+    let s = drop at text in
+    let minus = c .before .before .minus-first .result in
+    let digits = c .before .digit-run .result in
     rw (
       ← c .before .before .minus-first .ensures,
-      drop-drop (c .before .before .minus-first .result) (a .cursor .at) (now (a .text)),
+      drop-drop minus at text,
       ← c .before .digit-run .ensures,
+      ← year-in-full (minus + digits) s,
     ) (c .take-year .ensures)
 
 pub parse-years-spec : {M : Type 1} → statement M

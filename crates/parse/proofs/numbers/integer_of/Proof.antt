@@ -2,8 +2,8 @@
 use borrow.Author.Needs.{needs}
 use native.Mathlib.Omega.{arith}
 use Rattle.parse.proofs.Parts.{widened, negated, negated-fits}
-use Rattle.parse.proofs.years.integer_of.Statement.{statement}
-use Rattle.parse.proofs.years.integer_of.Tie as tie
+use Rattle.parse.proofs.numbers.integer_of.Statement.{statement}
+use Rattle.parse.proofs.numbers.integer_of.Tie as tie
 use mir.Facts.{toZ-ofZ}
 
 cast-n : tie.Need-cast-n

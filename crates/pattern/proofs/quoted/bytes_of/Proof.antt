@@ -1,6 +1,6 @@
 -- The test, as the definition has it.
-use Rattle.format.proofs.literals.bytes_of.Statement.{statement}
-use Rattle.format.proofs.literals.bytes_of.Tie as tie
+use Rattle.pattern.proofs.quoted.bytes_of.Statement.{statement}
+use Rattle.pattern.proofs.quoted.bytes_of.Tie as tie
 use Rattle.laws.proofs.Tests.{chosen}
 
 returns : tie.Need-returns
