@@ -1,6 +1,5 @@
 // Answers to requests of the line protocol: one line in, one line out.
-pub mod refusals;
-pub mod requests;
+pub mod refused;
 pub mod splits;
 pub mod writes;
 

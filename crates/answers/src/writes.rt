@@ -5,11 +5,7 @@ ghost use lib.ListN.{length};
 ghost use Rattle.io.specs.Counts.{Counts};
 ghost use Rattle.answers.specs.Marks.{markAt, Filled, FirstAltered, lengthOf};
 use crate::bad_request;
-use crate::refusals::answer_refused;
-use crate::requests::bytes_at;
-use crate::requests::bytes_row;
-use crate::requests::count_at;
-use crate::requests::fields_at;
+use crate::refused::answer_refused;
 use format::numbers::put_byte;
 use format::numbers::put_bytes;
 use lines::hex::put_hex;
@@ -17,6 +13,10 @@ use lines::numbers::put_size;
 use meaning::Fields;
 use meaning::Pair;
 use meaning::Wrote;
+use requests::bytes_at;
+use requests::bytes_row;
+use requests::count_at;
+use requests::fields_at;
 
 // The byte that fills a place of the output: none of a text, and another one than its neighbours'.
 fn mark(place: usize) -> u8

@@ -1,27 +1,23 @@
 -- A space and at most 21 bytes.
 use native.Mathlib.Omega.{arith}
-use Rattle.answers.proofs.Integers.{sign-small}
+use Rattle.answers.proofs.Signs.{sign-small}
 use borrow.Author.Needs.{needs}
-use Rattle.answers.proofs.refusals.put_detail.Statement.{statement}
-use Rattle.answers.proofs.refusals.put_detail.Tie as tie
-use Rattle.answers.proofs.refusals.put_detail.Reads as reads
-use Rattle.answers.proofs.refusals.put_detail.Lts as lts
+use Rattle.answers.proofs.refused.put_detail.Statement.{statement}
+use Rattle.answers.proofs.refused.put_detail.Tie as tie
+use Rattle.answers.proofs.refused.put_detail.Reads as reads
+use Rattle.answers.proofs.refused.put_detail.Lts as lts
 use Rattle.format.proofs.numbers.put_byte.Reads as put-byte-reads
 use Rattle.lines.proofs.numbers.put_number.Reads as put-number-reads
 
--- src/refusals.rt:100:9
 put-byte-requires : tie.Need-put-byte-requires
 put-byte-requires c κs = search needs
 
--- src/refusals.rt:101:5
 put-number-requires : tie.Need-put-number-requires
 put-number-requires c κs = search needs
 
--- src/refusals.rt:96:1
 same-length : tie.Need-same-length
 same-length c = search needs
 
--- src/refusals.rt:96:1
 returns : tie.Need-returns
 returns c =
     let byte = c .before .before .before .before .before .before .put-byte in

@@ -5,27 +5,23 @@ use lib.IntN.{pos}
 use mir.Facts.{toZ-pos, toZ-ofZ}
 use mir.Syntax.{w32}
 use mir.Val.{SFits}
-use Rattle.answers.proofs.Integers.{opposite-fits}
+use Rattle.requests.proofs.Opposites.{opposite-fits}
 use borrow.Author.Needs.{needs}
-use Rattle.answers.proofs.requests.integer_of.Statement.{statement}
-use Rattle.answers.proofs.requests.integer_of.Tie as tie
-use Rattle.answers.proofs.requests.integer_of.Reads as reads
-use Rattle.answers.proofs.requests.integer_of.Lts as lts
-use Rattle.answers.proofs.requests.opposite_of.Reads as opposite-of-reads
+use Rattle.requests.proofs.integer_of.Statement.{statement}
+use Rattle.requests.proofs.integer_of.Tie as tie
+use Rattle.requests.proofs.integer_of.Reads as reads
+use Rattle.requests.proofs.integer_of.Lts as lts
+use Rattle.requests.proofs.opposite_of.Reads as opposite-of-reads
 
--- src/requests.rt:101:9
 opposite-of-requires : tie.Need-opposite-of-requires
 opposite-of-requires c κs = rw (c .if1 .taken) at (c .before .pre)
 
--- src/requests.rt:101:9
 returns : tie.Need-returns
 returns c = rw (c .before .if1 .taken, c .opposite-of .ensures) (toZ-ofZ (opposite-fits (c .before .before .args .size) (rw (c .before .if1 .taken) at (c .before .before .pre))))
 
--- src/requests.rt:103:5
 cast-result : tie.Need-cast-result
 cast-result c = let h = rw (c .if1 .left) at (c .before .pre) in record { sfits = omega arith }
 
--- src/requests.rt:96:1
 returns-2 : tie.Need-returns-2
 returns-2 c = let h = rw (c .if1 .left) at (c .before .pre) in rw (c .if1 .left) (toZ-pos w32 (omega arith))
 

@@ -1,16 +1,9 @@
 // "Answer numbers" of document 01: a refusal's number and what it returns.
 ghost use mathlib.Core.Path.{_≡_};
-ghost use Prim.Native.Nat.{_+_, _≤_};
-ghost use lib.ListN.{length};
-ghost use Rattle.answers.specs.Told.{unsigned, oneDetail, detailsOf};
-ghost use Rattle.io.specs.Counts.{Counts};
+ghost use Rattle.refusals.specs.Told.{unsigned, oneDetail, detailsOf};
 ghost use Rattle.meaning.specs.Answers.{troubleNumber, number, details};
 use fields::signed::is_negative;
 use fields::signed::size;
-use format::numbers::put_byte;
-use format::numbers::put_bytes;
-use lines::numbers::put_number;
-use lines::numbers::put_size;
 use meaning::Refusal;
 use meaning::Trouble;
 
@@ -91,26 +84,4 @@ pub fn tell(why: Refusal) -> Told
             two: false,
         },
     }
-}
-
-fn put_detail(d: Detail, out: &mut [u8], at: usize) -> usize
-    requires { ⌜ at + 22 ≤ length (now out) ⌝ }
-    ensures { λ r. ⌜ r ≤ at + 22 ⌝ }
-{
-    let next = put_byte(b' ', out, at);
-    put_number(d.negative, d.size, out, next)
-}
-
-pub fn answer_refused(why: Refusal, out: &mut [u8]) -> usize
-    requires { ⌜ 16384 ≤ length (now out) ⌝ }
-    ensures { λ r. ⌜ Counts r (now (out .exit)) ⌝ }
-{
-    let t = tell(why);
-    let behind = put_bytes(b"refused ", out, 0);
-    let first = put_size(t.number as u64, out, behind);
-    let second = put_detail(t.first, out, first);
-    if t.two {
-        return put_detail(t.second, out, second);
-    }
-    second
 }

@@ -3,8 +3,8 @@ use mathlib.Core.Bool.{false}
 use mathlib.Core.List.{List, [], _∷_}
 use Prim.Native.Nat.{ℕ}
 use lib.IntN.{ℤ}
-use Rattle.answers.specs.declared.refusals.Detail.{Detail}
-use Rattle.answers.specs.declared.refusals.Told.{Told}
+use Rattle.refusals.specs.declared.Detail.{Detail}
+use Rattle.refusals.specs.declared.Told.{Told}
 use Rattle.meaning.specs.Bytes.{when}
 use Rattle.meaning.specs.Numerals.{integer}
 

@@ -1,21 +1,11 @@
--- Signed numbers by sign and size.
-use mathlib.Core.Bool.{Bool, true, false}
-use mathlib.Core.List.{[], _∷_}
-use mathlib.Core.Path.{_≡_, refl, ap, sym, _∙_}
+-- Opposites of numbers that fit 32 signed bits.
+use mathlib.Core.Path.{_≡_, ap, _∙_}
 use Prim.Native.Nat.{ℕ, zero, suc, _-_, _≤_}
 use native.Mathlib.Omega.{arith}
-use lib.IntN.{ℤ, pos, negsuc, negℤ, natAbs, _+ℤ_, _-ℤ_, +ℤ-idl, -ℤ-one}
-use lib.ListN.{length}
+use lib.IntN.{pos, negsuc, negℤ, _-ℤ_, +ℤ-idl, -ℤ-one}
 use mir.Facts.{toZ-pos}
 use mir.Syntax.{w32}
 use mir.Val.{SFits, toZ}
-use Rattle.meaning.specs.Bytes.{when, minus}
-use Rattle.meaning.specs.Numerals.{integer}
-use Rattle.meaning.specs.Writing.{isNegative}
-
-pub sign-and-size : (z : ℤ) → integer (record { negative = isNegative z; size = natAbs z }) ≡ z
-sign-and-size (pos n) = refl
-sign-and-size (negsuc n) = refl
 
 -- the opposite of a number n that is not zero, in two steps that fit: the opposite of the one before, and one less
 pub record Opposite (n : ℕ) : Type 0 where
@@ -45,8 +35,3 @@ opposite n some h =
       second = one-less (n - 1) ∙ ap (λ m. negℤ (pos m)) (suc-before n some);
       second-fits = opposite-fits n h;
     }
-
--- a sign is at most one byte
-pub sign-small : (negative : Bool) → length (when negative (minus ∷ []) []) ≤ 1
-sign-small true = omega arith
-sign-small false = omega arith

@@ -7,83 +7,65 @@ use borrow.Author.Needs.{needs}
 use denote.Ref.{now}
 use Rattle.io.proofs.Counting.{counts}
 use Rattle.lines.proofs.HexDigits.{decoded-small}
-use Rattle.answers.proofs.requests.bytes_at.Statement.{statement}
-use Rattle.answers.proofs.requests.bytes_at.Tie as tie
-use Rattle.answers.proofs.requests.bytes_at.Reads as reads
-use Rattle.answers.proofs.requests.bytes_at.Lts as lts
+use Rattle.requests.proofs.bytes_at.Statement.{statement}
+use Rattle.requests.proofs.bytes_at.Tie as tie
+use Rattle.requests.proofs.bytes_at.Reads as reads
+use Rattle.requests.proofs.bytes_at.Lts as lts
 use Rattle.check.proofs.same.Reads as same-reads
 use Rattle.lines.proofs.hex.decode.Reads as decode-reads
 use Rattle.lines.proofs.words.word_from.Reads as word-from-reads
 
--- src/requests.rt:144:9
 word-from-requires : tie.Need-word-from-requires
 word-from-requires c κs = search needs
 
--- src/requests.rt:148:9
 returns : tie.Need-returns
 returns c = search needs
 
--- src/requests.rt:153:20
 sub-same : tie.Need-sub-same
 sub-same c = search needs
 
--- src/requests.rt:153:20
 part-same-start : tie.Need-part-same-start
 part-same-start c = search needs
 
--- src/requests.rt:153:20
 part-same-end : tie.Need-part-same-end
 part-same-end c = search needs
 
--- src/requests.rt:153:39
 slice-aggregate-same : tie.Need-slice-aggregate-same
 slice-aggregate-same c = search needs
 
--- src/requests.rt:153:8
 same-requires : tie.Need-same-requires
 same-requires c κs = search needs
 
--- src/requests.rt:156:19
 add-t18 : tie.Need-add-t18
 add-t18 c = search needs
 
--- src/requests.rt:154:9
 returns-2 : tie.Need-returns-2
 returns-2 c = search needs
 
--- src/requests.rt:159:18
 sub-decode : tie.Need-sub-decode
 sub-decode c = search needs
 
--- src/requests.rt:159:18
 part-decode-start : tie.Need-part-decode-start
 part-decode-start c = search needs
 
--- src/requests.rt:159:18
 part-decode-end : tie.Need-part-decode-end
 part-decode-end c = search needs
 
--- src/requests.rt:159:11
 decode-requires : tie.Need-decode-requires
 decode-requires c κs = search needs
 
--- src/requests.rt:160:25
 enum-known-n : tie.Need-enum-known-n
 enum-known-n c = search needs
 
--- src/requests.rt:162:19
 add-t26 : tie.Need-add-t26
 add-t26 c = search needs
 
--- src/requests.rt:166:19
 enum-told : tie.Need-enum-told
 enum-told c = search needs
 
--- src/requests.rt:140:1
 same-length : tie.Need-same-length
 same-length c = search needs
 
--- src/requests.rt:140:1
 returns-3 : tie.Need-returns-3
 returns-3 c =
     let d = c .before .before .before .before .before .decode in
@@ -95,11 +77,9 @@ returns-3 c =
     let small = decoded-small word n (sym (d .ensures .answer) ∙ c .before .n .given .1) in
     counts n (d .last .1 .0) (omega (arith, small, d .kept .1 .0, length-take (end - start) (drop start (now (a .line))), length-drop start (now (a .line))))
 
--- src/requests.rt:140:1
 same-length-2 : tie.Need-same-length-2
 same-length-2 c = search needs
 
--- src/requests.rt:140:1
 returns-4 : tie.Need-returns-4
 returns-4 c = search needs
 

@@ -2,48 +2,39 @@
 use native.Mathlib.Omega.{arith}
 use borrow.Author.Needs.{needs}
 use Rattle.io.proofs.Counting.{counts}
-use Rattle.answers.proofs.refusals.answer_refused.Statement.{statement}
-use Rattle.answers.proofs.refusals.answer_refused.Tie as tie
-use Rattle.answers.proofs.refusals.answer_refused.Reads as reads
-use Rattle.answers.proofs.refusals.answer_refused.Lts as lts
-use Rattle.answers.proofs.refusals.put_detail.Reads as put-detail-reads
-use Rattle.answers.proofs.refusals.tell.Reads as tell-reads
+use Rattle.answers.proofs.refused.answer_refused.Statement.{statement}
+use Rattle.answers.proofs.refused.answer_refused.Tie as tie
+use Rattle.answers.proofs.refused.answer_refused.Reads as reads
+use Rattle.answers.proofs.refused.answer_refused.Lts as lts
+use Rattle.answers.proofs.refused.put_detail.Reads as put-detail-reads
+use Rattle.refusals.proofs.tell.Reads as tell-reads
 use Rattle.format.proofs.numbers.put_bytes.Reads as put-bytes-reads
 use Rattle.lines.proofs.numbers.put_size.Reads as put-size-reads
 
--- src/refusals.rt:108:9
 tell-requires : tie.Need-tell-requires
 tell-requires c κs = search needs
 
--- src/refusals.rt:109:28
 slice-aggregate-put-bytes : tie.Need-slice-aggregate-put-bytes
 slice-aggregate-put-bytes c = search needs
 
--- src/refusals.rt:109:9
 put-bytes-requires : tie.Need-put-bytes-requires
 put-bytes-requires c κs = search needs
 
--- src/refusals.rt:110:26
 cast-put-size : tie.Need-cast-put-size
 cast-put-size c = search needs
 
--- src/refusals.rt:110:9
 put-size-requires : tie.Need-put-size-requires
 put-size-requires c κs = search needs
 
--- src/refusals.rt:111:9
 put-detail-requires : tie.Need-put-detail-requires
 put-detail-requires c κs = search needs
 
--- src/refusals.rt:113:9
 put-detail-requires-2 : tie.Need-put-detail-requires-2
 put-detail-requires-2 c κs = search needs
 
--- src/refusals.rt:113:9
 same-length : tie.Need-same-length
 same-length c = search needs
 
--- src/refusals.rt:113:9
 returns : tie.Need-returns
 returns c =
     let first = c .before .before .before .before .before .before .before .put-detail in
@@ -53,11 +44,9 @@ returns c =
     counts (second .result) (second .last .1 .0)
     (omega (arith, second .ensures, first .ensures, number .ensures .small, word .ensures .end, second .kept .1 .0, first .kept .1 .0, number .kept .1 .0, word .kept .1 .0))
 
--- src/refusals.rt:104:1
 same-length-2 : tie.Need-same-length-2
 same-length-2 c = search needs
 
--- src/refusals.rt:104:1
 returns-2 : tie.Need-returns-2
 returns-2 c =
     let first = c .before .before .before .put-detail in

@@ -3,37 +3,31 @@ use mathlib.Core.Path.{_≡_, refl, ap, sym, _∙_}
 use lib.IntN.{pos, negℤ}
 use mir.Facts.{toZ-ofZ}
 use borrow.Author.Needs.{needs}
-use Rattle.answers.proofs.Integers.{opposite}
-use Rattle.answers.proofs.requests.opposite_of.Statement.{statement}
-use Rattle.answers.proofs.requests.opposite_of.Tie as tie
-use Rattle.answers.proofs.requests.opposite_of.Reads as reads
-use Rattle.answers.proofs.requests.opposite_of.Lts as lts
+use Rattle.requests.proofs.Opposites.{opposite}
+use Rattle.requests.proofs.opposite_of.Statement.{statement}
+use Rattle.requests.proofs.opposite_of.Tie as tie
+use Rattle.requests.proofs.opposite_of.Reads as reads
+use Rattle.requests.proofs.opposite_of.Lts as lts
 
--- src/requests.rt:89:9
 returns : tie.Need-returns
 returns c = sym (ap (λ n. negℤ (pos n)) (c .if1 .taken))
 
--- src/requests.rt:91:19
 sub-before : tie.Need-sub-before
 sub-before c = search needs
 
--- src/requests.rt:91:18
 cast-before : tie.Need-cast-before
 cast-before c = search needs
 
--- src/requests.rt:92:20
 sub-opposite : tie.Need-sub-opposite
 sub-opposite c =
     let o = opposite (c .before .args .size) (c .if1 .left) (search needs) in
     rw (o .bits, o .first) (o .first-fits)
 
--- src/requests.rt:93:5
 sub-result : tie.Need-sub-result
 sub-result c =
     let o = opposite (c .before .args .size) (c .if1 .left) (search needs) in
     rw (o .bits, o .first, toZ-ofZ (o .first-fits), o .second) (o .second-fits)
 
--- src/requests.rt:84:1
 returns-2 : tie.Need-returns-2
 returns-2 c =
     let o = opposite (c .before .args .size) (c .if1 .left) (search needs) in

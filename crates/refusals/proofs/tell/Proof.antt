@@ -6,187 +6,147 @@ use mir.Facts.{toZ-ofZ}
 use mir.Syntax.{w32}
 use mir.Val.{toZ, ofZ}
 use borrow.Author.Needs.{needs}
-use Rattle.answers.proofs.Integers.{sign-and-size}
+use Rattle.refusals.proofs.Integers.{sign-and-size}
 use Rattle.meaning.specs.Answers.{number, details}
-use Rattle.answers.proofs.refusals.tell.Statement.{statement}
-use Rattle.answers.proofs.refusals.tell.Tie as tie
-use Rattle.answers.proofs.refusals.tell.Reads as reads
-use Rattle.answers.proofs.refusals.tell.Lts as lts
-use Rattle.answers.proofs.refusals.detail_of.Reads as detail-of-reads
-use Rattle.answers.proofs.refusals.number_of.Reads as number-of-reads
-use Rattle.answers.proofs.refusals.with_one.Reads as with-one-reads
+use Rattle.refusals.proofs.tell.Statement.{statement}
+use Rattle.refusals.proofs.tell.Tie as tie
+use Rattle.refusals.proofs.tell.Reads as reads
+use Rattle.refusals.proofs.tell.Lts as lts
+use Rattle.refusals.proofs.detail_of.Reads as detail-of-reads
+use Rattle.refusals.proofs.number_of.Reads as number-of-reads
+use Rattle.refusals.proofs.with_one.Reads as with-one-reads
 use Rattle.fields.proofs.signed.is_negative.Reads as is-negative-reads
 use Rattle.fields.proofs.signed.size.Reads as size-reads
 
--- src/refusals.rt:65:33
 enum-known-why : tie.Need-enum-known-why
 enum-known-why c = search needs
 
--- src/refusals.rt:65:39
 with-one-requires : tie.Need-with-one-requires
 with-one-requires c κs = search needs
 
--- src/refusals.rt:66:30
 enum-known-why-2 : tie.Need-enum-known-why-2
 enum-known-why-2 c = search needs
 
--- src/refusals.rt:66:40
 with-one-requires-2 : tie.Need-with-one-requires-2
 with-one-requires-2 c κs = search needs
 
--- src/refusals.rt:67:28
 enum-known-why-3 : tie.Need-enum-known-why-3
 enum-known-why-3 c = search needs
 
--- src/refusals.rt:67:38
 with-one-requires-3 : tie.Need-with-one-requires-3
 with-one-requires-3 c κs = search needs
 
--- src/refusals.rt:68:29
 enum-known-why-4 : tie.Need-enum-known-why-4
 enum-known-why-4 c = search needs
 
--- src/refusals.rt:68:51
 cast-with-one : tie.Need-cast-with-one
 cast-with-one c = search needs
 
--- src/refusals.rt:68:39
 with-one-requires-4 : tie.Need-with-one-requires-4
 with-one-requires-4 c κs = search needs
 
--- src/refusals.rt:69:25
 enum-known-why-5 : tie.Need-enum-known-why-5
 enum-known-why-5 c = search needs
 
--- src/refusals.rt:69:31
 with-one-requires-5 : tie.Need-with-one-requires-5
 with-one-requires-5 c κs = search needs
 
--- src/refusals.rt:70:30
 enum-known-why-6 : tie.Need-enum-known-why-6
 enum-known-why-6 c = search needs
 
--- src/refusals.rt:70:36
 with-one-requires-6 : tie.Need-with-one-requires-6
 with-one-requires-6 c κs = search needs
 
--- src/refusals.rt:71:27
 enum-known-why-7 : tie.Need-enum-known-why-7
 enum-known-why-7 c = search needs
 
--- src/refusals.rt:71:37
 with-one-requires-7 : tie.Need-with-one-requires-7
 with-one-requires-7 c κs = search needs
 
--- src/refusals.rt:73:13
 enum-known-why-8 : tie.Need-enum-known-why-8
 enum-known-why-8 c = search needs
 
--- src/refusals.rt:77:21
 number-of-requires : tie.Need-number-of-requires
 number-of-requires c κs = search needs
 
--- src/refusals.rt:78:20
 detail-of-requires : tie.Need-detail-of-requires
 detail-of-requires c κs = search needs
 
--- src/refusals.rt:79:21
 detail-of-requires-2 : tie.Need-detail-of-requires-2
 detail-of-requires-2 c κs = search needs
 
--- src/refusals.rt:82:31
 enum-known-why-9 : tie.Need-enum-known-why-9
 enum-known-why-9 c = search needs
 
--- src/refusals.rt:82:37
 with-one-requires-8 : tie.Need-with-one-requires-8
 with-one-requires-8 c κs = search needs
 
--- src/refusals.rt:83:30
 enum-known-why-10 : tie.Need-enum-known-why-10
 enum-known-why-10 c = search needs
 
--- src/refusals.rt:83:53
 cast-with-one-2 : tie.Need-cast-with-one-2
 cast-with-one-2 c = search needs
 
--- src/refusals.rt:83:40
 with-one-requires-9 : tie.Need-with-one-requires-9
 with-one-requires-9 c κs = search needs
 
--- src/refusals.rt:84:30
 enum-known-why-11 : tie.Need-enum-known-why-11
 enum-known-why-11 c = search needs
 
--- src/refusals.rt:87:27
 is-negative-requires : tie.Need-is-negative-requires
 is-negative-requires c κs = search needs
 
--- src/refusals.rt:88:23
 size-requires : tie.Need-size-requires
 size-requires c κs = search needs
 
--- src/refusals.rt:88:23
 cast-t23 : tie.Need-cast-t23
 cast-t23 c = search needs
 
--- src/refusals.rt:90:21
 detail-of-requires-3 : tie.Need-detail-of-requires-3
 detail-of-requires-3 c κs = search needs
 
--- src/refusals.rt:61:1
 returns : tie.Need-returns
 unfolding number details
 returns c = rw (c .with-one .ensures, c .before .before .why .given .1) (refl, refl)
 
--- src/refusals.rt:61:1
 returns-2 : tie.Need-returns-2
 unfolding number details
 returns-2 c = rw (c .with-one2 .ensures, c .before .before .why2 .given .1) (refl, refl)
 
--- src/refusals.rt:61:1
 returns-3 : tie.Need-returns-3
 unfolding number details
 returns-3 c = rw (c .with-one3 .ensures, c .before .before .why3 .given .1) (refl, refl)
 
--- src/refusals.rt:61:1
 returns-4 : tie.Need-returns-4
 unfolding number details
 returns-4 c = rw (c .with-one4 .ensures, c .before .before .why4 .given .1) (refl, refl)
 
--- src/refusals.rt:61:1
 returns-5 : tie.Need-returns-5
 unfolding number details
 returns-5 c = rw (c .with-one5 .ensures, c .before .before .why5 .given .1) (refl, refl)
 
--- src/refusals.rt:61:1
 returns-6 : tie.Need-returns-6
 unfolding number details
 returns-6 c = rw (c .with-one6 .ensures, c .before .before .why6 .given .1) (refl, refl)
 
--- src/refusals.rt:61:1
 returns-7 : tie.Need-returns-7
 unfolding number details
 returns-7 c = rw (c .with-one7 .ensures, c .before .before .why7 .given .1) (refl, refl)
 
--- src/refusals.rt:61:1
 returns-8 : tie.Need-returns-8
 unfolding number details
 returns-8 c =
     rw (c .before .before .number-of .ensures, c .before .detail-of .ensures, c .detail-of2 .ensures, c .before .before .before .before .why8 .given .1)
     (refl, refl)
 
--- src/refusals.rt:61:1
 returns-9 : tie.Need-returns-9
 unfolding number details
 returns-9 c = rw (c .with-one8 .ensures, c .before .before .why9 .given .1) (refl, refl)
 
--- src/refusals.rt:61:1
 returns-10 : tie.Need-returns-10
 unfolding number details
 returns-10 c = rw (c .with-one9 .ensures, c .before .before .why10 .given .1) (refl, refl)
 
--- src/refusals.rt:61:1
 returns-11 : tie.Need-returns-11
 unfolding number details
 returns-11 c =
