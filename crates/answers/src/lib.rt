@@ -8,7 +8,7 @@ ghost use lib.ListN.{length};
 ghost use Rattle.io.specs.Counts.{Counts};
 use crate::splits::answer_split;
 use crate::writes::answer_write;
-use format::numbers::put_bytes;
+use leaves::numbers::put_bytes;
 use lines::words::word_from;
 use meaning::Pair;
 

@@ -2,8 +2,8 @@
 ghost use Prim.Native.Nat.{_+_, _≤_};
 ghost use lib.ListN.{length};
 ghost use Rattle.io.specs.Counts.{Counts};
-use format::numbers::put_byte;
-use format::numbers::put_bytes;
+use leaves::numbers::put_byte;
+use leaves::numbers::put_bytes;
 use lines::numbers::put_number;
 use lines::numbers::put_size;
 use meaning::Refusal;

@@ -6,8 +6,8 @@ ghost use Rattle.io.specs.Counts.{Counts};
 ghost use Rattle.answers.specs.Marks.{markAt, Filled, FirstAltered, lengthOf};
 use crate::bad_request;
 use crate::refused::answer_refused;
-use format::numbers::put_byte;
-use format::numbers::put_bytes;
+use leaves::numbers::put_byte;
+use leaves::numbers::put_bytes;
 use lines::hex::put_hex;
 use lines::numbers::put_size;
 use meaning::Fields;
@@ -53,7 +53,7 @@ fn write(pair: Pair, pattern: &[u8], fields: Fields, out: &mut [u8]) -> Wrote
     ensures { λ r. ⌜ lengthOf r ≤ length (now (out .entry)) ⌝ }
 {
     match pair {
-        Pair::Full => format::writer::format(pattern, fields, out),
+        Pair::Full => writer::format(pattern, fields, out),
         Pair::Date => date::format(pattern, fields, out),
     }
 }

@@ -7,7 +7,7 @@ ghost use Rattle.laws.specs.Laid.{Laid};
 ghost use Rattle.meaning.specs.Bytes.{quote};
 ghost use Rattle.pattern.proofs.Inside.{Lost};
 ghost use Rattle.pattern.specs.First.{unescaped};
-ghost use Rattle.format.specs.Literals.{openText};
+ghost use Rattle.leaves.specs.Literals.{openText};
 use pattern::quoted::bytes_of;
 
 pub fn put_unescaped(src: &[u8], out: &mut [u8], at: usize) -> usize

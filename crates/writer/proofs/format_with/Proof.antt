@@ -2,8 +2,8 @@
 use borrow.Author.Needs.{needs}
 use mathlib.Core.Path.{refl, sym, ap, _∙_}
 use native.Mathlib.Omega.{arith}
-use Rattle.format.proofs.writer.format_with.Statement.{statement}
-use Rattle.format.proofs.writer.format_with.Tie as tie
+use Rattle.writer.proofs.format_with.Statement.{statement}
+use Rattle.writer.proofs.format_with.Tie as tie
 use denote.Ref.{now}
 use lib.ListN.{length}
 use Rattle.laws.proofs.Checks.{write-fine}

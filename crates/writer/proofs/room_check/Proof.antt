@@ -5,8 +5,8 @@ use Prim.Native.Nat.{_≤_}
 use denote.Ref.{now}
 use lib.ListN.{length}
 use native.Mathlib.Omega.{arith}
-use Rattle.format.proofs.writer.room_check.Statement.{statement}
-use Rattle.format.proofs.writer.room_check.Tie as tie
+use Rattle.writer.proofs.room_check.Statement.{statement}
+use Rattle.writer.proofs.room_check.Tie as tie
 use Rattle.laws.proofs.Sizes.{eight-bytes}
 use Rattle.meaning.specs.Names.{english}
 use Rattle.meaning.specs.Whole.{text}

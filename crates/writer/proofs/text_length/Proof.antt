@@ -3,8 +3,8 @@ use borrow.Author.Needs.{needs}
 use denote.Ref.{now}
 use mathlib.Core.Path.{_∙_}
 use native.Mathlib.Omega.{arith}
-use Rattle.format.proofs.writer.text_length.Statement.{statement}
-use Rattle.format.proofs.writer.text_length.Tie as tie
+use Rattle.writer.proofs.text_length.Statement.{statement}
+use Rattle.writer.proofs.text_length.Tie as tie
 use Rattle.laws.proofs.Sizes.{text-fits}
 
 slice-aggregate-format-parts : tie.Need-slice-aggregate-format-parts

@@ -1,8 +1,8 @@
 -- The checks in their order; the room is looked at once the others are fine.
 use borrow.Author.Needs.{needs}
 use mathlib.Core.Path.{sym, _∙_}
-use Rattle.format.proofs.writer.write_check.Statement.{statement}
-use Rattle.format.proofs.writer.write_check.Tie as tie
+use Rattle.writer.proofs.write_check.Statement.{statement}
+use Rattle.writer.proofs.write_check.Tie as tie
 use Rattle.laws.proofs.Checks.{else-fine, else-assoc}
 use denote.Ref.{now}
 use Rattle.meaning.specs.Answers.{patternCheck, fieldsCheck}

@@ -9,9 +9,9 @@ use lib.Seq.{length-take-le}
 use mathlib.Core.Bool.{true, false}
 use mathlib.Core.Path.{_≡_, sym}
 use native.Mathlib.Omega.{arith}
-use Rattle.format.proofs.Laws.{open-lost, open-kept}
-use Rattle.format.proofs.literals.put_open.Statement.{statement}
-use Rattle.format.proofs.literals.put_open.Tie as tie
+use Rattle.leaves.proofs.Laws.{open-lost, open-kept}
+use Rattle.leaves.proofs.literals.put_open.Statement.{statement}
+use Rattle.leaves.proofs.literals.put_open.Tie as tie
 use Rattle.meaning.specs.Bytes.{quote}
 
 ends-in-quote-requires : tie.Need-ends-in-quote-requires

@@ -8,8 +8,8 @@ use mathlib.Core.List.{_∷_}
 use mathlib.Core.Path.{_≡_, refl, sym, ap, _∙_}
 use native.Mathlib.Numerals.{add-one}
 use native.Mathlib.Omega.{arith}
-use Rattle.format.proofs.literals.put_unescaped.Statement.{statement}
-use Rattle.format.proofs.literals.put_unescaped.Tie as tie
+use Rattle.leaves.proofs.literals.put_unescaped.Statement.{statement}
+use Rattle.leaves.proofs.literals.put_unescaped.Tie as tie
 use Rattle.pattern.proofs.Inside.{unescaped-turn, one-or-two}
 use Rattle.pattern.specs.First.{unescaped}
 

@@ -3,8 +3,8 @@ use borrow.Author.Needs.{needs}
 use Prim.Native.Nat.{ℕ, _-_}
 use lib.ListN.{length-replicate}
 use native.Mathlib.Omega.{arith}
-use Rattle.format.proofs.numbers.zero_padded.Statement.{statement}
-use Rattle.format.proofs.numbers.zero_padded.Tie as tie
+use Rattle.leaves.proofs.numbers.zero_padded.Statement.{statement}
+use Rattle.leaves.proofs.numbers.zero_padded.Tie as tie
 use Rattle.laws.proofs.Digits.{length-num, num-padded, num-bare, width-at-most}
 use Rattle.laws.proofs.Laid.{laid-then}
 

@@ -1,7 +1,7 @@
 -- The sign and the size, once the bits are taken away.
 use borrow.Author.Needs.{needs}
-use Rattle.format.proofs.years.zero_padded_i.Statement.{statement}
-use Rattle.format.proofs.years.zero_padded_i.Tie as tie
+use Rattle.leaves.proofs.years.zero_padded_i.Statement.{statement}
+use Rattle.leaves.proofs.years.zero_padded_i.Tie as tie
 use Rattle.meaning.specs.Writing.{signedText}
 use mir.Syntax.{w32}
 use mir.ValLaws.{toZ-ofZ}

@@ -1,8 +1,8 @@
 -- The sign, then the offset.
 use borrow.Author.Needs.{needs}
 use native.Mathlib.Omega.{arith}
-use Rattle.format.proofs.zones.put_zone.Statement.{statement}
-use Rattle.format.proofs.zones.put_zone.Tie as tie
+use Rattle.leaves.proofs.zones.put_zone.Statement.{statement}
+use Rattle.leaves.proofs.zones.put_zone.Tie as tie
 use Rattle.laws.proofs.Laid.{laid-then}
 
 sign-of-requires : tie.Need-sign-of-requires
