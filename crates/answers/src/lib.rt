@@ -1,7 +1,6 @@
 // Answers to requests of the line protocol: one line in, one line out.
 pub mod reads;
-pub mod refusals;
-pub mod requests;
+pub mod refused;
 pub mod splits;
 pub mod writes;
 
@@ -12,7 +11,7 @@ use crate::reads::answer_offset;
 use crate::reads::answer_read;
 use crate::splits::answer_split;
 use crate::writes::answer_write;
-use format::numbers::put_bytes;
+use leaves::numbers::put_bytes;
 use lines::words::word_from;
 use meaning::Pair;
 
