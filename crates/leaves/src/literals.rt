@@ -1,14 +1,13 @@
 // Literals: what stands between quotes, with a quote for each escaped one.
 ghost use mathlib.Core.Path.{_≡_};
-ghost use Prim.Native.Nat.{_+_, _-_, _≤_};
-ghost use lib.Dec.{eqb};
-ghost use lib.ListN.{length, getD};
+ghost use Prim.Native.Nat.{_+_, _≤_};
+ghost use lib.ListN.{length};
 ghost use Rattle.laws.specs.Laid.{Laid};
-ghost use Rattle.meaning.specs.Bytes.{quote};
 ghost use Rattle.pattern.proofs.Inside.{Lost};
 ghost use Rattle.pattern.specs.First.{unescaped};
 ghost use Rattle.leaves.specs.Literals.{openText};
 use pattern::quoted::bytes_of;
+use pattern::quoted::ends_in_quote;
 
 pub fn put_unescaped(src: &[u8], out: &mut [u8], at: usize) -> usize
     requires { ⌜ at + length (unescaped (now src)) ≤ length (now out) ⌝ }
@@ -23,16 +22,6 @@ pub fn put_unescaped(src: &[u8], out: &mut [u8], at: usize) -> usize
         i += bytes_of(b);
     }
     next
-}
-
-fn ends_in_quote(src: &[u8]) -> bool
-    ensures { λ r. ⌜ r ≡ eqb (getD (now (src .entry)) (length (now (src .entry)) - 1) 0) quote ⌝ }
-{
-    let n = src.len();
-    if n == 0 {
-        return false;
-    }
-    src[n - 1] == b'\''
 }
 
 // An unclosed part loses an escaped quote at its end.

@@ -8,8 +8,8 @@ use mathlib.Core.Bool.{false}
 use mathlib.Core.List.{List, [], _∷_}
 use mathlib.Core.Path.{_≡_, refl}
 use native.Mathlib.Omega.{arith}
-use Rattle.leaves.proofs.literals.ends_in_quote.Statement.{statement}
-use Rattle.leaves.proofs.literals.ends_in_quote.Tie as tie
+use Rattle.pattern.proofs.quoted.ends_in_quote.Statement.{statement}
+use Rattle.pattern.proofs.quoted.ends_in_quote.Tie as tie
 use Rattle.meaning.specs.Bytes.{quote}
 
 none : (s : List ℕ) → length s ≡ 0 → false ≡ eqb (getD s (length s - 1) 0) quote
