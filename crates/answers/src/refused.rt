@@ -10,7 +10,7 @@ use meaning::Refusal;
 use refusals::Detail;
 use refusals::tell;
 
-fn put_detail(d: Detail, out: &mut [u8], at: usize) -> usize
+pub fn put_detail(d: Detail, out: &mut [u8], at: usize) -> usize
     requires { ⌜ at + 22 ≤ length (now out) ⌝ }
     ensures { λ r. ⌜ r ≤ at + 22 ⌝ }
 {

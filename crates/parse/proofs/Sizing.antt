@@ -92,7 +92,7 @@ front k [] h g = absurd (omega arith)
 front zero (b ∷ s) h g = absurd (omega arith)
 front (suc k) (b ∷ s) h g = let e : suc k - 1 ≡ k = omega arith in rw e
 
-taken-is : (k : ℕ) (n : Option Signed) → gotNumber (takenNumber k n) ≡ numberIn n
+pub taken-is : (k : ℕ) (n : Option Signed) → gotNumber (takenNumber k n) ≡ numberIn n
 taken-is k none = refl
 taken-is k (some n) = refl
 

@@ -27,11 +27,11 @@ pub fn text_check(text: &[u8]) -> Checked
 }
 
 // All of them, in their order.
-pub fn read_check(pattern: &[u8], text: &[u8], year: i32) -> Checked
-    ensures { λ r. ⌜ r ≡ whole.readCheck (now (pattern .entry)) (now (text .entry)) year ⌝ }
+pub fn read_check(pattern: &[u8], text: &[u8], current_year: i32) -> Checked
+    ensures { λ r. ⌜ r ≡ whole.readCheck (now (pattern .entry)) (now (text .entry)) «current_year» ⌝ }
 {
     let of_pattern = pattern_check(pattern);
-    let of_year = current_year_check(year);
+    let of_year = current_year_check(current_year);
     let of_text = text_check(text);
     or_else(of_pattern, or_else(of_year, of_text))
 }

@@ -31,7 +31,7 @@ returns c =
       c .before .before .text-check .ensures,
       c .before .before .before .current-year-check .ensures,
       c .before .before .before .before .pattern-check .ensures,
-      toZ-ofZ w32 (a .args .year) (a .fits .year),
+      toZ-ofZ w32 (a .args .current-year) (a .fits .current-year),
     )
 
 pub read-check-spec : {M : Type 1} → statement M
