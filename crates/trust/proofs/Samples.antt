@@ -32,5 +32,5 @@ table =
     ∷ "a'b''" ↦′ No 1 twoDigits ∷ "a'" ↦′ Refused (LoneQuote 1) ∷ []
 
 pub samples : map (λ s. verdictOf (B.bytes (s .pattern)) (pos 2025)) table ≡ map (λ s. s .answer) table
-unfolding table verdictOf firstFailing meets stepNeed ruleNeed mostDigits H.digitFirst H.digitSecond H.stepFirst H.stepSecond H.ruleFirst H.ruleSecond H.nameFirst H.nameSecond T.trustCheck A.bytesCheck A.byteCheck A.patternCheck A.currentYearCheck A.endsInLoneQuote B.bytes B.digitAt S.contents S.elements S.outside U.ruleOf U.roleAmong U.dateRole U.timeRole U.roleOf U.pick U.otherwiseRule W.stepOf W.endsInQuote W.steps
+unfolding table verdictOf firstFailing meets stepNeed ruleNeed mostDigits H.digitFirst H.digitSecond H.stepFirst H.stepSecond H.ruleFirst H.ruleSecond H.nameFirst H.hasLetters T.trustCheck A.bytesCheck A.byteCheck A.patternCheck A.currentYearCheck A.endsInLoneQuote B.bytes B.digitAt S.contents S.elements S.outside U.ruleOf U.roleAmong U.dateRole U.timeRole U.roleOf U.pick U.otherwiseRule W.stepOf W.endsInQuote W.steps
 samples = refl

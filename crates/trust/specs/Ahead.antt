@@ -36,27 +36,31 @@ nameFirst NoonLower = false
 nameFirst NoonDotted = false
 nameFirst NoonLetter = false
 
--- The second byte of a name is no digit; a name of one byte leaves it to what can be first behind it.
-unfoldable pub nameSecond : NameList → Bool → Bool
-nameSecond EraAbbreviated behind = false
-nameSecond EraNarrow behind = behind
-nameSecond EraWide behind = false
-nameSecond QuarterWide behind = false
-nameSecond MonthAbbreviated behind = false
-nameSecond MonthWide behind = false
-nameSecond MonthNarrow behind = behind
-nameSecond WdayAbbreviated behind = false
-nameSecond WdayWide behind = false
-nameSecond WdayNarrow behind = behind
-nameSecond WdayShort behind = false
-nameSecond PeriodUpper behind = false
-nameSecond PeriodLower behind = false
-nameSecond PeriodDotted behind = false
-nameSecond PeriodLetter behind = behind
-nameSecond NoonUpper behind = false
-nameSecond NoonLower behind = false
-nameSecond NoonDotted behind = false
-nameSecond NoonLetter behind = behind
+-- English lists with names of one byte; the second byte of a name is no digit
+unfoldable pub hasLetters : NameList → Bool
+hasLetters EraAbbreviated = false
+hasLetters EraNarrow = true
+hasLetters EraWide = false
+hasLetters QuarterWide = false
+hasLetters MonthAbbreviated = false
+hasLetters MonthWide = false
+hasLetters MonthNarrow = true
+hasLetters WdayAbbreviated = false
+hasLetters WdayWide = false
+hasLetters WdayNarrow = true
+hasLetters WdayShort = false
+hasLetters PeriodUpper = false
+hasLetters PeriodLower = false
+hasLetters PeriodDotted = false
+hasLetters PeriodLetter = true
+hasLetters NoonUpper = false
+hasLetters NoonLower = false
+hasLetters NoonDotted = false
+hasLetters NoonLetter = true
+
+-- a name of one byte leaves the second to what is behind it
+abbrev pub nameSecond : NameList → Bool → Bool
+nameSecond l behind = both (hasLetters l) behind
 
 -- a number has a second digit, or is one digit for every record
 abbrev pub numberSecond : Quantity → ℕ → Bool → Bool
@@ -77,7 +81,7 @@ ruleFirst TwoDigitYear = true
 ruleFirst (Zone utc colon minutes seconds) = false
 
 unfoldable pub ruleSecond : Rule → Bool → Bool
-unfolding nameSecond mostDigits
+unfolding hasLetters mostDigits
 ruleSecond (Number q least most u z) behind = numberSecond q least behind
 ruleSecond (SkippedNumber q least most) behind = numberSecond q least behind
 ruleSecond LetterQuarter behind = true
