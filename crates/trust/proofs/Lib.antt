@@ -1,3 +1,4 @@
 pub mod Samples
 pub mod Table
 pub mod Fitting
+pub mod NameRules
