@@ -2,3 +2,4 @@ pub mod Samples
 pub mod Table
 pub mod Fitting
 pub mod NameRules
+pub mod Sound

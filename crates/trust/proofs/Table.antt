@@ -3,9 +3,10 @@
 use mathlib.Core.Bool.{Bool, true, false, not}
 use mathlib.Core.List.{List, [], _∷_}
 use mathlib.Core.Path.{_≡_, refl}
-use Prim.Native.Nat.{ℕ}
+use Prim.Native.Nat.{ℕ, _≤_, _<_}
 use lib.Dec.{eqb, leb, ltb}
 use lib.ListN.{length}
+use borrow.Author.Tests.{leb-true, ltb-true}
 use Rattle.meaning.specs.Bytes.{when, both, bytes, digitAt, digits, num, width, widthIn}
 use Rattle.meaning.specs.Names.{english, names}
 use Rattle.meaning.specs.Rules.{Row, _is_, among, Otherwise, always, fixedYear, Symbol, otherwiseRule, pick, ruleOf, dateSymbols, timeSymbols, roleAmong, dateRole, timeRole, orElse, roleOf}
@@ -84,6 +85,31 @@ fits (Years k) = true
 fits (FixedYear k) = true
 fits TwoDigitYear = true
 fits (Zone utc colon minutes seconds) = zoneFits minutes seconds
+
+-- what it says that a number fits
+pub record NumberFits (q : Quantity) (least most : ℕ) : Type 0 where
+  pub low : 1 ≤ least
+  pub order : least ≤ most
+  pub few : most ≤ 9
+  pub short : quantityOf q oneDigit < 10
+  pub long : mostDigits q ≤ length (num least (quantityOf q twoDigits))
+
+pub number-fits : (q : Quantity) (least most : ℕ) → numberFits q least most ≡ true → NumberFits q least most
+unfolding numberFits
+number-fits q least most h =
+    let long = leb (mostDigits q) (length (num least (quantityOf q twoDigits))) in
+    let short = ltb (quantityOf q oneDigit) 10 in
+    let a = both-true (leb 1 least) (both (leb least most) (both (leb most 9) (both short long))) h in
+    let b = both-true (leb least most) (both (leb most 9) (both short long)) (a .1) in
+    let c = both-true (leb most 9) (both short long) (b .1) in
+    let d = both-true short long (c .1) in
+    record {
+      low = leb-true 1 least (a .0);
+      order = leb-true least most (b .0);
+      few = leb-true most 9 (c .0);
+      short = ltb-true (quantityOf q oneDigit) 10 (d .0);
+      long = leb-true (mostDigits q) (length (num least (quantityOf q twoDigits))) (d .1);
+    }
 
 -- the whole table
 
