@@ -5,3 +5,5 @@ pub mod NameRules
 pub mod Sound
 pub mod RulesAhead
 pub mod Ahead
+pub mod Takes
+pub mod Fails
