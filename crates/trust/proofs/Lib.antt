@@ -7,3 +7,4 @@ pub mod RulesAhead
 pub mod Ahead
 pub mod Takes
 pub mod Fails
+pub mod Steps
