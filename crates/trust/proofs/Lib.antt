@@ -8,3 +8,5 @@ pub mod Ahead
 pub mod Takes
 pub mod Fails
 pub mod Steps
+pub mod Verdicts
+pub mod Agreement
