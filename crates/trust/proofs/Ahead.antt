@@ -64,7 +64,7 @@ first-byte (symbol {rule} {ss} fit rest) f h year = rule-first rule fit f h (tex
 first-byte (some {s} {ss} k rest) f h year = digit-within 0 s (texts english f ss) k
 first-byte (open′ {s} {lost} e) f h year = open-digit s lost e f 0
 
-no-first-digit : {ss : List Step} → Fitting ss → (f : Fields) → Allowed f → digitFirst ss ≡ false → digitAt 0 (texts english f ss) ≡ false
+pub no-first-digit : {ss : List Step} → Fitting ss → (f : Fields) → Allowed f → digitFirst ss ≡ false → digitAt 0 (texts english f ss) ≡ false
 no-first-digit fit f h e = first-byte fit f h (λ k. true-is-not-false (sym k ∙ e)) ∙ e
 
 -- The second byte, where it can be no digit.

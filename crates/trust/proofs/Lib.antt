@@ -5,3 +5,8 @@ pub mod NameRules
 pub mod Sound
 pub mod RulesAhead
 pub mod Ahead
+pub mod Takes
+pub mod Fails
+pub mod Steps
+pub mod Verdicts
+pub mod Agreement
