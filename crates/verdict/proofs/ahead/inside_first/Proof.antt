@@ -1,0 +1,23 @@
+-- TODO
+use borrow.Author.Needs.{needs}
+use denote.Ref.{now}
+use native.Mathlib.Omega.{arith}
+use borrow.Author.Needs.{needs}
+use Rattle.verdict.proofs.ahead.inside_first.Statement.{statement}
+use Rattle.verdict.proofs.ahead.inside_first.Tie as tie
+
+returns : tie.Need-returns
+returns c = search needs
+
+shared-slice-read-is-digit : tie.Need-shared-slice-read-is-digit
+shared-slice-read-is-digit c = search needs
+
+is-digit-requires : tie.Need-is-digit-requires
+is-digit-requires c κs = search needs
+
+returns-2 : tie.Need-returns-2
+returns-2 c = search needs
+
+pub inside-first-spec : {M : Type 1} → statement M
+inside-first-spec =
+    tie.close (tie.spec returns shared-slice-read-is-digit is-digit-requires returns-2)

@@ -1,0 +1,44 @@
+-- TODO
+use borrow.Author.Needs.{needs}
+use denote.Ref.{now}
+use native.Mathlib.Omega.{arith}
+use borrow.Author.Needs.{needs}
+use Rattle.verdict.proofs.ahead.run_second.Statement.{statement}
+use Rattle.verdict.proofs.ahead.run_second.Tie as tie
+
+role-of-requires : tie.Need-role-of-requires
+role-of-requires c κs = search needs
+
+enum-told : tie.Need-enum-told
+enum-told c = search needs
+
+returns : tie.Need-returns
+returns c = search needs
+
+is-digit-requires : tie.Need-is-digit-requires
+is-digit-requires c κs = search needs
+
+enum-known-rule : tie.Need-enum-known-rule
+enum-known-rule c = search needs
+
+rule-second-requires : tie.Need-rule-second-requires
+rule-second-requires c κs = search needs
+
+returns-2 : tie.Need-returns-2
+returns-2 c = search needs
+
+returns-3 : tie.Need-returns-3
+returns-3 c = search needs
+
+pub run-second-spec : {M : Type 1} → statement M
+run-second-spec =
+    tie.close
+    (tie.spec
+    role-of-requires
+    enum-told
+    returns
+    is-digit-requires
+    enum-known-rule
+    rule-second-requires
+    returns-2
+    returns-3)
