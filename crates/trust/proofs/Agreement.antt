@@ -1,12 +1,10 @@
 -- Two answers that `Says` allows are the same but for the record that a no shows, whatever the names are.
-use mathlib.Core.Bool.{Bool, true, false}
 use mathlib.Core.List.{List}
-use mathlib.Core.Path.{_≡_, refl, sym, _∙_}
+use mathlib.Core.Path.{_≡_, sym, _∙_}
 use Prim.Native.Nat.{ℕ, _<_}
 use native.Mathlib.Omega.{arith}
 use lib.Dec.{ltb}
 use lib.IntN.{ℤ}
-use lib.ListN.{length}
 use borrow.Author.Tests.{ltb-true, ltb-false}
 use Rattle.meaning.specs.Names.{Book}
 use Rattle.meaning.specs.Trust.{AllComeBack, FailsFirst, Says}

@@ -2,15 +2,15 @@
 -- lookahead is the text's own test.
 use mathlib.Core.Bool.{Bool, true, false}
 use mathlib.Core.List.{List, [], _∷_, _++_, append-nil}
-use mathlib.Core.Path.{_≡_, refl, sym, ap, _∙_}
+use mathlib.Core.Path.{_≡_, refl, sym, _∙_}
 use Prim.Native.Nat.{ℕ, zero, suc, _-_, _≤_, _<_}
 use native.Mathlib.Omega.{arith}
-use lib.Dec.{eqb, ltb}
+use lib.Dec.{ltb}
 use lib.ListN.{length, take}
 use borrow.Author.Tests.{eqb-true, ltb-true, ltb-false}
 use Rattle.meaning.specs.Bytes.{when, digitAt, quote}
 use Rattle.meaning.specs.Names.{english}
-use Rattle.meaning.specs.Writing.{Step, literal, field, endsInQuote, isNegative, stepText, texts}
+use Rattle.meaning.specs.Writing.{Step, literal, endsInQuote, isNegative, stepText, texts}
 use Rattle.meaning.specs.declared.Fields.{Fields}
 use Rattle.laws.proofs.Fields.{Allowed}
 use Rattle.laws.proofs.Tests.{by-test, true-is-not-false, when-is}

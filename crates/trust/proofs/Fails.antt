@@ -3,14 +3,14 @@
 use mathlib.Core.Bool.{Bool, true, false}
 use mathlib.Core.List.{List, [], _∷_, _++_, append-assoc, append-nil}
 use mathlib.Core.Path.{_≡_, refl, sym, ap, _∙_}
-use Prim.Native.Nat.{ℕ, zero, suc, _+_, _*_, _-_, _/_, _^_, _≤_, _<_}
+use Prim.Native.Nat.{ℕ, _+_, _*_, _-_, _^_, _≤_, _<_}
 use native.Mathlib.Nat.{lt-of-lt-of-le, pow-le-pow-right}
 use native.Mathlib.Omega.{arith}
 use lib.Dec.{leb, ltb}
 use lib.IntN.{pos}
 use lib.ListN.{length, drop, length-append}
 use borrow.Author.Tests.{leb-false, ltb-true}
-use Rattle.meaning.specs.Bytes.{when, both, isDigit, digitAt, num, digits, width, widthIn, plus}
+use Rattle.meaning.specs.Bytes.{both, isDigit, digitAt, num, digits, width, widthIn, plus}
 use Rattle.meaning.specs.Names.{english}
 use Rattle.meaning.specs.Numerals.{Signed, allDigits, decimal, signOf, sized, numberOf}
 use Rattle.meaning.specs.Readers.{got, _>>=_, done, skip, takeCount, takeYear, takeNumber, reach, ahead, zoneSign}
@@ -26,7 +26,7 @@ use Rattle.meaning.specs.declared.ParseUnit.the-variants as unit
 use Rattle.meaning.specs.declared.Quantity.{Quantity}
 use Rattle.meaning.specs.declared.Rule.{Rule}
 use Rattle.meaning.specs.declared.Rule.the-variants.{Number, SkippedNumber, LetterQuarter, SkippedName, MatchedName, Letters, Years, FixedYear, TwoDigitYear, Zone}
-use Rattle.laws.proofs.Digits.{all-num, digit-behind, length-num, num-some, num-fits}
+use Rattle.laws.proofs.Digits.{all-num, digit-behind, num-some, num-fits}
 use Rattle.laws.proofs.Readers.{take-goes-on}
 use Rattle.laws.proofs.Tests.{both-true, when-is, true-is-not-false}
 use Rattle.laws.proofs.Years.{no-minus}
@@ -34,7 +34,7 @@ use Rattle.laws.proofs.Zones.{group-comes-back, two-digits}
 use Rattle.laws.specs.Widths.{mostDigits}
 use Rattle.trust.proofs.RulesAhead.{seven-digits}
 use Rattle.trust.proofs.Sound.{Back}
-use Rattle.trust.proofs.Table.{zeroOf, numberFits, zoneFits, fits, number-fits}
+use Rattle.trust.proofs.Table.{numberFits, zoneFits, fits, number-fits}
 use Rattle.trust.proofs.Takes.{Takes, takes-got, takes-skip, takes-number, takes-both, takes-then, takes-done, reach-bounds, reach-past}
 use Rattle.trust.specs.Check.{oneDigit, twoDigits, witness}
 use Rattle.trust.specs.Needs.{numberNeed, groupNeed, lastGroup, ruleNeed}

@@ -2,12 +2,12 @@
 -- table's. The check's lookahead by two rests on it.
 use mathlib.Core.Bool.{Bool, true, false}
 use mathlib.Core.List.{List, [], _∷_, map}
-use mathlib.Core.Path.{_≡_, refl, sym}
+use mathlib.Core.Path.{_≡_, refl}
 use Prim.Native.Nat.{ℕ, zero, suc, _<_}
 use native.Mathlib.Omega.{arith}
 use lib.Dec.{eqb}
-use lib.ListN.{length, getD, drop, replicate, length-replicate}
-use Rattle.meaning.specs.Bytes.{when, both, quote}
+use lib.ListN.{length, drop, replicate, length-replicate}
+use Rattle.meaning.specs.Bytes.{both, quote}
 use Rattle.meaning.specs.Rules.{roleOf}
 use Rattle.meaning.specs.Splitting.{Element, byte, escaped, single, elementOf, elements, Content, run, quotes, quoted, unclosed, joinByte, joinEscaped, joinInside, outside, inside, contents}
 use Rattle.meaning.specs.Trust.{partAt}

@@ -8,5 +8,6 @@ pub mod Ahead
 pub mod Takes
 pub mod Fails
 pub mod Steps
+pub mod Turns
 pub mod Verdicts
 pub mod Agreement

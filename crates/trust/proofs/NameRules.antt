@@ -1,21 +1,20 @@
 -- Names come back: skipped ones for their length, matched ones and letters since no name begins another; and what the name
 -- that is written carries is what its field is.
-use mathlib.Core.Bool.{Bool, true, false}
-use mathlib.Core.List.{List, [], _∷_, _++_, append-nil}
+use mathlib.Core.Bool.{true}
+use mathlib.Core.List.{List, [], _++_, append-nil}
 use mathlib.Core.Path.{_≡_, refl, sym, ap, _∙_}
 use Prim.Native.Nat.{ℕ, suc, _-_, _/_, _≤_, _<_}
 use native.Mathlib.Nat.{add-zero}
 use native.Mathlib.Omega.{arith}
 use lib.Dec.{eqb, ltb}
 use lib.IntN.{pos}
-use lib.ListN.{length, getD, take, length-append}
+use lib.ListN.{length, getD, length-append}
 use lib.Seq.{take-at}
 use borrow.Author.Tests.{eqb-true, ltb-true, ltb-false, lt-ltb, le-ltb}
 use Rattle.meaning.specs.Names.{english, names}
-use Rattle.meaning.specs.Readers.{got, skip, firstName, letters, matchName}
-use Rattle.meaning.specs.Reading.{monthAt, periodAt, nameCarries, periodOf, carriedName, readRule, carriedRule}
-use Rattle.meaning.specs.Writing.{secondOfDay, periodPlace, noonPlace, placeOf, nameText, ruleText}
-use Rattle.meaning.specs.declared.Carried.{Carried}
+use Rattle.meaning.specs.Readers.{got, firstName, letters, matchName}
+use Rattle.meaning.specs.Reading.{monthAt, periodAt, nameCarries, periodOf, carriedName, readRule}
+use Rattle.meaning.specs.Writing.{secondOfDay, periodPlace, noonPlace, placeOf, nameText}
 use Rattle.meaning.specs.declared.Carried.the-variants.{Nothing, Value}
 use Rattle.meaning.specs.declared.Fields.{Fields}
 use Rattle.meaning.specs.declared.NameList.{NameList}
@@ -26,7 +25,7 @@ use Rattle.laws.proofs.Fields.{Allowed}
 use Rattle.laws.proofs.Names.{allApart, name-comes-back}
 use Rattle.laws.proofs.Places.{place-there}
 use Rattle.laws.proofs.Readers.{skip-goes-on}
-use Rattle.laws.proofs.Tests.{every, every-at, when-is}
+use Rattle.laws.proofs.Tests.{every-at, when-is}
 use Rattle.trust.proofs.Table.{sized}
 
 -- what a name carries

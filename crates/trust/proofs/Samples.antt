@@ -28,7 +28,7 @@ infix 90 _↦′_
 pub table : List Sample
 table =
     "d/MM" ↦′ Yes ∷ "d/M" ↦′ No 2 twoDigits ∷ "XXXXX5" ↦′ Yes ∷ "XXXXX.5" ↦′ No 0 twoDigits ∷ "" ↦′ Yes
-    ∷ "yyyyy" ↦′ No 0 twoDigits ∷ "yyyyyyy" ↦′ Yes ∷ "dH" ↦′ No 0 oneDigit ∷ "XXXXXe5" ↦′ No 0 twoDigits
+    ∷ "yyyyy" ↦′ No 0 twoDigits ∷ "yyyyyy" ↦′ No 0 twoDigits ∷ "yyyyyyy" ↦′ Yes ∷ "yy" ↦′ No 0 twoDigits ∷ "dH" ↦′ No 0 oneDigit ∷ "XXXXXe5" ↦′ No 0 twoDigits ∷ "XXXXXMMMMMd" ↦′ No 0 twoDigits
     ∷ "a'b''" ↦′ No 1 twoDigits ∷ "a'" ↦′ Refused (LoneQuote 1) ∷ []
 
 pub samples : map (λ s. verdictOf (B.bytes (s .pattern)) (pos 2025)) table ≡ map (λ s. s .answer) table

@@ -1,26 +1,25 @@
 -- Each kind of rule comes back for every allowed record where the text behind it meets its need.
 use mathlib.Core.Bool.{Bool, true, false}
-use mathlib.Core.List.{List, [], _∷_, _++_}
+use mathlib.Core.List.{List, _∷_, _++_}
 use mathlib.Core.Path.{_≡_, refl, ap, _∙_}
 use Prim.Native.Char.{Char, code}
 use Prim.Native.Nat.{ℕ, zero, suc, _+_, _%_, _^_, _≤_, _<_}
 use native.Mathlib.Nat.{add-zero, lt-of-lt-of-le, pow-le-pow-right}
 use native.Mathlib.Omega.{arith}
 use lib.Dec.{eqb, leb, ltb}
-use lib.IntN.{pos, natAbs}
+use lib.IntN.{pos}
 use lib.ListN.{length, length-append}
-use borrow.Author.Tests.{eq-eqb, ne-eqb, eqb-true, leb-true, ltb-true, ltb-false}
-use Rattle.meaning.specs.Bytes.{when, both, digitAt, num}
+use borrow.Author.Tests.{eq-eqb, ne-eqb, eqb-true, leb-true, ltb-false}
+use Rattle.meaning.specs.Bytes.{when, digitAt, num}
 use Rattle.meaning.specs.Names.{english, names}
 use Rattle.meaning.specs.Readers.{got}
-use Rattle.meaning.specs.Reading.{zeroFor, carriedAs, carriedOffset, readRule, carriedRule}
-use Rattle.meaning.specs.Writing.{hourOf, inPlaceOfZero, quantityOf, groupText, zoneText, ruleText}
+use Rattle.meaning.specs.Reading.{zeroFor, carriedAs, readRule, carriedRule}
+use Rattle.meaning.specs.Writing.{hourOf, inPlaceOfZero, quantityOf, ruleText}
 use Rattle.meaning.specs.declared.Carried.the-variants as carried
 use Rattle.meaning.specs.declared.Fields.{Fields}
 use Rattle.meaning.specs.declared.Group.{Group}
 use Rattle.meaning.specs.declared.Group.the-variants.{Never, NotZero, Always}
 use Rattle.meaning.specs.declared.ParseUnit.{ParseUnit}
-use Rattle.meaning.specs.declared.ParseUnit.the-variants as unit
 use Rattle.meaning.specs.declared.Quantity.{Quantity}
 use Rattle.meaning.specs.declared.Quantity.the-variants.{Month, Quarter, Week, Day, DayOfYear, Weekday, WeekdayFromMonday, Hour1To12, Hour0To11, Hour0To23, Hour1To24, Minute, Second, Fraction}
 use Rattle.meaning.specs.declared.Rule.{Rule}

@@ -1,8 +1,8 @@
 -- A part comes back for every allowed record where the parts behind it meet its need, and else fails for the record shown.
-use mathlib.Core.Bool.{Bool, true, false, not}
+use mathlib.Core.Bool.{true, false}
 use mathlib.Core.List.{List, [], _∷_, _++_}
 use mathlib.Core.Path.{_≡_, refl, sym}
-use Prim.Native.Nat.{ℕ, suc, _-_, _≤_, _<_}
+use Prim.Native.Nat.{ℕ, _-_, _≤_, _<_}
 use native.Mathlib.Nat.{add-zero}
 use native.Mathlib.Omega.{arith}
 use lib.ListN.{length, take, length-append, length-take}
@@ -11,7 +11,7 @@ use Rattle.meaning.specs.Answers.{fieldsCheck}
 use Rattle.meaning.specs.Names.{english}
 use Rattle.meaning.specs.Readers.{got, skip}
 use Rattle.meaning.specs.Reading.{passed, readStep, carriedStep}
-use Rattle.meaning.specs.Writing.{Step, literal, field, endsInQuote, stepText, texts}
+use Rattle.meaning.specs.Writing.{Step, endsInQuote, stepText, texts}
 use Rattle.meaning.specs.declared.Carried.the-variants as carried
 use Rattle.meaning.specs.declared.Checked.the-variants.{Fine}
 use Rattle.meaning.specs.declared.Fields.{Fields}
@@ -20,7 +20,7 @@ use Rattle.laws.proofs.Readers.{skip-goes-on}
 use Rattle.laws.proofs.Tests.{true-is-not-false}
 use Rattle.trust.proofs.Ahead.{first-byte, no-first-digit, second-byte, no-second-digit}
 use Rattle.trust.proofs.Fails.{Shown, rule-fails}
-use Rattle.trust.proofs.Fitting.{Fitting, none, symbol, some, open′}
+use Rattle.trust.proofs.Fitting.{Fitting, symbol, some, open′}
 use Rattle.trust.proofs.Sound.{Met, rule-comes-back}
 use Rattle.trust.proofs.Takes.{takes-got, takes-skip, takes-done}
 use Rattle.trust.specs.Ahead.{digitFirst, digitSecond}

@@ -22,7 +22,7 @@ use Rattle.meaning.specs.declared.Role.the-variants as role
 use Rattle.meaning.specs.declared.Rule.{Rule}
 use Rattle.meaning.specs.declared.Rule.the-variants.{Number, SkippedNumber, LetterQuarter, SkippedName, MatchedName, Letters, Years, FixedYear, TwoDigitYear, Zone}
 use Rattle.laws.proofs.Names.{apart, allApart}
-use Rattle.laws.proofs.Tests.{both-true, both-are, every, when-is}
+use Rattle.laws.proofs.Tests.{both-true, every, when-is}
 use Rattle.laws.specs.Widths.{mostDigits}
 use Rattle.trust.specs.Ahead.{nameFirst, hasLetters}
 use Rattle.trust.specs.Check.{oneDigit, twoDigits}

@@ -1,6 +1,6 @@
 -- How many bytes a reader takes where it goes on, whatever they give: by this a failing part is told from its own text.
 use mathlib.Core.Bool.{Bool, true, false}
-use mathlib.Core.List.{List, [], _∷_, _++_}
+use mathlib.Core.List.{List, _++_}
 use mathlib.Core.Option.{Option, none, some}
 use mathlib.Core.Path.{_≡_, refl}
 use Prim.Native.Nat.{ℕ, zero, suc, _+_, _≤_, _<_}
@@ -13,7 +13,7 @@ use Rattle.meaning.specs.Numerals.{Signed, numberOf}
 use Rattle.meaning.specs.Readers.{Got, got, stopped, Reader, behind, goOn, _>>=_, done, skip, takenNumber, takeNumber, reach}
 use Rattle.meaning.specs.declared.Numeral.{Numeral}
 use Rattle.laws.proofs.Readers.{reach-on, reach-ends}
-use Rattle.laws.proofs.Tests.{by-test, when-is}
+use Rattle.laws.proofs.Tests.{when-is}
 
 abbrev pub Takes : {A : Type 0} → ℕ → Got A → Type 0
 Takes k (got n a) = n ≡ k

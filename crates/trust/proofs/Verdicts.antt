@@ -1,14 +1,14 @@
 -- The check is right: its answer is what `Says` asks of it, for every pattern and every current year.
 use mathlib.Core.Bool.{Bool, true, false}
 use mathlib.Core.List.{List, [], _∷_}
-use mathlib.Core.Path.{_≡_, refl, sym, ap}
+use mathlib.Core.Path.{_≡_, refl}
 use Prim.Native.Nat.{ℕ, zero, suc, _+_, _≤_, _<_}
 use native.Mathlib.Omega.{arith}
 use lib.Dec.{leb}
 use lib.IntN.{ℤ, pos, negsuc, natAbs}
 use lib.ListN.{length, drop}
 use borrow.Author.Tests.{leb-true}
-use Rattle.meaning.specs.Answers.{_else_, currentYearCheck, fieldsCheck, patternCheck, refuseUnless, within}
+use Rattle.meaning.specs.Answers.{currentYearCheck, fieldsCheck, patternCheck, within}
 use Rattle.meaning.specs.Names.{english}
 use Rattle.meaning.specs.Trust.{partAt, ComesBack, AllComeBack, FailsFirst, trustCheck, Says}
 use Rattle.meaning.specs.Writing.{Step, steps}
@@ -25,6 +25,7 @@ use Rattle.laws.proofs.Tests.{both-true, by-test}
 use Rattle.laws.proofs.Texts.{text-from}
 use Rattle.trust.proofs.Fitting.{Fitting, fitting-from, steps-fit}
 use Rattle.trust.proofs.Steps.{step-comes-back, step-fails, witness-fine}
+use Rattle.trust.proofs.Turns.{failing-on, failing-here}
 use Rattle.trust.specs.Check.{meets, witness, firstFailing, verdictBy, verdictOf}
 use Rattle.trust.specs.Needs.{stepNeed}
 
@@ -73,16 +74,15 @@ module _ (s : Step) (ss : List Step) (first : meets (stepNeed s) ss ≡ true) wh
 tells : (k : ℕ) (ss : List Step) → Tells k ss (firstFailing k ss)
 unfolding firstFailing Tells
 tells k [] = λ j h. absurd (omega arith)
-tells k (s ∷ ss) = go (meets (stepNeed s) ss) refl (tells (suc k) ss)
-  where
-    go : (b : Bool) → meets (stepNeed s) ss ≡ b → Tells (suc k) ss (firstFailing (suc k) ss)
-        → Tells k (s ∷ ss) (elim b as (λ x. Verdict) [ true ↦ firstFailing (suc k) ss | false ↦ verdict.No k (witness (stepNeed s)) ])
-    go true e rest = tells-from s ss e k (firstFailing (suc k) ss) rest
-    go false e rest = (
+tells k (s ∷ ss) =
+    by-test (meets (stepNeed s) ss)
+    (λ e. rw (failing-on k s ss e) (tells-from s ss e k (firstFailing (suc k) ss) (tells (suc k) ss)))
+    (λ e.
+    rw (failing-here k s ss e) (
       0,
       omega arith,
       record { there = omega arith; fails = unfold holds in e; shows = refl; earlier = λ j h. absurd (omega arith) },
-    )
+    ))
 
 -- and what that says of the written text
 
