@@ -30,25 +30,57 @@ fn is_digit(b: u8) -> bool
     b <= b'9'
 }
 
+// Only the quarters' names begin with a digit.
 fn name_first(list: NameList) -> bool
     ensures { λ r. ⌜ r ≡ ahead.nameFirst list ⌝ }
 {
     match list {
+        NameList::EraAbbreviated => false,
+        NameList::EraNarrow => false,
+        NameList::EraWide => false,
         NameList::QuarterWide => true,
-        _ => false,
+        NameList::MonthAbbreviated => false,
+        NameList::MonthWide => false,
+        NameList::MonthNarrow => false,
+        NameList::WdayAbbreviated => false,
+        NameList::WdayWide => false,
+        NameList::WdayNarrow => false,
+        NameList::WdayShort => false,
+        NameList::PeriodUpper => false,
+        NameList::PeriodLower => false,
+        NameList::PeriodDotted => false,
+        NameList::PeriodLetter => false,
+        NameList::NoonUpper => false,
+        NameList::NoonLower => false,
+        NameList::NoonDotted => false,
+        NameList::NoonLetter => false,
     }
 }
 
+// The lists with names of one byte.
 fn has_letters(list: NameList) -> bool
     ensures { λ r. ⌜ r ≡ ahead.hasLetters list ⌝ }
 {
     match list {
+        NameList::EraAbbreviated => false,
         NameList::EraNarrow => true,
+        NameList::EraWide => false,
+        NameList::QuarterWide => false,
+        NameList::MonthAbbreviated => false,
+        NameList::MonthWide => false,
         NameList::MonthNarrow => true,
+        NameList::WdayAbbreviated => false,
+        NameList::WdayWide => false,
         NameList::WdayNarrow => true,
+        NameList::WdayShort => false,
+        NameList::PeriodUpper => false,
+        NameList::PeriodLower => false,
+        NameList::PeriodDotted => false,
         NameList::PeriodLetter => true,
+        NameList::NoonUpper => false,
+        NameList::NoonLower => false,
+        NameList::NoonDotted => false,
         NameList::NoonLetter => true,
-        _ => false,
     }
 }
 

@@ -104,9 +104,15 @@ fn rule_need(rule: Rule) -> Need
             most,
         } => number_need(quantity, least, most),
         Rule::LetterQuarter => Need::Nothing,
-        Rule::SkippedName { names: _, length: _ } => Need::Nothing,
+        Rule::SkippedName {
+            names: _,
+            length: _,
+        } => Need::Nothing,
         Rule::MatchedName(_) => Need::Nothing,
-        Rule::Letters { names: _, length: _ } => Need::Nothing,
+        Rule::Letters {
+            names: _,
+            length: _,
+        } => Need::Nothing,
         Rule::Years(_) => Need::NoDigit,
         Rule::FixedYear(count) => fixed_year_need(count),
         Rule::TwoDigitYear => Need::Broken,

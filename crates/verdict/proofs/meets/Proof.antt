@@ -1,8 +1,6 @@
--- TODO
+-- Each arm is its need.
 use borrow.Author.Needs.{needs}
-use denote.Ref.{now}
-use native.Mathlib.Omega.{arith}
-use borrow.Author.Needs.{needs}
+use Rattle.trust.specs.Check.{meets}
 use Rattle.verdict.proofs.meets.Statement.{statement}
 use Rattle.verdict.proofs.meets.Tie as tie
 
@@ -25,16 +23,20 @@ enum-told-4 : tie.Need-enum-told-4
 enum-told-4 c = search needs
 
 returns : tie.Need-returns
-returns c = search needs
+unfolding meets
+returns c = rw (c .enum-told .given .1)
 
 returns-2 : tie.Need-returns-2
-returns-2 c = search needs
+unfolding meets
+returns-2 c = rw (c .before .enum-told2 .given .1, ← c .digit-first .ensures)
 
 returns-3 : tie.Need-returns-3
-returns-3 c = search needs
+unfolding meets
+returns-3 c = rw (c .before .enum-told3 .given .1, ← c .digit-second .ensures)
 
 returns-4 : tie.Need-returns-4
-returns-4 c = search needs
+unfolding meets
+returns-4 c = rw (c .enum-told4 .given .1)
 
 pub meets-spec : {M : Type 1} → statement M
 meets-spec =

@@ -1,8 +1,8 @@
--- TODO
+-- The checks, one after the other, once the bits of the year are taken away.
 use borrow.Author.Needs.{needs}
-use denote.Ref.{now}
-use native.Mathlib.Omega.{arith}
-use borrow.Author.Needs.{needs}
+use mir.Syntax.{w32}
+use mir.ValLaws.{toZ-ofZ}
+use Rattle.meaning.specs.Trust.{trustCheck}
 use Rattle.verdict.proofs.trust_check.Statement.{statement}
 use Rattle.verdict.proofs.trust_check.Tie as tie
 
@@ -16,7 +16,8 @@ or-else-requires : tie.Need-or-else-requires
 or-else-requires c κs = search needs
 
 returns : tie.Need-returns
-returns c = search needs
+unfolding trustCheck
+returns c = rw (c .or-else .ensures, c .before .current-year-check .ensures, c .before .before .pattern-check .ensures, toZ-ofZ w32 (c .before .before .before .before .args .year) (c .before .before .before .before .fits .year))
 
 pub trust-check-spec : {M : Type 1} → statement M
 trust-check-spec =

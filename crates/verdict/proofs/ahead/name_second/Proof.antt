@@ -1,7 +1,4 @@
--- TODO
-use borrow.Author.Needs.{needs}
-use denote.Ref.{now}
-use native.Mathlib.Omega.{arith}
+-- Only a name of one byte leaves the second to what is behind it.
 use borrow.Author.Needs.{needs}
 use Rattle.verdict.proofs.ahead.name_second.Statement.{statement}
 use Rattle.verdict.proofs.ahead.name_second.Tie as tie
@@ -10,10 +7,10 @@ has-letters-requires : tie.Need-has-letters-requires
 has-letters-requires c κs = search needs
 
 returns : tie.Need-returns
-returns c = search needs
+returns c = rw (← c .before .has-letters .ensures, c .if1 .taken)
 
 returns-2 : tie.Need-returns-2
-returns-2 c = search needs
+returns-2 c = rw (← c .before .has-letters .ensures, c .if1 .left)
 
 pub name-second-spec : {M : Type 1} → statement M
 name-second-spec = tie.close (tie.spec has-letters-requires returns returns-2)

@@ -1,8 +1,7 @@
--- TODO
+-- Each arm is what its rule says.
 use borrow.Author.Needs.{needs}
 use denote.Ref.{now}
-use native.Mathlib.Omega.{arith}
-use borrow.Author.Needs.{needs}
+use Rattle.trust.specs.Ahead.{ruleFirst}
 use Rattle.verdict.proofs.ahead.rule_first.Statement.{statement}
 use Rattle.verdict.proofs.ahead.rule_first.Tie as tie
 
@@ -46,34 +45,44 @@ enum-told-7 : tie.Need-enum-told-7
 enum-told-7 c = search needs
 
 returns : tie.Need-returns
-returns c = search needs
+unfolding ruleFirst
+returns c = rw (c .enum-told .given .1)
 
 returns-2 : tie.Need-returns-2
-returns-2 c = search needs
+unfolding ruleFirst
+returns-2 c = rw (c .enum-told2 .given .1)
 
 returns-3 : tie.Need-returns-3
-returns-3 c = search needs
+unfolding ruleFirst
+returns-3 c = rw (c .enum-told3 .given .1)
 
 returns-4 : tie.Need-returns-4
-returns-4 c = search needs
+unfolding ruleFirst
+returns-4 c = rw (c .before .before .rule .given .1) (c .name-first .ensures)
 
 returns-5 : tie.Need-returns-5
-returns-5 c = search needs
+unfolding ruleFirst
+returns-5 c = rw (c .before .before .rule2 .given .1) (c .name-first2 .ensures)
 
 returns-6 : tie.Need-returns-6
-returns-6 c = search needs
+unfolding ruleFirst
+returns-6 c = rw (c .before .before .rule3 .given .1) (c .name-first3 .ensures)
 
 returns-7 : tie.Need-returns-7
-returns-7 c = search needs
+unfolding ruleFirst
+returns-7 c = rw (c .enum-told4 .given .1)
 
 returns-8 : tie.Need-returns-8
-returns-8 c = search needs
+unfolding ruleFirst
+returns-8 c = rw (c .enum-told5 .given .1)
 
 returns-9 : tie.Need-returns-9
-returns-9 c = search needs
+unfolding ruleFirst
+returns-9 c = rw (c .enum-told6 .given .1)
 
 returns-10 : tie.Need-returns-10
-returns-10 c = search needs
+unfolding ruleFirst
+returns-10 c = rw (c .enum-told7 .given .1)
 
 pub rule-first-spec : {M : Type 1} → statement M
 rule-first-spec =

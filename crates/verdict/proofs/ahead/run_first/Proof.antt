@@ -1,8 +1,8 @@
--- TODO
+-- By its role.
 use borrow.Author.Needs.{needs}
 use denote.Ref.{now}
-use native.Mathlib.Omega.{arith}
-use borrow.Author.Needs.{needs}
+use Rattle.trust.specs.Ahead.{stepFirst}
+use Rattle.verdict.proofs.Literals.{run-first}
 use Rattle.verdict.proofs.ahead.run_first.Statement.{statement}
 use Rattle.verdict.proofs.ahead.run_first.Tie as tie
 
@@ -22,10 +22,12 @@ rule-first-requires : tie.Need-rule-first-requires
 rule-first-requires c κs = search needs
 
 returns : tie.Need-returns
-returns c = search needs
+unfolding stepFirst
+returns c = rw (← c .before .before .before .role-of .ensures, c .before .enum-told .given .1, run-first (c .before .before .before .before .args .b) (c .before .before .before .before .args .count) (c .before .before .before .before .pre)) (c .is-digit .ensures)
 
 returns-2 : tie.Need-returns-2
-returns-2 c = search needs
+unfolding stepFirst
+returns-2 c = rw (← c .before .before .before .before .role-of .ensures, c .before .before .rule .given .1) (c .rule-first .ensures)
 
 pub run-first-spec : {M : Type 1} → statement M
 run-first-spec =

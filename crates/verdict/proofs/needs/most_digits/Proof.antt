@@ -1,8 +1,7 @@
--- TODO
+-- Each arm is what its quantity says.
 use borrow.Author.Needs.{needs}
 use denote.Ref.{now}
-use native.Mathlib.Omega.{arith}
-use borrow.Author.Needs.{needs}
+use Rattle.laws.specs.Widths.{mostDigits}
 use Rattle.verdict.proofs.needs.most_digits.Statement.{statement}
 use Rattle.verdict.proofs.needs.most_digits.Tie as tie
 
@@ -49,46 +48,60 @@ enum-known-quantity : tie.Need-enum-known-quantity
 enum-known-quantity c = search needs
 
 returns : tie.Need-returns
-returns c = search needs
+unfolding mostDigits
+returns c = rw (c .enum-told .given .1)
 
 returns-2 : tie.Need-returns-2
-returns-2 c = search needs
+unfolding mostDigits
+returns-2 c = rw (c .enum-told2 .given .1)
 
 returns-3 : tie.Need-returns-3
-returns-3 c = search needs
+unfolding mostDigits
+returns-3 c = rw (c .enum-told3 .given .1)
 
 returns-4 : tie.Need-returns-4
-returns-4 c = search needs
+unfolding mostDigits
+returns-4 c = rw (c .enum-told4 .given .1)
 
 returns-5 : tie.Need-returns-5
-returns-5 c = search needs
+unfolding mostDigits
+returns-5 c = rw (c .enum-told5 .given .1)
 
 returns-6 : tie.Need-returns-6
-returns-6 c = search needs
+unfolding mostDigits
+returns-6 c = rw (c .enum-told6 .given .1)
 
 returns-7 : tie.Need-returns-7
-returns-7 c = search needs
+unfolding mostDigits
+returns-7 c = rw (c .enum-told7 .given .1)
 
 returns-8 : tie.Need-returns-8
-returns-8 c = search needs
+unfolding mostDigits
+returns-8 c = rw (c .enum-told8 .given .1)
 
 returns-9 : tie.Need-returns-9
-returns-9 c = search needs
+unfolding mostDigits
+returns-9 c = rw (c .enum-told9 .given .1)
 
 returns-10 : tie.Need-returns-10
-returns-10 c = search needs
+unfolding mostDigits
+returns-10 c = rw (c .enum-told10 .given .1)
 
 returns-11 : tie.Need-returns-11
-returns-11 c = search needs
+unfolding mostDigits
+returns-11 c = rw (c .enum-told11 .given .1)
 
 returns-12 : tie.Need-returns-12
-returns-12 c = search needs
+unfolding mostDigits
+returns-12 c = rw (c .enum-told12 .given .1)
 
 returns-13 : tie.Need-returns-13
-returns-13 c = search needs
+unfolding mostDigits
+returns-13 c = rw (c .enum-told13 .given .1)
 
 returns-14 : tie.Need-returns-14
-returns-14 c = search needs
+unfolding mostDigits
+returns-14 c = rw (c .before .quantity .given .1)
 
 pub most-digits-spec : {M : Type 1} → statement M
 most-digits-spec =

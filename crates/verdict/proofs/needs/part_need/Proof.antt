@@ -1,8 +1,10 @@
--- TODO
+-- Each kind of part.
+use Prim.Native.Nat.{_+_}
 use borrow.Author.Needs.{needs}
 use denote.Ref.{now}
-use native.Mathlib.Omega.{arith}
-use borrow.Author.Needs.{needs}
+use Rattle.meaning.specs.Writing.{stepOf}
+use Rattle.trust.specs.Needs.{stepNeed}
+use Rattle.verdict.proofs.Walks.{rest-all}
 use Rattle.verdict.proofs.needs.part_need.Statement.{statement}
 use Rattle.verdict.proofs.needs.part_need.Tie as tie
 
@@ -43,16 +45,24 @@ loss-need-requires : tie.Need-loss-need-requires
 loss-need-requires c κs = search needs
 
 returns : tie.Need-returns
-returns c = search needs
+unfolding stepOf
+returns c = rw (c .before .before .enum-told .given .1) (c .run-need .ensures)
 
 returns-2 : tie.Need-returns-2
-returns-2 c = search needs
+unfolding stepOf stepNeed
+returns-2 c = rw (c .enum-told2 .given .1)
 
 returns-3 : tie.Need-returns-3
-returns-3 c = search needs
+unfolding stepOf stepNeed
+returns-3 c = rw (c .enum-told3 .given .1)
 
 returns-4 : tie.Need-returns-4
-returns-4 c = search needs
+unfolding stepOf stepNeed
+returns-4 c =
+    let a = c .before .before .before .before .before .before .args in
+    let p = now (a .pattern) in
+    let lost = c .before .before .before .before .before .before .pre .lost (c .before .before .before .enum-told4 .given .1) in
+    rw (c .before .before .before .enum-told4 .given .1, lost .told, ← rest-all (a .part .start + 1) p, ← c .before .ends-in-quote .ensures) (c .loss-need .ensures)
 
 pub part-need-spec : {M : Type 1} → statement M
 part-need-spec =

@@ -1,8 +1,7 @@
--- TODO
+-- Each arm is what its rule needs.
 use borrow.Author.Needs.{needs}
 use denote.Ref.{now}
-use native.Mathlib.Omega.{arith}
-use borrow.Author.Needs.{needs}
+use Rattle.trust.specs.Needs.{ruleNeed}
 use Rattle.verdict.proofs.needs.rule_need.Statement.{statement}
 use Rattle.verdict.proofs.needs.rule_need.Tie as tie
 
@@ -52,34 +51,43 @@ group-need-requires : tie.Need-group-need-requires
 group-need-requires c κs = search needs
 
 returns : tie.Need-returns
-returns c = search needs
+unfolding ruleNeed
+returns c = rw (c .before .before .rule .given .1) (c .number-need .ensures)
 
 returns-2 : tie.Need-returns-2
-returns-2 c = search needs
+unfolding ruleNeed
+returns-2 c = rw (c .before .before .rule2 .given .1) (c .number-need2 .ensures)
 
 returns-3 : tie.Need-returns-3
-returns-3 c = search needs
+unfolding ruleNeed
+returns-3 c = rw (c .enum-told .given .1)
 
 returns-4 : tie.Need-returns-4
-returns-4 c = search needs
+unfolding ruleNeed
+returns-4 c = rw (c .enum-told2 .given .1)
 
 returns-5 : tie.Need-returns-5
-returns-5 c = search needs
+unfolding ruleNeed
+returns-5 c = rw (c .enum-told3 .given .1)
 
 returns-6 : tie.Need-returns-6
-returns-6 c = search needs
+unfolding ruleNeed
+returns-6 c = rw (c .enum-told4 .given .1)
 
 returns-7 : tie.Need-returns-7
-returns-7 c = search needs
+unfolding ruleNeed
+returns-7 c = rw (c .enum-told5 .given .1)
 
 returns-8 : tie.Need-returns-8
-returns-8 c = search needs
+returns-8 c = rw (c .before .before .rule3 .given .1) (c .fixed-year-need .ensures)
 
 returns-9 : tie.Need-returns-9
-returns-9 c = search needs
+unfolding ruleNeed
+returns-9 c = rw (c .enum-told6 .given .1)
 
 returns-10 : tie.Need-returns-10
-returns-10 c = search needs
+unfolding ruleNeed
+returns-10 c = rw (c .before .before .before .rule4 .given .1, ← c .before .last-group .ensures) (c .group-need .ensures)
 
 pub rule-need-spec : {M : Type 1} → statement M
 rule-need-spec =

@@ -1,8 +1,7 @@
--- TODO
+-- By its role.
 use borrow.Author.Needs.{needs}
 use denote.Ref.{now}
-use native.Mathlib.Omega.{arith}
-use borrow.Author.Needs.{needs}
+use Rattle.trust.specs.Needs.{stepNeed}
 use Rattle.verdict.proofs.needs.run_need.Statement.{statement}
 use Rattle.verdict.proofs.needs.run_need.Tie as tie
 
@@ -19,10 +18,12 @@ rule-need-requires : tie.Need-rule-need-requires
 rule-need-requires c κs = search needs
 
 returns : tie.Need-returns
-returns c = search needs
+unfolding stepNeed
+returns c = rw (← c .before .before .role-of .ensures, c .enum-told .given .1)
 
 returns-2 : tie.Need-returns-2
-returns-2 c = search needs
+unfolding stepNeed
+returns-2 c = rw (← c .before .before .before .before .role-of .ensures, c .before .before .rule .given .1) (c .rule-need .ensures)
 
 pub run-need-spec : {M : Type 1} → statement M
 run-need-spec =
