@@ -15,7 +15,7 @@ use Rattle.pattern.specs.First.{contentOf}
 use Rattle.trust.proofs.Turns.{failing-on, failing-here}
 use Rattle.trust.specs.Check.{meets, firstFailing}
 use Rattle.trust.specs.Needs.{stepNeed}
-use Rattle.verdict.proofs.Walks.{steps-next, steps-done}
+use Rattle.pattern.proofs.Walks.{steps-next, steps-done}
 use Rattle.verdict.proofs.first_failing.Statement.{statement}
 use Rattle.verdict.proofs.first_failing.Tie as tie
 

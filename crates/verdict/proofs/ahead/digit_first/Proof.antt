@@ -5,7 +5,7 @@ use native.Mathlib.Omega.{arith}
 use Rattle.meaning.specs.declared.Pair.the-variants.{Full}
 use Rattle.pattern.proofs.Laws.{next, starts-here}
 use Rattle.trust.specs.Ahead.{digitFirst}
-use Rattle.verdict.proofs.Walks.{steps-next, steps-done}
+use Rattle.pattern.proofs.Walks.{steps-next, steps-done}
 use Rattle.verdict.proofs.ahead.digit_first.Statement.{statement}
 use Rattle.verdict.proofs.ahead.digit_first.Tie as tie
 

@@ -7,7 +7,7 @@ use native.Mathlib.Omega.{arith}
 use Rattle.meaning.specs.Writing.{stepOf}
 use Rattle.trust.specs.Ahead.{stepFirst}
 use Rattle.verdict.proofs.Literals.{quotes-first}
-use Rattle.verdict.proofs.Walks.{rest-all}
+use Rattle.pattern.proofs.Walks.{rest-all}
 use Rattle.verdict.proofs.ahead.part_first.Statement.{statement}
 use Rattle.verdict.proofs.ahead.part_first.Tie as tie
 

@@ -10,7 +10,7 @@ use native.Mathlib.Omega.{arith}
 use Rattle.meaning.specs.Writing.{stepOf}
 use Rattle.trust.specs.Ahead.{stepSecond}
 use Rattle.verdict.proofs.Literals.{quotes-second}
-use Rattle.verdict.proofs.Walks.{rest-all}
+use Rattle.pattern.proofs.Walks.{rest-all}
 use Rattle.verdict.proofs.ahead.part_second.Statement.{statement}
 use Rattle.verdict.proofs.ahead.part_second.Tie as tie
 use Rattle.verdict.specs.Insides.{insideSecond}

@@ -4,7 +4,7 @@ use borrow.Author.Needs.{needs}
 use denote.Ref.{now}
 use Rattle.meaning.specs.Writing.{stepOf}
 use Rattle.trust.specs.Needs.{stepNeed}
-use Rattle.verdict.proofs.Walks.{rest-all}
+use Rattle.pattern.proofs.Walks.{rest-all}
 use Rattle.verdict.proofs.needs.part_need.Statement.{statement}
 use Rattle.verdict.proofs.needs.part_need.Tie as tie
 

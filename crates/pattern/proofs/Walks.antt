@@ -1,4 +1,5 @@
--- The steps of what is left of a pattern: its next part's first, and none at its end.
+-- Laws for walks: the steps of what is left of a pattern, which are its next part's and those behind it, and none at its end; and
+-- the part of a slice from a place on.
 use mathlib.Core.List.{List, [], _∷_}
 use mathlib.Core.Path.{_≡_}
 use Prim.Native.Nat.{ℕ, _+_, _-_, _≤_}
