@@ -61,8 +61,9 @@ unfolding nameOpens
 namesFit l =
     both (every (nameOpens l) (names english l)) (when (hasLetters l) (eqb (length (nameText english l twoDigits)) 1) true)
 
-unfoldable pub sized : ℕ → NameList → Bool
-sized n l = every (λ name. eqb (length name) n) (names english l)
+-- each name has n bytes
+unfoldable pub sameLength : ℕ → NameList → Bool
+sameLength n l = every (λ name. eqb (length name) n) (names english l)
 
 -- minutes may be missing only where no seconds follow
 abbrev pub zoneFits : Group → Group → Bool
@@ -76,9 +77,9 @@ unfoldable pub fits : Rule → Bool
 fits (Number q least most u z) = both (numberFits q least most) (eqb z (zeroOf q))
 fits (SkippedNumber q least most) = numberFits q least most
 fits LetterQuarter = true
-fits (SkippedName l n) = both (namesFit l) (sized n l)
+fits (SkippedName l n) = both (namesFit l) (sameLength n l)
 fits (MatchedName l) = both (namesFit l) (allApart (names english l))
-fits (Letters l n) = both (namesFit l) (both (sized n l) (allApart (names english l)))
+fits (Letters l n) = both (namesFit l) (both (sameLength n l) (allApart (names english l)))
 fits (Years k) = true
 fits (FixedYear k) = true
 fits TwoDigitYear = true
@@ -126,11 +127,11 @@ roleFits role.Literal = true
 roleFits (role.Symbol rule) = fits rule
 
 date-symbols-fit : every symbolFits dateSymbols ≡ true
-unfolding fits numberFits namesFit sized allApart english nameFirst hasLetters mostDigits quantityOf num digitAt nameText
+unfolding fits numberFits namesFit sameLength allApart english nameFirst hasLetters mostDigits quantityOf num digitAt nameText
 date-symbols-fit = refl
 
 time-symbols-fit : every symbolFits timeSymbols ≡ true
-unfolding fits numberFits namesFit sized allApart nameFirst hasLetters mostDigits quantityOf num digitAt nameText
+unfolding fits numberFits namesFit sameLength allApart nameFirst hasLetters mostDigits quantityOf num digitAt nameText
 time-symbols-fit = refl
 
 -- what is picked from it
