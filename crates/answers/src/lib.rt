@@ -1,15 +1,17 @@
 // Answers to requests of the line protocol: one line in, one line out.
-pub mod refusals;
-pub mod requests;
+pub mod reads;
+pub mod refused;
 pub mod splits;
 pub mod writes;
 
 ghost use Prim.Native.Nat.{_≤_};
 ghost use lib.ListN.{length};
 ghost use Rattle.io.specs.Counts.{Counts};
+use crate::reads::answer_offset;
+use crate::reads::answer_read;
 use crate::splits::answer_split;
 use crate::writes::answer_write;
-use format::numbers::put_bytes;
+use leaves::numbers::put_bytes;
 use lines::words::word_from;
 use meaning::Pair;
 
@@ -21,6 +23,9 @@ enum Request {
     Split,
     Write,
     WriteDate,
+    Read,
+    ReadDate,
+    ParseOffset,
     Unknown,
 }
 
@@ -33,6 +38,15 @@ fn request_of(name: &[u8]) -> Request {
     }
     if check::same(name, b"write_date") {
         return Request::WriteDate;
+    }
+    if check::same(name, b"read") {
+        return Request::Read;
+    }
+    if check::same(name, b"read_date") {
+        return Request::ReadDate;
+    }
+    if check::same(name, b"parse_offset") {
+        return Request::ParseOffset;
     }
     Request::Unknown
 }
@@ -53,6 +67,9 @@ pub fn answer(line: &[u8], out: &mut [u8]) -> usize
         Request::Split => answer_split(line, next, out),
         Request::Write => answer_write(Pair::Full, line, next, out),
         Request::WriteDate => answer_write(Pair::Date, line, next, out),
+        Request::Read => answer_read(Pair::Full, line, next, out),
+        Request::ReadDate => answer_read(Pair::Date, line, next, out),
+        Request::ParseOffset => answer_offset(line, next, out),
         Request::Unknown => bad_request(out),
     }
 }

@@ -1,13 +1,10 @@
--- What an unclosed part writes, by its last byte; and the text of a pattern, part by part.
-use mathlib.Core.Bool.{true, false}
+-- What an unclosed part writes as a step; and the text of a pattern, part by part.
 use mathlib.Core.List.{List, [], _++_}
 use mathlib.Core.Path.{_≡_}
-use Prim.Native.Nat.{ℕ, _+_, _-_, _≤_}
-use lib.Dec.{eqb}
-use lib.ListN.{length, getD, take, drop, drop-of-length-le}
-use borrow.Author.Tests.{eqb-true}
-use Rattle.meaning.specs.Bytes.{quote}
+use Prim.Native.Nat.{ℕ, _+_, _≤_}
+use lib.ListN.{length, drop, drop-of-length-le}
 use Rattle.laws.proofs.Tests.{by-test}
+use Rattle.leaves.specs.Literals.{openText}
 use Rattle.meaning.specs.Names.{Book}
 use Rattle.meaning.specs.Splitting.{elements, outside, contents}
 use Rattle.meaning.specs.Whole.{text}
@@ -15,18 +12,8 @@ use Rattle.meaning.specs.Writing.{literal, endsInQuote, stepOf, steps, stepText
 use Rattle.meaning.specs.declared.Fields.{Fields}
 use Rattle.meaning.specs.declared.Pair.{Pair}
 use Rattle.meaning.specs.declared.Part.{Part}
-use Rattle.pattern.proofs.Inside.{Lost}
 use Rattle.pattern.proofs.Laws.{Next}
 use Rattle.pattern.specs.First.{unescaped, contentOf}
-use Rattle.format.specs.Literals.{openText}
-
-pub open-lost : (s : List ℕ) → Lost s → eqb (getD s (length s - 1) 0) quote ≡ true → openText s ≡ unescaped (take (length s - 2) s)
-unfolding openText
-open-lost s l e = rw (l .told, e) (l .rest (eqb-true (getD s (length s - 1) 0) quote e))
-
-pub open-kept : (s : List ℕ) → Lost s → eqb (getD s (length s - 1) 0) quote ≡ false → openText s ≡ unescaped s
-unfolding openText
-open-kept s l e = rw (l .told, e)
 
 pub open-step : (book : Book) (f : Fields) (s : List ℕ) → stepText book f (literal (unescaped s) (endsInQuote (unescaped s))) ≡ openText s
 unfolding stepText openText
