@@ -14,9 +14,9 @@ use Rattle.meaning.specs.Writing.{Step, literal, endsInQuote, isNegative, stepT
 use Rattle.meaning.specs.declared.Fields.{Fields}
 use Rattle.laws.proofs.Fields.{Allowed}
 use Rattle.laws.proofs.Tests.{by-test, true-is-not-false, when-is}
-use Rattle.trust.proofs.Fitting.{Fitting, none, symbol, some, open′}
+use Rattle.trust.proofs.Fitting.{Fitting, no-parts, symbol-first, literal-first, open-last}
 use Rattle.trust.proofs.RulesAhead.{behind-one, digit-within, rule-first, rule-second, rule-second-shown, two-digits-allowed}
-use Rattle.trust.specs.Ahead.{digitFirst, digitSecond, stepFirst, stepSecond}
+use Rattle.trust.specs.Ahead.{digitFirst, digitSecond}
 use Rattle.trust.specs.Check.{twoDigits}
 
 -- literals
@@ -58,33 +58,33 @@ open-second s =
 -- The first byte, for every record where it can be no digit, and for one of a positive year where it can.
 pub first-byte : {ss : List Step} → Fitting ss → (f : Fields) → Allowed f → (digitFirst ss ≡ true → isNegative (f .year) ≡ false)
     → digitAt 0 (texts english f ss) ≡ digitFirst ss
-unfolding digitFirst stepFirst texts stepText
-first-byte none f h year = unfold digitAt in refl
-first-byte (symbol {rule} {ss} fit rest) f h year = rule-first rule fit f h (texts english f ss) year
-first-byte (some {s} {ss} k rest) f h year = digit-within 0 s (texts english f ss) k
-first-byte (open′ {s} {lost} e) f h year = open-digit s lost e f 0
+unfolding digitFirst texts
+first-byte no-parts f h year = unfold digitAt in refl
+first-byte (symbol-first {rule} {ss} fit rest) f h year = rule-first rule fit f h (texts english f ss) year
+first-byte (literal-first {s} {ss} k rest) f h year = digit-within 0 s (texts english f ss) k
+first-byte (open-last {s} {lost} e) f h year = open-digit s lost e f 0
 
 pub no-first-digit : {ss : List Step} → Fitting ss → (f : Fields) → Allowed f → digitFirst ss ≡ false → digitAt 0 (texts english f ss) ≡ false
 no-first-digit fit f h e = first-byte fit f h (λ k. true-is-not-false (sym k ∙ e)) ∙ e
 
 -- The second byte, where it can be no digit.
 pub no-second-digit : {ss : List Step} → Fitting ss → (f : Fields) → Allowed f → digitSecond ss ≡ false → digitAt 1 (texts english f ss) ≡ false
-unfolding digitSecond stepSecond texts stepText
-no-second-digit none f h e = unfold digitAt in refl
-no-second-digit (symbol {rule} {ss} fit rest) f h e =
+unfolding digitSecond texts
+no-second-digit no-parts f h e = unfold digitAt in refl
+no-second-digit (symbol-first {rule} {ss} fit rest) f h e =
     rule-second rule fit f h (digitFirst ss) (texts english f ss) e (λ k. no-first-digit rest f h k)
-no-second-digit (some {s} {ss} k rest) f h e =
+no-second-digit (literal-first {s} {ss} k rest) f h e =
     by-test (ltb (length s) 2)
     (λ l. literal-second s (texts english f ss) k ∙ rw l (no-first-digit rest f h (rw l at e)))
     (λ l. literal-second s (texts english f ss) k ∙ rw l (rw l at e))
-no-second-digit (open′ {s} {lost} k) f h e = open-digit s lost k f 1 ∙ open-second s ∙ unfold digitFirst in e
+no-second-digit (open-last {s} {lost} k) f h e = open-digit s lost k f 1 ∙ open-second s ∙ unfold digitFirst in e
 
 -- The second byte of the record with two digits.
 pub second-byte : {ss : List Step} → Fitting ss → digitAt 1 (texts english twoDigits ss) ≡ digitSecond ss
-unfolding digitSecond stepSecond texts stepText
-second-byte none = unfold digitAt in refl
-second-byte (symbol {rule} {ss} fit rest) =
+unfolding digitSecond texts
+second-byte no-parts = unfold digitAt in refl
+second-byte (symbol-first {rule} {ss} fit rest) =
     rule-second-shown rule fit (texts english twoDigits ss) ∙ rw (first-byte rest twoDigits two-digits-allowed (λ _. refl))
-second-byte (some {s} {ss} k rest) =
+second-byte (literal-first {s} {ss} k rest) =
     literal-second s (texts english twoDigits ss) k ∙ rw (first-byte rest twoDigits two-digits-allowed (λ _. refl))
-second-byte (open′ {s} {lost} k) = open-digit s lost k twoDigits 1 ∙ unfold digitFirst in open-second s
+second-byte (open-last {s} {lost} k) = open-digit s lost k twoDigits 1 ∙ unfold digitFirst in open-second s

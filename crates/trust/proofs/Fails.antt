@@ -10,12 +10,12 @@ use lib.Dec.{leb, ltb}
 use lib.IntN.{pos}
 use lib.ListN.{length, drop, length-append}
 use borrow.Author.Tests.{leb-false, ltb-true}
-use Rattle.meaning.specs.Bytes.{both, isDigit, digitAt, num, digits, width, widthIn, plus}
+use Rattle.meaning.specs.Bytes.{both, isDigit, digitAt, num, plus}
 use Rattle.meaning.specs.Names.{english}
-use Rattle.meaning.specs.Numerals.{Signed, allDigits, decimal, signOf, sized, numberOf}
+use Rattle.meaning.specs.Numerals.{Signed, allDigits, numberOf}
 use Rattle.meaning.specs.Readers.{got, _>>=_, done, skip, takeCount, takeYear, takeNumber, reach, ahead, zoneSign}
 use Rattle.meaning.specs.Reading.{colonLength, millennium, takenYear, zoneBehind, zoneGroup, zoneSize, takenZone, yearLength, digitRun, minusFirst, readRule, carriedRule}
-use Rattle.meaning.specs.Writing.{quantityOf, groupText, offsetText, ruleText, signedText, twoDigitText, zoneText}
+use Rattle.meaning.specs.Writing.{quantityOf, groupText, offsetText, ruleText, twoDigitText, zoneText}
 use Rattle.meaning.specs.declared.Carried.{Carried}
 use Rattle.meaning.specs.declared.Carried.the-variants as carried
 use Rattle.meaning.specs.declared.Group.{Group}
@@ -51,15 +51,15 @@ Shown Broken r = Unit
 -- numbers
 
 -- how many bytes of a number are read, before r
-Reach : Quantity → ℕ → ℕ → Need → List ℕ → ℕ
-Reach q least most need r = reach (most - least) least (num least (quantityOf q (witness need)) ++ r)
+reached : Quantity → ℕ → ℕ → Need → List ℕ → ℕ
+reached q least most need r = reach (most - least) least (num least (quantityOf q (witness need)) ++ r)
 
 Cut : Quantity → ℕ → ℕ → List ℕ → Need → Type 0
-Cut q least most r need = Shown need r → length (num least (quantityOf q (witness need))) ≡ Reach q least most need r → ⊥
+Cut q least most r need = Shown need r → length (num least (quantityOf q (witness need))) ≡ reached q least most need r → ⊥
 
 module _ (q : Quantity) (least most : ℕ) (fit : numberFits q least most ≡ true) (r : List ℕ) where
   too-long : most < mostDigits q → Cut q least most r Broken
-  unfolding Cut Reach
+  unfolding Cut reached
   too-long h _ e =
       let n = number-fits q least most fit in
       omega (arith, n .long, n .order, reach-bounds (most - least) least (num least (quantityOf q twoDigits) ++ r) .1)
@@ -71,7 +71,7 @@ module _ (q : Quantity) (least most : ℕ) (fit : numberFits q least most ≡ tr
       num-fits least (quantityOf q oneDigit) (n .low) (lt-of-lt-of-le (n .short) ten)
 
   too-far : least < most → Cut q least most r NoDigit
-  unfolding Cut Reach
+  unfolding Cut reached
   too-far h digit e =
       let s = num least (quantityOf q oneDigit) in
       let next : digitAt least (s ++ r) ≡ true = ap (λ (i : ℕ). digitAt i (s ++ r)) (sym just-least) ∙ digit-behind s r ∙ digit in
@@ -85,7 +85,7 @@ module _ (q : Quantity) (least most : ℕ) (fit : numberFits q least most ≡ tr
 
   number-fails : (now : ℕ) (u : ParseUnit) (z : ℕ) → Shown (numberNeed q least most) r
       → Back now (Number q least most u z) (witness (numberNeed q least most)) r → ⊥
-  unfolding readRule ruleText carriedRule Cut Reach
+  unfolding readRule ruleText Cut reached
   number-fails now u z shown e =
       let s = num least (quantityOf q (witness (numberNeed q least most))) ++ r in
       let k = reach (most - least) least s in
@@ -94,7 +94,7 @@ module _ (q : Quantity) (least most : ℕ) (fit : numberFits q least most ≡ tr
 
   skipped-number-fails : (now : ℕ) → Shown (numberNeed q least most) r
       → Back now (SkippedNumber q least most) (witness (numberNeed q least most)) r → ⊥
-  unfolding readRule ruleText carriedRule Cut Reach
+  unfolding readRule ruleText Cut reached
   skipped-number-fails now shown e =
       let s = num least (quantityOf q (witness (numberNeed q least most))) ++ r in
       let k = reach (most - least) least s in
@@ -117,7 +117,7 @@ no-minus-first : (k : ℕ) (r : List ℕ) → minusFirst (num k 1000001 ++ r) �
 no-minus-first k r = no-minus (num k 1000001) r (all-num k 1000001) (num-some k 1000001)
 
 years-fail : (now k : ℕ) (r : List ℕ) → digitAt 0 r ≡ true → Back now (Years k) oneDigit r → ⊥
-unfolding readRule ruleText carriedRule signedText
+unfolding readRule ruleText
 years-fail now k r digit e =
     let s = num k 1000001 in
     let taken : length s ≡ 0 + digitRun (s ++ r)
@@ -125,7 +125,7 @@ years-fail now k r digit e =
     omega (arith, run-past s r (all-num k 1000001) digit)
 
 fixed-year-fails : (now k : ℕ) (r : List ℕ) → k < 7 → Back now (FixedYear k) twoDigits r → ⊥
-unfolding readRule ruleText carriedRule signedText
+unfolding readRule ruleText
 fixed-year-fails now k r short e =
     let s = num k 1000001 in
     let taken : length s ≡ 0 + k
@@ -135,7 +135,7 @@ fixed-year-fails now k r short e =
 -- yy reads 01 as the first year of a millennium
 two-digit-read : (now : ℕ) (r : List ℕ) → readRule english now TwoDigitYear (twoDigitText (pos 1000001) ++ r)
     ≡ got 2 (carried.Value unit.Year (pos (1 + millennium now)))
-unfolding readRule twoDigitText num digits width widthIn numberOf signOf sized allDigits decimal
+unfolding readRule twoDigitText num numberOf
 two-digit-read now r =
     let n : Signed = record { negative = false; size = 1 } in
     let s : List ℕ = 48 ∷ 49 ∷ r in
@@ -168,33 +168,33 @@ plus-read true s = refl
 plus-read false s = refl
 
 -- the groups of a zone, of which the last is missing, behind the hour and before r
-Late : Bool → Group → Group → List ℕ → Type 0
-Late colon minutes seconds r =
+MissingTaken : Bool → Group → Group → List ℕ → Type 0
+MissingTaken colon minutes seconds r =
     (h : ℕ) → Takes (length (groupText colon minutes 0) + (colonLength colon + 2))
     ((zoneGroup colon minutes >>= λ m. zoneGroup colon seconds >>= λ s. done (h * 3600 + m * 60 + s)) (groupText colon minutes 0 ++ r))
 
-late-minutes : (colon : Bool) (r : List ℕ) → digitAt (colonLength colon) r ≡ true → Late colon NotZero Never r
-unfolding Late
-late-minutes colon r digit h =
+missing-minutes : (colon : Bool) (r : List ℕ) → digitAt (colonLength colon) r ≡ true → MissingTaken colon NotZero Never r
+unfolding MissingTaken
+missing-minutes colon r digit h =
     let e : 0 + (colonLength colon + 2) ≡ (colonLength colon + 2) + 0 = omega arith in
     rw e (takes-both (colonLength colon + 2) 0 (zoneGroup colon NotZero) _ r (takes-group colon r digit) (λ n a _. refl))
 
-late-seconds : (colon : Bool) (r : List ℕ) → digitAt (colonLength colon) r ≡ true → Late colon Always NotZero r
-unfolding Late
-late-seconds colon r digit h =
+missing-seconds : (colon : Bool) (r : List ℕ) → digitAt (colonLength colon) r ≡ true → MissingTaken colon Always NotZero r
+unfolding MissingTaken
+missing-seconds colon r digit h =
     takes-then (colonLength colon + 2) (zoneGroup colon Always) _ (groupText colon Always 0) r
     (group-comes-back colon Always 0 r (omega arith) tt)
     (takes-done (colonLength colon + 2) (zoneGroup colon NotZero) _ r (takes-group colon r digit))
 
-module _ (now : ℕ) (utc colon : Bool) (minutes seconds : Group) (missing : groupText colon seconds 0 ≡ []) (r : List ℕ) (late : Late colon minutes seconds r) where
+module _ (now : ℕ) (utc colon : Bool) (minutes seconds : Group) (no-seconds : groupText colon seconds 0 ≡ []) (r : List ℕ) (missing : MissingTaken colon minutes seconds r) where
   an-hour : zoneText utc colon minutes seconds (pos 3600) ≡ plus ∷ num 2 1 ++ groupText colon minutes 0
   unfolding offsetText
   an-hour =
-      rw (both-no utc, missing) (append-nil (plus ∷ num 2 1 ++ groupText colon minutes 0))
+      rw (both-no utc, no-seconds) (append-nil (plus ∷ num 2 1 ++ groupText colon minutes 0))
 
   takes-hour : Takes (1 + (length (num 2 1) + (length (groupText colon minutes 0) + (colonLength colon + 2))))
       (takenZone utc colon minutes seconds (plus ∷ num 2 1 ++ (groupText colon minutes 0 ++ r)))
-  unfolding zoneSize Late
+  unfolding zoneSize MissingTaken
   takes-hour =
       let m = groupText colon minutes 0 in
       let k = length (num 2 1) + (length m + (colonLength colon + 2)) in
@@ -202,12 +202,12 @@ module _ (now : ℕ) (utc colon : Bool) (minutes seconds : Group) (missing : gro
       takes-done (1 + k) (zoneSign utc >>= zoneBehind (zoneSize colon minutes seconds)) _ (plus ∷ s)
       (takes-then k (zoneSign utc) (zoneBehind (zoneSize colon minutes seconds)) (plus ∷ []) s (plus-read utc s)
       (takes-done k (zoneSize colon minutes seconds) _ s
-      (takes-then (length m + (colonLength colon + 2)) (takeCount 2) _ (num 2 1) (m ++ r) (two-digits 1 (m ++ r) (omega arith)) (late 1))))
+      (takes-then (length m + (colonLength colon + 2)) (takeCount 2) _ (num 2 1) (m ++ r) (two-digits 1 (m ++ r) (omega arith)) (missing 1))))
 
-  late-zone-fails : (c : Carried) → readRule english now (Zone utc colon minutes seconds) (zoneText utc colon minutes seconds (pos 3600) ++ r)
+  missing-group-fails : (c : Carried) → readRule english now (Zone utc colon minutes seconds) (zoneText utc colon minutes seconds (pos 3600) ++ r)
       ≡ got (length (zoneText utc colon minutes seconds (pos 3600))) c → ⊥
   unfolding readRule
-  late-zone-fails c e =
+  missing-group-fails c e =
       let m = groupText colon minutes 0 in
       let taken : length (plus ∷ num 2 1 ++ m) ≡ 1 + (length (num 2 1) + (length m + (colonLength colon + 2)))
       = takes-got _ takes-hour (rw (an-hour, append-assoc) at e) in
@@ -230,13 +230,13 @@ zone-fails : (now : ℕ) (utc colon : Bool) (minutes seconds : Group) → zoneFi
 unfolding ruleText
 zone-fails now utc colon Never seconds fit r shown e = true-is-not-false (sym fit)
 zone-fails now utc colon NotZero Never fit r shown e =
-    late-zone-fails now utc colon NotZero Never refl r (late-minutes colon r (digit-in-place colon r shown)) _
+    missing-group-fails now utc colon NotZero Never refl r (missing-minutes colon r (digit-in-place colon r shown)) _
     (rw (hour-ahead (groupNeed colon NotZero)) at e)
 zone-fails now utc colon NotZero NotZero fit r shown e = true-is-not-false (sym fit)
 zone-fails now utc colon NotZero Always fit r shown e = true-is-not-false (sym fit)
 zone-fails now utc colon Always Never fit r shown e = shown
 zone-fails now utc colon Always NotZero fit r shown e =
-    late-zone-fails now utc colon Always NotZero refl r (late-seconds colon r (digit-in-place colon r shown)) _
+    missing-group-fails now utc colon Always NotZero refl r (missing-seconds colon r (digit-in-place colon r shown)) _
     (rw (hour-ahead (groupNeed colon NotZero)) at e)
 zone-fails now utc colon Always Always fit r shown e = shown
 

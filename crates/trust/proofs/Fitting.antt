@@ -9,7 +9,7 @@ use lib.Dec.{eqb}
 use lib.ListN.{length, drop, replicate, length-replicate}
 use Rattle.meaning.specs.Bytes.{both, quote}
 use Rattle.meaning.specs.Rules.{roleOf}
-use Rattle.meaning.specs.Splitting.{Element, byte, escaped, single, elementOf, elements, Content, run, quotes, quoted, unclosed, joinByte, joinEscaped, joinInside, outside, inside, contents}
+use Rattle.meaning.specs.Splitting.{Element, byte, escaped, single, elementOf, elements, Content, run, quotes, quoted, unclosed, joinByte, joinEscaped, joinInside, outside, inside}
 use Rattle.meaning.specs.Trust.{partAt}
 use Rattle.meaning.specs.Writing.{Step, literal, field, runStep, endsInQuote, stepOf, steps}
 use Rattle.meaning.specs.declared.Pair.the-variants.{Full}
@@ -21,20 +21,20 @@ use Rattle.laws.proofs.Tests.{by-test, when-is}
 use Rattle.trust.proofs.Table.{fits, roleFits, role-fits}
 
 pub data Fitting : List Step → Type 0 where
-  none : Fitting []
-  symbol : {rule : Rule} {ss : List Step} → fits rule ≡ true → Fitting ss → Fitting (field rule ∷ ss)
-  some : {s : List ℕ} {ss : List Step} → 0 < length s → Fitting ss → Fitting (literal s false ∷ ss)
-  open′ : {s : List ℕ} {lost : Bool} → lost ≡ endsInQuote s → Fitting (literal s lost ∷ [])
+  no-parts : Fitting []
+  symbol-first : {rule : Rule} {ss : List Step} → fits rule ≡ true → Fitting ss → Fitting (field rule ∷ ss)
+  literal-first : {s : List ℕ} {ss : List Step} → 0 < length s → Fitting ss → Fitting (literal s false ∷ ss)
+  open-last : {s : List ℕ} {lost : Bool} → lost ≡ endsInQuote s → Fitting (literal s lost ∷ [])
 
 -- the same from part i on
 pub fitting-from : {ss : List Step} → Fitting ss → (i : ℕ) → i < length ss → Fitting (partAt ss i ∷ drop (suc i) ss)
-fitting-from none i h = absurd (omega arith)
-fitting-from (symbol e r) zero h = symbol e r
-fitting-from (symbol e r) (suc i) h = fitting-from r i (omega arith)
-fitting-from (some e r) zero h = some e r
-fitting-from (some e r) (suc i) h = fitting-from r i (omega arith)
-fitting-from (open′ e) zero h = open′ e
-fitting-from (open′ e) (suc i) h = absurd (omega arith)
+fitting-from no-parts i h = absurd (omega arith)
+fitting-from (symbol-first e r) zero h = symbol-first e r
+fitting-from (symbol-first e r) (suc i) h = fitting-from r i (omega arith)
+fitting-from (literal-first e r) zero h = literal-first e r
+fitting-from (literal-first e r) (suc i) h = fitting-from r i (omega arith)
+fitting-from (open-last e) zero h = open-last e
+fitting-from (open-last e) (suc i) h = absurd (omega arith)
 
 -- a single quote has a byte behind it, or nothing: two quotes together are one element
 
@@ -112,7 +112,7 @@ inside-filled b (quoted s ∷ cs) h = ((omega arith, h), h)
 inside-filled b (unclosed s ∷ cs) h = (h, h)
 
 mutual
-  unfolding outside inside Paired Filled Opened
+  unfolding inside Paired Filled Opened
 
   outside-filled : (es : List Element) → Paired es → Filled (outside es)
   outside-filled [] h = tt
@@ -141,17 +141,17 @@ times-some : (n b : ℕ) → 0 < n → 0 < length (replicate n b)
 times-some n b h = rw length-replicate h
 
 run-fitting : (r : Role) (b n : ℕ) {ss : List Step} → roleFits r ≡ true → 0 < n → Fitting ss → Fitting (runStep r b n ∷ ss)
-run-fitting role.Literal b n e h rest = some (times-some n b h) rest
-run-fitting (role.Symbol rule) b n e h rest = symbol e rest
+run-fitting role.Literal b n e h rest = literal-first (times-some n b h) rest
+run-fitting (role.Symbol rule) b n e h rest = symbol-first e rest
 
 filled-fitting : (cs : List Content) → Filled cs → Fitting (map (stepOf Full) cs)
 unfolding Filled stepOf
-filled-fitting [] h = none
+filled-fitting [] h = no-parts
 filled-fitting (run b n ∷ cs) h = run-fitting (roleOf Full b n) b n (role-fits b n) (h .0) (filled-fitting cs (h .1))
-filled-fitting (quotes n ∷ cs) h = some (times-some n quote (h .0)) (filled-fitting cs (h .1))
-filled-fitting (quoted s ∷ cs) h = some (h .0) (filled-fitting cs (h .1))
-filled-fitting (unclosed s ∷ cs) h = rw h (open′ refl)
+filled-fitting (quotes n ∷ cs) h = literal-first (times-some n quote (h .0)) (filled-fitting cs (h .1))
+filled-fitting (quoted s ∷ cs) h = literal-first (h .0) (filled-fitting cs (h .1))
+filled-fitting (unclosed s ∷ cs) h = rw h (open-last refl)
 
 pub steps-fit : (p : List ℕ) → Fitting (steps Full p)
-unfolding steps contents
+unfolding steps
 steps-fit p = filled-fitting (outside (elements p)) (outside-filled (elements p) (elements-paired p))

@@ -52,7 +52,7 @@ num-second k n t h = digit-in (num k n) t (all-num k n) 1 h
 -- names
 
 record NameOpens (l : NameList) (name : List ℕ) : Type 0 where
-  some′ : 1 ≤ length name
+  filled : 1 ≤ length name
   first : digitAt 0 name ≡ nameFirst l
   second : when (ltb (length name) 2) (hasLetters l) (not (digitAt 1 name)) ≡ true
 
@@ -61,7 +61,7 @@ agree true b h = sym h
 agree false b h = sym (not-true b h)
 
 name-opens : (l : NameList) → namesFit l ≡ true → (f : Fields) → Allowed f → NameOpens l (nameText english l f)
-unfolding namesFit nameOpens nameText
+unfolding namesFit nameText
 name-opens l fit f h =
     let name = nameText english l f in
     let first = when (digitAt 0 name) (nameFirst l) (not (nameFirst l)) in
@@ -70,12 +70,12 @@ name-opens l fit f h =
     let a = both-true (leb 1 (length name)) (both first second)
     (every-at (nameOpens l) (names english l) [] all (placeOf l f) (place-there l f h)) in
     let b = both-true first second (a .1) in
-    record { some′ = leb-true 1 (length name) (a .0); first = agree (digitAt 0 name) (nameFirst l) (b .0); second = b .1 }
+    record { filled = leb-true 1 (length name) (a .0); first = agree (digitAt 0 name) (nameFirst l) (b .0); second = b .1 }
 
 name-first : (l : NameList) → namesFit l ≡ true → (f : Fields) → Allowed f → (t : List ℕ) → digitAt 0 (nameText english l f ++ t) ≡ nameFirst l
 name-first l fit f h t =
     let o = name-opens l fit f h in
-    digit-within 0 (nameText english l f) t (omega (arith, o .some′)) ∙ o .first
+    digit-within 0 (nameText english l f) t (omega (arith, o .filled)) ∙ o .first
 
 -- what is no digit behind a name of one byte
 left-behind : (a d : Bool) → a ≡ true → both a d ≡ false → d ≡ false
@@ -88,7 +88,7 @@ name-second l fit f h d t e behind =
     let o = name-opens l fit f h in
     by-test (ltb (length name) 2)
     (λ k.
-    behind-one name t (omega (arith, o .some′, ltb-true (length name) 2 k))
+    behind-one name t (omega (arith, o .filled, ltb-true (length name) 2 k))
     ∙ behind (left-behind (hasLetters l) d (rw k at (o .second)) e))
     (λ k.
     digit-within 1 name t (omega (arith, ltb-false (length name) 2 k)) ∙ not-true (digitAt 1 name) (rw k at (o .second)))
@@ -151,7 +151,7 @@ two-digit-first z t e =
     (λ _. num-first 2 (natAbs z % 100) t)
 
 pub seven-digits : (k : ℕ) → 7 ≤ length (num k 1000001)
-unfolding width widthIn
+unfolding width
 seven-digits k = rw length-num (omega arith)
 
 year-second : (k : ℕ) (t : List ℕ) → digitAt 1 (signedText k (pos 1000001) ++ t) ≡ true
@@ -165,7 +165,7 @@ zone-first utc colon minutes seconds z t =
     (λ _. by-test (isNegative z) (λ e. rw e) (λ e. rw e))
 
 zone-second-shown : (utc colon : Bool) (minutes seconds : Group) (t : List ℕ) → digitAt 1 (zoneText utc colon minutes seconds (pos 3600) ++ t) ≡ true
-unfolding digitAt offsetText num digits width widthIn
+unfolding digitAt offsetText num
 zone-second-shown true colon minutes seconds t = refl
 zone-second-shown false colon minutes seconds t = refl
 

@@ -34,7 +34,7 @@ use Rattle.laws.proofs.Years.{years-come-back, fixed-year-comes-back}
 use Rattle.laws.proofs.Zones.{Free, zone-comes-back}
 use Rattle.laws.specs.Widths.{mostDigits}
 use Rattle.trust.proofs.NameRules.{skipped-name-comes-back, matched-name-comes-back, letters-rule-comes-back}
-use Rattle.trust.proofs.Table.{zeroOf, numberFits, namesFit, sized, zoneFits, fits, number-fits}
+use Rattle.trust.proofs.Table.{zeroOf, numberFits, namesFit, sameLength, zoneFits, fits, number-fits}
 use Rattle.trust.specs.Needs.{numberNeed, groupNeed, lastGroup, ruleNeed}
 use Rattle.trust.specs.declared.Need.{Need}
 use Rattle.trust.specs.declared.Need.the-variants.{Nothing, NoDigit, NoSecondDigit, Broken}
@@ -168,11 +168,11 @@ rule-comes-back now (Number q least most u z) fit f h r met =
 rule-comes-back now (SkippedNumber q least most) fit f h r met = skipped-number-comes-back now q least most fit f h r met
 rule-comes-back now LetterQuarter fit f h r met = letter-quarter-comes-back now f h r
 rule-comes-back now (SkippedName l n) fit f h r met =
-    skipped-name-comes-back now l f h r n (both-true (namesFit l) (sized n l) fit .1)
+    skipped-name-comes-back now l f h r n (both-true (namesFit l) (sameLength n l) fit .1)
 rule-comes-back now (MatchedName l) fit f h r met =
     matched-name-comes-back now l f h r (both-true (namesFit l) (allApart (names english l)) fit .1)
 rule-comes-back now (Letters l n) fit f h r met =
-    let t = both-true (sized n l) (allApart (names english l)) (both-true (namesFit l) _ fit .1) in
+    let t = both-true (sameLength n l) (allApart (names english l)) (both-true (namesFit l) _ fit .1) in
     letters-rule-comes-back now l f h r n (t .0) (t .1)
 rule-comes-back now (Years k) fit f h r met = years-come-back english now k (f .year) r (h .year .1) met
 rule-comes-back now (FixedYear k) fit f h r met = fixed-year-comes-back english now k (f .year) r (h .year .1) (seven k r met)

@@ -20,7 +20,7 @@ use Rattle.laws.proofs.Readers.{skip-goes-on}
 use Rattle.laws.proofs.Tests.{true-is-not-false}
 use Rattle.trust.proofs.Ahead.{first-byte, no-first-digit, second-byte, no-second-digit}
 use Rattle.trust.proofs.Fails.{Shown, rule-fails}
-use Rattle.trust.proofs.Fitting.{Fitting, symbol, some, open′}
+use Rattle.trust.proofs.Fitting.{Fitting, symbol-first, literal-first, open-last}
 use Rattle.trust.proofs.Sound.{Met, rule-comes-back}
 use Rattle.trust.proofs.Takes.{takes-got, takes-skip, takes-done}
 use Rattle.trust.specs.Ahead.{digitFirst, digitSecond}
@@ -63,10 +63,10 @@ literal-comes-back s r = rw (skip-goes-on (length s) (s ++ r) (simp length-appen
 pub step-comes-back : (now : ℕ) {s : Step} {ss : List Step} → Fitting (s ∷ ss) → meets (stepNeed s) ss ≡ true → (f : Fields)
     → Allowed f → StepBack now s ss f
 unfolding stepNeed readStep stepText carriedStep
-step-comes-back now (symbol {rule} {ss} fit rest) e f h = rule-comes-back now rule fit f h (texts english f ss) (met _ rest e f h)
-step-comes-back now (some {s} {ss} k rest) e f h = literal-comes-back s (texts english f ss)
-step-comes-back now (open′ {s} {lost = true} k) e f h = true-is-not-false (unfold meets in sym e)
-step-comes-back now (open′ {s} {lost = false} k) e f h = literal-comes-back s (texts english f [])
+step-comes-back now (symbol-first {rule} {ss} fit rest) e f h = rule-comes-back now rule fit f h (texts english f ss) (met _ rest e f h)
+step-comes-back now (literal-first {s} {ss} k rest) e f h = literal-comes-back s (texts english f ss)
+step-comes-back now (open-last {s} {lost = true} k) e f h = true-is-not-false (unfold meets in sym e)
+step-comes-back now (open-last {s} {lost = false} k) e f h = literal-comes-back s (texts english f [])
 
 -- an unclosed part that loses its last byte still skips it
 has-a-quote : (s : List ℕ) → endsInQuote s ≡ true → 0 < length s
@@ -83,7 +83,7 @@ lost-fails s r k e =
 pub step-fails : (now : ℕ) → now ≤ 9999 → {s : Step} {ss : List Step} → Fitting (s ∷ ss) → meets (stepNeed s) ss ≡ false
     → StepBack now s ss (witness (stepNeed s)) → ⊥
 unfolding stepNeed readStep stepText carriedStep
-step-fails now small (symbol {rule} {ss} fit rest) e back = rule-fails now small rule fit _ (shown _ rest e) back
-step-fails now small (some {s} {ss} k rest) e back = true-is-not-false (unfold meets in e)
-step-fails now small (open′ {s} {lost = true} k) e back = lost-fails s _ (sym k) back
-step-fails now small (open′ {s} {lost = false} k) e back = true-is-not-false (unfold meets in e)
+step-fails now small (symbol-first {rule} {ss} fit rest) e back = rule-fails now small rule fit _ (shown _ rest e) back
+step-fails now small (literal-first {s} {ss} k rest) e back = true-is-not-false (unfold meets in e)
+step-fails now small (open-last {s} {lost = true} k) e back = lost-fails s _ (sym k) back
+step-fails now small (open-last {s} {lost = false} k) e back = true-is-not-false (unfold meets in e)

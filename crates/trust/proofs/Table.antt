@@ -7,10 +7,10 @@ use Prim.Native.Nat.{ℕ, _≤_, _<_}
 use lib.Dec.{eqb, leb, ltb}
 use lib.ListN.{length}
 use borrow.Author.Tests.{leb-true, ltb-true}
-use Rattle.meaning.specs.Bytes.{when, both, bytes, digitAt, digits, num, width, widthIn}
+use Rattle.meaning.specs.Bytes.{when, both, digitAt, num}
 use Rattle.meaning.specs.Names.{english, names}
-use Rattle.meaning.specs.Rules.{Row, _is_, among, Otherwise, always, fixedYear, Symbol, otherwiseRule, pick, ruleOf, dateSymbols, timeSymbols, roleAmong, dateRole, timeRole, orElse, roleOf}
-use Rattle.meaning.specs.Writing.{quantityOf, nameText, placeOf}
+use Rattle.meaning.specs.Rules.{Row, _is_, among, Otherwise, always, fixedYear, Symbol, otherwiseRule, pick, dateSymbols, timeSymbols, roleAmong, dateRole, timeRole, orElse, roleOf}
+use Rattle.meaning.specs.Writing.{quantityOf, nameText}
 use Rattle.meaning.specs.declared.Group.{Group}
 use Rattle.meaning.specs.declared.Group.the-variants.{Never, NotZero, Always}
 use Rattle.meaning.specs.declared.NameList.{NameList}
@@ -21,7 +21,7 @@ use Rattle.meaning.specs.declared.Role.{Role}
 use Rattle.meaning.specs.declared.Role.the-variants as role
 use Rattle.meaning.specs.declared.Rule.{Rule}
 use Rattle.meaning.specs.declared.Rule.the-variants.{Number, SkippedNumber, LetterQuarter, SkippedName, MatchedName, Letters, Years, FixedYear, TwoDigitYear, Zone}
-use Rattle.laws.proofs.Names.{apart, allApart}
+use Rattle.laws.proofs.Names.{allApart}
 use Rattle.laws.proofs.Tests.{both-true, every, when-is}
 use Rattle.laws.specs.Widths.{mostDigits}
 use Rattle.trust.specs.Ahead.{nameFirst, hasLetters}
@@ -57,13 +57,13 @@ nameOpens l name =
     (both (when (digitAt 0 name) (nameFirst l) (not (nameFirst l))) (when (ltb (length name) 2) (hasLetters l) (not (digitAt 1 name))))
 
 unfoldable pub namesFit : NameList → Bool
-unfolding every nameOpens
+unfolding nameOpens
 namesFit l =
     both (every (nameOpens l) (names english l)) (when (hasLetters l) (eqb (length (nameText english l twoDigits)) 1) true)
 
-unfoldable pub sized : ℕ → NameList → Bool
-unfolding every
-sized n l = every (λ name. eqb (length name) n) (names english l)
+-- each name has n bytes
+unfoldable pub sameLength : ℕ → NameList → Bool
+sameLength n l = every (λ name. eqb (length name) n) (names english l)
 
 -- minutes may be missing only where no seconds follow
 abbrev pub zoneFits : Group → Group → Bool
@@ -74,13 +74,12 @@ zoneFits NotZero Always = false
 zoneFits Always seconds = true
 
 unfoldable pub fits : Rule → Bool
-unfolding numberFits namesFit sized
 fits (Number q least most u z) = both (numberFits q least most) (eqb z (zeroOf q))
 fits (SkippedNumber q least most) = numberFits q least most
 fits LetterQuarter = true
-fits (SkippedName l n) = both (namesFit l) (sized n l)
+fits (SkippedName l n) = both (namesFit l) (sameLength n l)
 fits (MatchedName l) = both (namesFit l) (allApart (names english l))
-fits (Letters l n) = both (namesFit l) (both (sized n l) (allApart (names english l)))
+fits (Letters l n) = both (namesFit l) (both (sameLength n l) (allApart (names english l)))
 fits (Years k) = true
 fits (FixedYear k) = true
 fits TwoDigitYear = true
@@ -128,11 +127,11 @@ roleFits role.Literal = true
 roleFits (role.Symbol rule) = fits rule
 
 date-symbols-fit : every symbolFits dateSymbols ≡ true
-unfolding every fits numberFits namesFit nameOpens sized apart allApart names english bytes nameFirst hasLetters mostDigits quantityOf num digits width widthIn digitAt nameText placeOf
+unfolding fits numberFits namesFit sameLength allApart english nameFirst hasLetters mostDigits quantityOf num digitAt nameText
 date-symbols-fit = refl
 
 time-symbols-fit : every symbolFits timeSymbols ≡ true
-unfolding every fits numberFits namesFit nameOpens sized apart allApart names english bytes nameFirst hasLetters mostDigits quantityOf num digits width widthIn digitAt nameText placeOf
+unfolding fits numberFits namesFit sameLength allApart nameFirst hasLetters mostDigits quantityOf num digitAt nameText
 time-symbols-fit = refl
 
 -- what is picked from it
@@ -150,7 +149,7 @@ pick-fits c (counts is rule ∷ rows) o h k =
     when-is (λ r. fits r ≡ true) (among c counts) (λ e. t .0) (λ e. pick-fits c rows o (t .1) k)
 
 among-fits : (symbols : List Symbol) (b c : ℕ) → every symbolFits symbols ≡ true → roleFits (roleAmong symbols b c) ≡ true
-unfolding roleAmong ruleOf every
+unfolding roleAmong every
 among-fits [] b c h = refl
 among-fits (symbol ∷ symbols) b c h =
     let t = both-true (symbolFits symbol) (every symbolFits symbols) h in
@@ -164,6 +163,6 @@ or-else-fits (role.Symbol rule) s h k = h
 
 -- the rule of any run of a pattern is in order
 pub role-fits : (b c : ℕ) → roleFits (roleOf Full b c) ≡ true
-unfolding roleOf dateRole timeRole
+unfolding roleOf
 role-fits b c =
     or-else-fits (dateRole b c) (timeRole b c) (among-fits dateSymbols b c date-symbols-fit) (among-fits timeSymbols b c time-symbols-fit)

@@ -119,7 +119,7 @@ year-bound (pos n) h =
 year-bound (negsuc n) h = absurd (let z : _≡_ {A = ℕ} 0 1 = cc in omega arith)
 
 answer-says : (p : List ℕ) (now : ℤ) → trustCheck p now ≡ Fine → (v : Verdict) → Tells 0 (steps Full p) v → Says english p now v
-unfolding Tells Says trustCheck
+unfolding Tells Says
 answer-says p now fine verdict.Yes h =
     (fine, all-come-back (natAbs now) (steps-fit p) (length (steps Full p)) (omega arith) h)
 answer-says p now fine (verdict.No part f) h =

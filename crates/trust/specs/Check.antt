@@ -60,10 +60,12 @@ firstFailing i [] = verdict.Yes
 firstFailing i (s ∷ ss) =
     elim (meets (stepNeed s) ss) [ true ↦ firstFailing (suc i) ss | false ↦ verdict.No i (witness (stepNeed s)) ]
 
+-- a refusal, or else what is found of the parts
 abbrev pub verdictBy : Checked → Verdict → Verdict
 verdictBy Fine answer = answer
 verdictBy (Refused why) answer = verdict.Refused why
 
+-- the answer of the check, of the full pair: yes, or no with the part from 0 and the record
 unfoldable pub verdictOf : List ℕ → ℤ → Verdict
 unfolding trustCheck firstFailing steps
 verdictOf p now = verdictBy (trustCheck p now) (firstFailing 0 (steps Full p))
