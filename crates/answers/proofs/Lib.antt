@@ -1,3 +1,3 @@
-pub mod Integers
+pub mod Signs
 pub mod Rooms
 pub mod Marked

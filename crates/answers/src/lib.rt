@@ -1,8 +1,8 @@
 // Answers to requests of the line protocol: one line in, one line out.
 pub mod reads;
-pub mod refusals;
-pub mod requests;
+pub mod refused;
 pub mod splits;
+pub mod verdicts;
 pub mod writes;
 
 ghost use Prim.Native.Nat.{_≤_};
@@ -11,8 +11,9 @@ ghost use Rattle.io.specs.Counts.{Counts};
 use crate::reads::answer_offset;
 use crate::reads::answer_read;
 use crate::splits::answer_split;
+use crate::verdicts::answer_check;
 use crate::writes::answer_write;
-use format::numbers::put_bytes;
+use leaves::numbers::put_bytes;
 use lines::words::word_from;
 use meaning::Pair;
 
@@ -27,6 +28,7 @@ enum Request {
     Read,
     ReadDate,
     ParseOffset,
+    Check,
     Unknown,
 }
 
@@ -48,6 +50,9 @@ fn request_of(name: &[u8]) -> Request {
     }
     if check::same(name, b"parse_offset") {
         return Request::ParseOffset;
+    }
+    if check::same(name, b"check") {
+        return Request::Check;
     }
     Request::Unknown
 }
@@ -71,6 +76,7 @@ pub fn answer(line: &[u8], out: &mut [u8]) -> usize
         Request::Read => answer_read(Pair::Full, line, next, out),
         Request::ReadDate => answer_read(Pair::Date, line, next, out),
         Request::ParseOffset => answer_offset(line, next, out),
+        Request::Check => answer_check(line, next, out),
         Request::Unknown => bad_request(out),
     }
 }

@@ -3,16 +3,12 @@ ghost use Prim.Native.Nat.{_+_, _≤_};
 ghost use lib.ListN.{length};
 ghost use Rattle.io.specs.Counts.{Counts};
 use crate::bad_request;
-use crate::refusals::Detail;
-use crate::refusals::answer_refused;
-use crate::refusals::put_detail;
-use crate::requests::bytes_at;
-use crate::requests::bytes_row;
-use crate::requests::signed_at;
+use crate::refused::answer_refused;
+use crate::refused::put_detail;
 use fields::signed::is_negative;
 use fields::signed::size;
 use fields::signed::size_of;
-use format::numbers::put_bytes;
+use leaves::numbers::put_bytes;
 use lines::numbers::put_number;
 use lines::numbers::put_size;
 use meaning::Checked;
@@ -20,10 +16,14 @@ use meaning::Offset;
 use meaning::Pair;
 use meaning::Reading;
 use reader::offset::parse_offset;
+use refusals::Detail;
+use requests::bytes_at;
+use requests::bytes_row;
+use requests::signed_at;
 
 fn read(pair: Pair, pattern: &[u8], text: &[u8], year: i32) -> Reading {
     match pair {
-        Pair::Full => reader::reader::parse(pattern, text, year),
+        Pair::Full => reader::parse(pattern, text, year),
         Pair::Date => date::parse(pattern, text, year),
     }
 }

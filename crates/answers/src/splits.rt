@@ -3,17 +3,17 @@ ghost use Prim.Native.Nat.{_+_, _≤_};
 ghost use lib.ListN.{length};
 ghost use Rattle.io.specs.Counts.{Counts};
 use crate::bad_request;
-use crate::refusals::answer_refused;
-use crate::requests::bytes_at;
-use crate::requests::bytes_row;
-use format::numbers::put_byte;
-use format::numbers::put_bytes;
+use crate::refused::answer_refused;
+use leaves::numbers::put_byte;
+use leaves::numbers::put_bytes;
 use lines::numbers::put_size;
 use meaning::Checked;
 use meaning::Kind;
 use meaning::Part;
 use meaning::Split;
 use pattern::parse_format_string;
+use requests::bytes_at;
+use requests::bytes_row;
 
 fn put_kind(kind: Kind, out: &mut [u8], at: usize) -> usize
     requires { ⌜ at + 6 ≤ length (now out) ⌝ }

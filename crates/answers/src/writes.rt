@@ -5,18 +5,18 @@ ghost use lib.ListN.{length};
 ghost use Rattle.io.specs.Counts.{Counts};
 ghost use Rattle.answers.specs.Marks.{markAt, Filled, FirstAltered, lengthOf};
 use crate::bad_request;
-use crate::refusals::answer_refused;
-use crate::requests::bytes_at;
-use crate::requests::bytes_row;
-use crate::requests::count_at;
-use crate::requests::fields_at;
-use format::numbers::put_byte;
-use format::numbers::put_bytes;
+use crate::refused::answer_refused;
+use leaves::numbers::put_byte;
+use leaves::numbers::put_bytes;
 use lines::hex::put_hex;
 use lines::numbers::put_size;
 use meaning::Fields;
 use meaning::Pair;
 use meaning::Wrote;
+use requests::bytes_at;
+use requests::bytes_row;
+use requests::count_at;
+use requests::fields_at;
 
 // The byte that fills a place of the output: none of a text, and another one than its neighbours'.
 fn mark(place: usize) -> u8
@@ -53,7 +53,7 @@ fn write(pair: Pair, pattern: &[u8], fields: Fields, out: &mut [u8]) -> Wrote
     ensures { λ r. ⌜ lengthOf r ≤ length (now (out .entry)) ⌝ }
 {
     match pair {
-        Pair::Full => format::writer::format(pattern, fields, out),
+        Pair::Full => writer::format(pattern, fields, out),
         Pair::Date => date::format(pattern, fields, out),
     }
 }

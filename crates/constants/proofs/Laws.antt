@@ -1,5 +1,5 @@
--- Laws of tables and matches, for the loops of the matcher and of the writer: what a row holds, a turn over the bytes of a
--- name, and a turn over names.
+-- Laws of tables and matches, for the loops of the matcher and of the writer and for the calls over them: what a row holds, a
+-- table that holds some names, a turn over the bytes of a name, and a turn over names.
 use mathlib.Core.Bool.{Bool, true, false}
 use mathlib.Core.List.{List, [], _∷_}
 use mathlib.Core.Path.{_≡_, refl, ap, _∙_}
@@ -12,9 +12,11 @@ use lib.ListN.{length, take, drop, getD, length-take, length-drop, drop-of-lengt
 use lib.Seq.{drop-cons, drop-drop, getD-take, getD-drop}
 use Rattle.laws.proofs.Tests.{when-true, when-false}
 use Rattle.meaning.specs.Bytes.{both, when}
-use Rattle.meaning.specs.Readers.{begins, firstName, got, stopped}
+use Rattle.meaning.specs.Readers.{begins, firstName, matchName, got, stopped}
 use Rattle.meaning.specs.declared.Trouble.the-variants.{NoName}
-use Rattle.constants.specs.Table.{rowWidth, table, nameAt, tableOk, allShort}
+use Rattle.laws.specs.Laid.{Laid}
+use Rattle.constants.specs.Table.{IsTable, rowWidth, table, nameAt, tableOk, allShort, foundIn}
+use Rattle.constants.specs.declared.Found.{Found}
 
 -- ---- what a row holds
 
@@ -53,6 +55,19 @@ row rows lens i t h =
       size = rw (table-at rows lens i h) (simp (length-take, length-drop) (omega arith));
       byte = λ j k. rw (table-at rows lens i h, getD-take, getD-drop);
     }
+
+-- ---- a table that holds these names, for the calls over it
+
+module _ {rows lens : List ℕ} {held these : List (List ℕ)} (t : IsTable rows lens held) (e : held ≡ these) where
+  pub put-asked : (i at room : ℕ) → i < length these → at + length (getD these i []) ≤ room
+      → T (tableOk rows lens) × ((i < length lens) × (at + length (nameAt rows lens i) ≤ room))
+  put-asked i at room h k = (t .whole, (omega (arith, table-length rows lens, ap length (t .held ∙ e)), rw (t .held ∙ e) k))
+
+  pub put-told : {old new : List ℕ} {at next : ℕ} (i : ℕ) → Laid old new at next (nameAt rows lens i) → Laid old new at next (getD these i [])
+  put-told i l = rw (t .held ∙ e) at l
+
+  pub match-told : {r : Found} (s : List ℕ) → r ≡ foundIn (matchName (table rows lens) s) → r ≡ foundIn (matchName these s)
+  match-told s l = rw (t .held ∙ e) at l
 
 -- ---- a turn over the bytes of a name
 

@@ -1,11 +1,14 @@
 -- Names held as rows of one width with their lengths beside them, and what a match in such a table finds.
 use mathlib.Core.Bool.{Bool, true, false}
 use mathlib.Core.List.{List, [], _∷_}
+use mathlib.Core.Path.{_≡_}
 use Prim.Native.Nat.{ℕ, _*_}
-use lib.Dec.{eqb, leb}
+use lib.Dec.{T, eqb, leb}
 use lib.ListN.{length, take, drop, getD}
 use Rattle.meaning.specs.Bytes.{both}
 use Rattle.meaning.specs.Readers.{Got, got, stopped}
+use Rattle.meaning.specs.declared.NameList.{NameList}
+use Rattle.meaning.specs.declared.NameList.the-variants.{EraAbbreviated, EraNarrow, EraWide, QuarterWide, MonthAbbreviated, MonthWide, MonthNarrow, WdayAbbreviated, WdayWide, WdayNarrow, WdayShort, PeriodUpper, PeriodDotted, PeriodLetter, NoonUpper, NoonDotted, NoonLetter}
 use Rattle.constants.specs.declared.Found.{Found}
 use Rattle.constants.specs.declared.Found.the-variants.{Name, Nothing}
 
@@ -34,3 +37,19 @@ tableOk rows lens = both (eqb (length rows) (length lens * rowWidth)) (allShort 
 abbrev pub foundIn : Got ℕ → Found
 foundIn (got length′ index) = Name index length′
 foundIn (stopped why place) = Nothing
+
+-- rows and lengths that hold these names
+pub record IsTable (rows lens : List ℕ) (these : List (List ℕ)) : Type 0 where
+  pub whole : T (tableOk rows lens)
+  pub held : table rows lens ≡ these
+
+-- the list whose names a numbered table holds: those of two names, of four, six, seven and twelve
+abbrev pub listAt : ℕ → NameList
+listAt n =
+    getD
+    (EraAbbreviated ∷ EraNarrow ∷ EraWide ∷ PeriodDotted ∷ PeriodLetter
+    ∷ QuarterWide ∷ PeriodUpper ∷ NoonDotted ∷ NoonLetter
+    ∷ NoonUpper
+    ∷ WdayWide ∷ WdayAbbreviated ∷ WdayShort ∷ WdayNarrow
+    ∷ MonthWide ∷ MonthAbbreviated ∷ MonthNarrow ∷ [])
+    n MonthNarrow

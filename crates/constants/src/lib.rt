@@ -1,5 +1,6 @@
 // The English names of document 01: a matcher and a writer over any table of names, and over its lists of names.
 mod rows;
+mod tables;
 
 ghost use mathlib.Core.List.{[]};
 ghost use mathlib.Core.Path.{_≡_};
@@ -56,104 +57,35 @@ pub fn put_name(rows: &[u8], lens: &[u8], index: usize, out: &mut [u8], at: usiz
 pub fn match_name(list: NameList, text: &[u8]) -> Found
     ensures { λ r. ⌜ r ≡ foundIn (matchName (names english list) (now (text .entry))) ⌝ }
 {
-    // A constant that is lent without a `let` is laid out before the match, with those of every other arm.
-    match list {
-        NameList::EraAbbreviated => {
-            let rows = rows::ERA_ABBREVIATED;
-            let lens = rows::ERA_ABBREVIATED_LENS;
-            first_name(&rows, &lens, text)
-        }
-        NameList::EraNarrow => {
-            let rows = rows::ERA_NARROW;
-            let lens = rows::ERA_NARROW_LENS;
-            first_name(&rows, &lens, text)
-        }
-        NameList::EraWide => {
-            let rows = rows::ERA_WIDE;
-            let lens = rows::ERA_WIDE_LENS;
-            first_name(&rows, &lens, text)
-        }
-        NameList::QuarterWide => {
-            let rows = rows::QUARTER_WIDE;
-            let lens = rows::QUARTER_WIDE_LENS;
-            first_name(&rows, &lens, text)
-        }
-        NameList::MonthAbbreviated => {
-            let rows = rows::MONTH_ABBREVIATED;
-            let lens = rows::MONTH_ABBREVIATED_LENS;
-            first_name(&rows, &lens, text)
-        }
-        NameList::MonthWide => {
-            let rows = rows::MONTH_WIDE;
-            let lens = rows::MONTH_WIDE_LENS;
-            first_name(&rows, &lens, text)
-        }
-        NameList::MonthNarrow => {
-            let rows = rows::MONTH_NARROW;
-            let lens = rows::MONTH_NARROW_LENS;
-            first_name(&rows, &lens, text)
-        }
-        NameList::WdayAbbreviated => {
-            let rows = rows::WDAY_ABBREVIATED;
-            let lens = rows::WDAY_ABBREVIATED_LENS;
-            first_name(&rows, &lens, text)
-        }
-        NameList::WdayWide => {
-            let rows = rows::WDAY_WIDE;
-            let lens = rows::WDAY_WIDE_LENS;
-            first_name(&rows, &lens, text)
-        }
-        NameList::WdayNarrow => {
-            let rows = rows::WDAY_NARROW;
-            let lens = rows::WDAY_NARROW_LENS;
-            first_name(&rows, &lens, text)
-        }
-        NameList::WdayShort => {
-            let rows = rows::WDAY_SHORT;
-            let lens = rows::WDAY_SHORT_LENS;
-            first_name(&rows, &lens, text)
-        }
-        NameList::PeriodUpper => {
-            let rows = rows::PERIOD_LETTERS;
-            let lens = rows::PERIOD_LETTERS_LENS;
-            first_name(&rows, &lens, text)
-        }
-        NameList::PeriodLower => {
-            let rows = rows::PERIOD_LETTERS;
-            let lens = rows::PERIOD_LETTERS_LENS;
-            first_name(&rows, &lens, text)
-        }
-        NameList::PeriodDotted => {
-            let rows = rows::PERIOD_DOTTED;
-            let lens = rows::PERIOD_DOTTED_LENS;
-            first_name(&rows, &lens, text)
-        }
-        NameList::PeriodLetter => {
-            let rows = rows::PERIOD_LETTER;
-            let lens = rows::PERIOD_LETTER_LENS;
-            first_name(&rows, &lens, text)
-        }
-        NameList::NoonUpper => {
-            let rows = rows::NOON_WORDS;
-            let lens = rows::NOON_WORDS_LENS;
-            first_name(&rows, &lens, text)
-        }
-        NameList::NoonLower => {
-            let rows = rows::NOON_WORDS;
-            let lens = rows::NOON_WORDS_LENS;
-            first_name(&rows, &lens, text)
-        }
-        NameList::NoonDotted => {
-            let rows = rows::NOON_DOTTED;
-            let lens = rows::NOON_DOTTED_LENS;
-            first_name(&rows, &lens, text)
-        }
-        NameList::NoonLetter => {
-            let rows = rows::NOON_LETTER;
-            let lens = rows::NOON_LETTER_LENS;
-            first_name(&rows, &lens, text)
-        }
+    let table = tables::table_of(list);
+    if table < 5 {
+        let t = tables::two(table);
+        let rows = t.rows;
+        let lens = t.lens;
+        return first_name(&rows, &lens, text);
     }
+    if table < 9 {
+        let t = tables::four(table);
+        let rows = t.rows;
+        let lens = t.lens;
+        return first_name(&rows, &lens, text);
+    }
+    if table == 9 {
+        let t = tables::six();
+        let rows = t.rows;
+        let lens = t.lens;
+        return first_name(&rows, &lens, text);
+    }
+    if table < 14 {
+        let t = tables::seven(table);
+        let rows = t.rows;
+        let lens = t.lens;
+        return first_name(&rows, &lens, text);
+    }
+    let t = tables::twelve(table);
+    let rows = t.rows;
+    let lens = t.lens;
+    first_name(&rows, &lens, text)
 }
 
 // Writes a name of a list at a place and gives the next place.
@@ -162,101 +94,33 @@ pub fn format_name(list: NameList, index: usize, out: &mut [u8], at: usize) -> u
     requires { ⌜ at + length (getD (names english list) index []) ≤ length (now out) ⌝ }
     ensures { λ r. ⌜ Laid (now (out .entry)) (now (out .exit)) at r (getD (names english list) index []) ⌝ }
 {
-    match list {
-        NameList::EraAbbreviated => {
-            let names = rows::ERA_ABBREVIATED;
-            let lengths = rows::ERA_ABBREVIATED_LENS;
-            put_name(&names, &lengths, index, out, at)
-        }
-        NameList::EraNarrow => {
-            let names = rows::ERA_NARROW;
-            let lengths = rows::ERA_NARROW_LENS;
-            put_name(&names, &lengths, index, out, at)
-        }
-        NameList::EraWide => {
-            let names = rows::ERA_WIDE;
-            let lengths = rows::ERA_WIDE_LENS;
-            put_name(&names, &lengths, index, out, at)
-        }
-        NameList::QuarterWide => {
-            let names = rows::QUARTER_WIDE;
-            let lengths = rows::QUARTER_WIDE_LENS;
-            put_name(&names, &lengths, index, out, at)
-        }
-        NameList::MonthAbbreviated => {
-            let names = rows::MONTH_ABBREVIATED;
-            let lengths = rows::MONTH_ABBREVIATED_LENS;
-            put_name(&names, &lengths, index, out, at)
-        }
-        NameList::MonthWide => {
-            let names = rows::MONTH_WIDE;
-            let lengths = rows::MONTH_WIDE_LENS;
-            put_name(&names, &lengths, index, out, at)
-        }
-        NameList::MonthNarrow => {
-            let names = rows::MONTH_NARROW;
-            let lengths = rows::MONTH_NARROW_LENS;
-            put_name(&names, &lengths, index, out, at)
-        }
-        NameList::WdayAbbreviated => {
-            let names = rows::WDAY_ABBREVIATED;
-            let lengths = rows::WDAY_ABBREVIATED_LENS;
-            put_name(&names, &lengths, index, out, at)
-        }
-        NameList::WdayWide => {
-            let names = rows::WDAY_WIDE;
-            let lengths = rows::WDAY_WIDE_LENS;
-            put_name(&names, &lengths, index, out, at)
-        }
-        NameList::WdayNarrow => {
-            let names = rows::WDAY_NARROW;
-            let lengths = rows::WDAY_NARROW_LENS;
-            put_name(&names, &lengths, index, out, at)
-        }
-        NameList::WdayShort => {
-            let names = rows::WDAY_SHORT;
-            let lengths = rows::WDAY_SHORT_LENS;
-            put_name(&names, &lengths, index, out, at)
-        }
-        NameList::PeriodUpper => {
-            let names = rows::PERIOD_LETTERS;
-            let lengths = rows::PERIOD_LETTERS_LENS;
-            put_name(&names, &lengths, index, out, at)
-        }
-        NameList::PeriodLower => {
-            let names = rows::PERIOD_LETTERS;
-            let lengths = rows::PERIOD_LETTERS_LENS;
-            put_name(&names, &lengths, index, out, at)
-        }
-        NameList::PeriodDotted => {
-            let names = rows::PERIOD_DOTTED;
-            let lengths = rows::PERIOD_DOTTED_LENS;
-            put_name(&names, &lengths, index, out, at)
-        }
-        NameList::PeriodLetter => {
-            let names = rows::PERIOD_LETTER;
-            let lengths = rows::PERIOD_LETTER_LENS;
-            put_name(&names, &lengths, index, out, at)
-        }
-        NameList::NoonUpper => {
-            let names = rows::NOON_WORDS;
-            let lengths = rows::NOON_WORDS_LENS;
-            put_name(&names, &lengths, index, out, at)
-        }
-        NameList::NoonLower => {
-            let names = rows::NOON_WORDS;
-            let lengths = rows::NOON_WORDS_LENS;
-            put_name(&names, &lengths, index, out, at)
-        }
-        NameList::NoonDotted => {
-            let names = rows::NOON_DOTTED;
-            let lengths = rows::NOON_DOTTED_LENS;
-            put_name(&names, &lengths, index, out, at)
-        }
-        NameList::NoonLetter => {
-            let names = rows::NOON_LETTER;
-            let lengths = rows::NOON_LETTER_LENS;
-            put_name(&names, &lengths, index, out, at)
-        }
+    let table = tables::table_of(list);
+    if table < 5 {
+        let t = tables::two(table);
+        let rows = t.rows;
+        let lens = t.lens;
+        return put_name(&rows, &lens, index, out, at);
     }
+    if table < 9 {
+        let t = tables::four(table);
+        let rows = t.rows;
+        let lens = t.lens;
+        return put_name(&rows, &lens, index, out, at);
+    }
+    if table == 9 {
+        let t = tables::six();
+        let rows = t.rows;
+        let lens = t.lens;
+        return put_name(&rows, &lens, index, out, at);
+    }
+    if table < 14 {
+        let t = tables::seven(table);
+        let rows = t.rows;
+        let lens = t.lens;
+        return put_name(&rows, &lens, index, out, at);
+    }
+    let t = tables::twelve(table);
+    let rows = t.rows;
+    let lens = t.lens;
+    put_name(&rows, &lens, index, out, at)
 }

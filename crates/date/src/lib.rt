@@ -2,12 +2,12 @@
 ghost use mathlib.Core.Path.{_≡_};
 ghost use Rattle.meaning.specs.Names.{english};
 ghost use Rattle.meaning.specs.Whole.{write, output, read};
-use format::writer::format_with;
 use meaning::Fields;
 use meaning::Pair;
 use meaning::Reading;
 use meaning::Wrote;
-use reader::reader::parse_with;
+use reader::parse_with;
+use writer::format_with;
 
 // The Date pair's writer.
 pub fn format(pattern: &[u8], f: Fields, out: &mut [u8]) -> Wrote

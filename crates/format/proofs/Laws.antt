@@ -1,32 +1,19 @@
--- What an unclosed part writes, by its last byte; and the text of a pattern, part by part.
-use mathlib.Core.Bool.{true, false}
+-- What an unclosed part writes as a step; and the text of a pattern, part by part.
 use mathlib.Core.List.{List, [], _++_}
 use mathlib.Core.Path.{_≡_}
-use Prim.Native.Nat.{ℕ, _+_, _-_, _≤_}
-use lib.Dec.{eqb}
-use lib.ListN.{length, getD, take, drop, drop-of-length-le}
-use borrow.Author.Tests.{eqb-true}
-use Rattle.meaning.specs.Bytes.{quote}
+use Prim.Native.Nat.{ℕ, _+_, _≤_}
+use lib.ListN.{length, drop}
 use Rattle.laws.proofs.Tests.{by-test}
+use Rattle.leaves.specs.Literals.{openText}
 use Rattle.meaning.specs.Names.{Book}
-use Rattle.meaning.specs.Splitting.{elements, outside, contents}
 use Rattle.meaning.specs.Whole.{text}
-use Rattle.meaning.specs.Writing.{literal, endsInQuote, stepOf, steps, stepText, texts}
+use Rattle.meaning.specs.Writing.{literal, endsInQuote, stepOf, stepText, texts}
 use Rattle.meaning.specs.declared.Fields.{Fields}
 use Rattle.meaning.specs.declared.Pair.{Pair}
 use Rattle.meaning.specs.declared.Part.{Part}
-use Rattle.pattern.proofs.Inside.{Lost}
 use Rattle.pattern.proofs.Laws.{Next}
+use Rattle.pattern.proofs.Walks.{steps-next, steps-done}
 use Rattle.pattern.specs.First.{unescaped, contentOf}
-use Rattle.format.specs.Literals.{openText}
-
-pub open-lost : (s : List ℕ) → Lost s → eqb (getD s (length s - 1) 0) quote ≡ true → openText s ≡ unescaped (take (length s - 2) s)
-unfolding openText
-open-lost s l e = rw (l .told, e) (l .rest (eqb-true (getD s (length s - 1) 0) quote e))
-
-pub open-kept : (s : List ℕ) → Lost s → eqb (getD s (length s - 1) 0) quote ≡ false → openText s ≡ unescaped s
-unfolding openText
-open-kept s l e = rw (l .told, e)
 
 pub open-step : (book : Book) (f : Fields) (s : List ℕ) → stepText book f (literal (unescaped s) (endsInQuote (unescaped s))) ≡ openText s
 unfolding stepText openText
@@ -35,9 +22,9 @@ open-step book f s = by-test (endsInQuote (unescaped s)) (λ e. rw e) (λ e. rw 
 -- the text of what is left of a pattern: its next part's, and that of what is left behind it
 pub text-step : (pair : Pair) (book : Book) (f : Fields) (p : List ℕ) (at : ℕ) (part : Part) → Next p at part
     → text pair book (drop at p) f ≡ stepText book f (stepOf pair (contentOf p part)) ++ text pair book (drop (at + part .length) p) f
-unfolding text steps texts
-text-step pair book f p at part n = rw (n .walk)
+unfolding text texts
+text-step pair book f p at part n = rw (steps-next pair p at part n)
 
 pub text-done : (pair : Pair) (book : Book) (f : Fields) (p : List ℕ) (at : ℕ) → length p ≤ at → text pair book (drop at p) f ≡ []
-unfolding text steps texts contents elements outside
-text-done pair book f p at h = rw (drop-of-length-le p h)
+unfolding text texts
+text-done pair book f p at h = rw (steps-done pair p at h)

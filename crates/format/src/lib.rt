@@ -1,8 +1,3 @@
-// Writing, document 01's column Writes: numbers out, the text of a rule and of a part, and the public writer.
-pub mod literals;
-pub mod numbers;
+// Writing, document 01's column Writes: the text of a rule, of a part and of all parts.
 pub mod part;
 pub mod rule;
-pub mod writer;
-pub mod years;
-pub mod zones;

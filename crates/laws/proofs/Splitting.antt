@@ -27,12 +27,12 @@ element-weight : (b : ℕ) (es : List Element) → weight (elementOf b ∷ es) �
 unfolding weight
 element-weight b es = by-test (eqb b quote) (λ e. rw e) (λ e. rw e)
 
-elements-step : (a b : ℕ) (p : List ℕ) → both (eqb a quote) (eqb b quote) ≡ false → elements (a ∷ b ∷ p) ≡ elementOf a ∷ elements (b ∷ p)
+pub elements-step : (a b : ℕ) (p : List ℕ) → both (eqb a quote) (eqb b quote) ≡ false → elements (a ∷ b ∷ p) ≡ elementOf a ∷ elements (b ∷ p)
 unfolding elements
 elements-step a b p e =
     ap (λ (t : Bool). elim t as (λ x. List Element) [ true ↦ escaped ∷ elements p | false ↦ elementOf a ∷ elements (b ∷ p) ]) e
 
-elements-escaped : (a b : ℕ) (p : List ℕ) → both (eqb a quote) (eqb b quote) ≡ true → elements (a ∷ b ∷ p) ≡ escaped ∷ elements p
+pub elements-escaped : (a b : ℕ) (p : List ℕ) → both (eqb a quote) (eqb b quote) ≡ true → elements (a ∷ b ∷ p) ≡ escaped ∷ elements p
 unfolding elements
 elements-escaped a b p e =
     ap (λ (t : Bool). elim t as (λ x. List Element) [ true ↦ escaped ∷ elements p | false ↦ elementOf a ∷ elements (b ∷ p) ]) e

@@ -26,7 +26,7 @@ use Rattle.laws.proofs.Tests.{both-true}
 
 -- the first byte, and how many digits there are
 
-no-minus : (s r : List ℕ) → allDigits s ≡ true → 0 < length s → minusFirst (s ++ r) ≡ 0
+pub no-minus : (s r : List ℕ) → allDigits s ≡ true → 0 < length s → minusFirst (s ++ r) ≡ 0
 unfolding allDigits
 no-minus [] r all h = absurd (omega arith)
 no-minus (b ∷ s) r all h =

@@ -32,7 +32,7 @@ use Rattle.laws.proofs.Tests.{by-test, both-true, true-is-not-false}
 
 -- two digits
 
-two-digits : (n : ℕ) (r : List ℕ) → n < 100 → takeCount 2 (num 2 n ++ r) ≡ got (length (num 2 n)) n
+pub two-digits : (n : ℕ) (r : List ℕ) → n < 100 → takeCount 2 (num 2 n ++ r) ≡ got (length (num 2 n)) n
 two-digits n r h =
     let size : length (num 2 n) ≡ 2 = num-fits 2 n (omega arith) h in
     let n′ : Signed = record { negative = false; size = n } in

@@ -5,8 +5,8 @@ ghost use Prim.Native.Nat.{_+_, _≤_};
 ghost use lib.ListN.{length};
 ghost use Rattle.lines.specs.Decimal as decimal;
 ghost use Rattle.meaning.specs.Bytes.{when, minus};
-use format::numbers::put_byte;
-use format::numbers::put_bytes;
+use leaves::numbers::put_byte;
+use leaves::numbers::put_bytes;
 
 // The size that digits stand for, where it fits.
 pub enum Size {

@@ -1,2 +1,3 @@
 pub mod Names
 pub mod Samples
+pub mod Units

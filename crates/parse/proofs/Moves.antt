@@ -7,8 +7,7 @@ use Prim.Native.Nat.{ℕ, _+_, _-_, _≤_, _<_}
 use native.Mathlib.Nat.{add-zero}
 use native.Mathlib.Omega.{arith}
 use lib.Dec.{ltb}
-use lib.ListN.{length, take, drop, length-drop}
-use lib.Seq.{take-all}
+use lib.ListN.{length, take, drop}
 use borrow.Author.Tests.{ltb-false, lt-ltb, le-ltb}
 use Rattle.constants.proofs.Answers.{found-name, found-nothing}
 use Rattle.constants.specs.Table.{foundIn}
@@ -26,10 +25,6 @@ use Rattle.parse.specs.declared.cursor.Taken.{Taken}
 use Rattle.parse.specs.declared.cursor.Taken.the-variants as taken
 use Rattle.parse.specs.declared.numbers.Number.{Number}
 use Rattle.parse.specs.declared.numbers.Number.the-variants as number
-
--- the part of a text from a place on
-pub rest-all : (at : ℕ) (s : List ℕ) → take (length s - at) (drop at s) ≡ drop at s
-rest-all at s = take-all (length s - at) (drop at s) (rw length-drop (omega arith))
 
 -- taking
 

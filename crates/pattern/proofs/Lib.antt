@@ -3,6 +3,7 @@ pub mod First
 pub mod Scans
 pub mod Inside
 pub mod Laws
+pub mod Walks
 pub mod Answers
 pub mod Splits
 pub mod Checks

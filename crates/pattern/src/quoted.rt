@@ -1,7 +1,8 @@
 // The inside of a quoted part: which of its bytes stand for one.
 ghost use mathlib.Core.Path.{_≡_};
+ghost use Prim.Native.Nat.{_-_};
 ghost use lib.Dec.{eqb};
-ghost use lib.ListN.{length};
+ghost use lib.ListN.{length, getD};
 ghost use Rattle.meaning.specs.Bytes.{when, quote};
 ghost use Rattle.pattern.specs.First.{unescaped};
 
@@ -23,4 +24,15 @@ pub fn unescaped_length(src: &[u8]) -> usize
         i += bytes_of(src[i]);
     }
     n
+}
+
+// Whether an inside ends in a quote.
+pub fn ends_in_quote(src: &[u8]) -> bool
+    ensures { λ r. ⌜ r ≡ eqb (getD (now (src .entry)) (length (now (src .entry)) - 1) 0) quote ⌝ }
+{
+    let n = src.len();
+    if n == 0 {
+        return false;
+    }
+    src[n - 1] == b'\''
 }

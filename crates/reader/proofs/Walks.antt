@@ -3,12 +3,11 @@ use mathlib.Core.List.{List, [], _∷_}
 use mathlib.Core.Path.{_≡_, refl, ap, _∙_}
 use Prim.Native.Nat.{ℕ, suc, _+_, _≤_}
 use native.Mathlib.Numerals.{add-one}
-use lib.ListN.{length, drop, drop-of-length-le}
+use lib.ListN.{length, drop}
 use lib.Seq.{drop-drop}
 use Rattle.meaning.specs.Names.{Book}
 use Rattle.meaning.specs.Readers.{Got, got, stopped}
 use Rattle.meaning.specs.Reading.{readStep}
-use Rattle.meaning.specs.Splitting.{elements, outside, contents}
 use Rattle.meaning.specs.Whole.{Walk, walked, refusedAt, walk}
 use Rattle.meaning.specs.Writing.{Step, stepOf, steps}
 use Rattle.meaning.specs.declared.Carried.{Carried}
@@ -20,6 +19,7 @@ use Rattle.parse.specs.Steps.{partAt}
 use Rattle.parse.specs.declared.cursor.PartRead.{PartRead}
 use Rattle.parse.specs.declared.cursor.PartRead.the-variants as part
 use Rattle.pattern.proofs.Laws.{Next}
+use Rattle.pattern.proofs.Walks.{steps-next, steps-done}
 use Rattle.pattern.specs.First.{contentOf}
 
 module _ (book : Book) (now i : ℕ) (text : List ℕ) (gave : List Carried) where
@@ -46,11 +46,10 @@ module _ (book : Book) (now i : ℕ) (text : List ℕ) (gave : List Carried) whe
       → walk book now i at (steps pair (drop place p)) (drop at text) gave
       ≡ walkBy (steps pair (drop (place + part .length) p))
       (partAt at (readStep book now (stepOf pair (contentOf p part)) (drop at text)))
-  unfolding steps
   walk-step pair at place p part n =
-      rw (n .walk) (walk-on at (stepOf pair (contentOf p part)) (steps pair (drop (place + part .length) p)))
+      rw (steps-next pair p place part n) (walk-on at (stepOf pair (contentOf p part)) (steps pair (drop (place + part .length) p)))
 
   pub walk-done : (pair : Pair) (at place : ℕ) (p : List ℕ) → length p ≤ place
       → walk book now i at (steps pair (drop place p)) (drop at text) gave ≡ walked at gave
-  unfolding walk steps contents elements outside
-  walk-done pair at place p h = rw (drop-of-length-le p h)
+  unfolding walk
+  walk-done pair at place p h = rw (steps-done pair p place h)

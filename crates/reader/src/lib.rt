@@ -1,6 +1,34 @@
-// Reading a text by a pattern: the checks, the walk over the parts with the record that it fills, and the public reader; offsets
-// by themselves.
+// Reading a text by a pattern: the public reader, with the checks 1, 2, 3, 14, 6, 7 in that order and then the walk over the
+// parts; and offsets by themselves.
 pub mod checks;
 pub mod offset;
 pub mod parts;
-pub mod reader;
+
+ghost use mathlib.Core.Path.{_≡_};
+ghost use Rattle.meaning.specs.Names.{english};
+ghost use Rattle.meaning.specs.Whole.{read};
+use crate::checks::read_check;
+use crate::parts::parse_parts;
+use fields::signed::size;
+use meaning::Checked;
+use meaning::Pair;
+use meaning::Reading;
+use reading::no_reading;
+
+// Reads a text by a pattern of either pair. A refused read gives only the refusal and its detail.
+pub fn parse_with(pair: Pair, pattern: &[u8], text: &[u8], year: i32) -> Reading
+    ensures { λ r. ⌜ r ≡ read pair english (now (pattern .entry)) (now (text .entry)) year ⌝ }
+{
+    let checked = read_check(pattern, text, year);
+    match checked {
+        Checked::Fine => parse_parts(pair, pattern, text, size(year)),
+        Checked::Refused(_) => no_reading(checked),
+    }
+}
+
+// The full pair's reader.
+pub fn parse(pattern: &[u8], text: &[u8], year: i32) -> Reading
+    ensures { λ r. ⌜ r ≡ read Pair.Full english (now (pattern .entry)) (now (text .entry)) year ⌝ }
+{
+    parse_with(Pair::Full, pattern, text, year)
+}

@@ -1,7 +1,7 @@
 -- A word of 7 bytes and at most 21.
 use borrow.Author.Needs.{needs}
 use native.Mathlib.Omega.{arith}
-use Rattle.answers.proofs.Integers.{sign-small}
+use Rattle.answers.proofs.Signs.{sign-small}
 use Rattle.answers.proofs.reads.put_offset.Statement.{statement}
 use Rattle.answers.proofs.reads.put_offset.Tie as tie
 use Rattle.io.proofs.Counting.{counts}

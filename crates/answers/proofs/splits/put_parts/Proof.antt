@@ -10,7 +10,7 @@ use Rattle.answers.proofs.splits.put_parts.Tie as tie
 use Rattle.answers.proofs.splits.put_parts.Reads as reads
 use Rattle.answers.proofs.splits.put_parts.Lts as lts
 use Rattle.answers.proofs.splits.put_part.Reads as put-part-reads
-use Rattle.format.proofs.numbers.put_bytes.Reads as put-bytes-reads
+use Rattle.leaves.proofs.numbers.put_bytes.Reads as put-bytes-reads
 use Rattle.lines.proofs.numbers.put_size.Reads as put-size-reads
 
 abbrev Inv-loop : tie.InvT-loop

@@ -12,7 +12,7 @@ use Rattle.answers.proofs.writes.write.Tie as tie
 use Rattle.answers.proofs.writes.write.Reads as reads
 use Rattle.answers.proofs.writes.write.Lts as lts
 use Rattle.date.proofs.format.Reads as format-reads
-use Rattle.format.proofs.writer.format.Reads as writer-format-reads
+use Rattle.writer.proofs.format.Reads as writer-format-reads
 
 -- src/writes.rt:54:63
 enum-told : tie.Need-enum-told

@@ -3,7 +3,7 @@ use borrow.Author.Needs.{needs}
 use denote.Ref.{now}
 use Prim.Native.Nat.{_+_, _-_}
 use lib.ListN.{length, take, drop, length-drop, length-replicate}
-use lib.Seq.{take-all}
+use Rattle.pattern.proofs.Walks.{rest-all}
 use mathlib.Core.Path.{_≡_}
 use native.Mathlib.Omega.{arith}
 use Rattle.format.proofs.part.format_part.Statement.{statement}
@@ -77,8 +77,7 @@ put-open-requires c κs =
     let a = c .before .before .before .before .before .before in
     let p = now (a .args .pattern) in
     let from = a .args .part .start + 1 in
-    let rest : take (length p - from) (drop from p) ≡ drop from p = take-all (length p - from) (drop from p) (rw length-drop (omega arith)) in
-    rw rest (
+    rw (rest-all from p) (
       a .pre .1 .0 .lost (c .before .before .enum-told4 .given .1),
       rw open-step at (rw (c .before .before .enum-told4 .given .1) at (a .pre .1 .1)),
     )
@@ -116,8 +115,7 @@ returns-4 c =
     let a = c .before .before .before .before .before .before .before .before .before in
     let p = now (a .args .pattern) in
     let from = a .args .part .start + 1 in
-    let rest : take (length p - from) (drop from p) ≡ drop from p = take-all (length p - from) (drop from p) (rw length-drop (omega arith)) in
-    rw (c .before .before .before .before .before .enum-told4 .given .1, open-step) (rw rest at (c .before .before .put-open .ensures))
+    rw (c .before .before .before .before .before .enum-told4 .given .1, open-step) (rw (rest-all from p) at (c .before .before .put-open .ensures))
 
 pub format-part-spec : {M : Type 1} → statement M
 format-part-spec =

@@ -6,7 +6,7 @@ use Rattle.lines.proofs.numbers.put_size.Statement.{statement}
 use Rattle.lines.proofs.numbers.put_size.Tie as tie
 use Rattle.lines.proofs.numbers.put_size.Reads as reads
 use Rattle.lines.proofs.numbers.put_size.Lts as lts
-use Rattle.format.proofs.numbers.put_bytes.Reads as put-bytes-reads
+use Rattle.leaves.proofs.numbers.put_bytes.Reads as put-bytes-reads
 use Rattle.io.proofs.decimal.Reads as decimal-reads
 
 -- src/numbers.rt:79:9

@@ -2,7 +2,7 @@
 use borrow.Author.Needs.{needs}
 use denote.Ref.{now}
 use mathlib.Core.Path.{_∙_}
-use Rattle.parse.proofs.Moves.{rest-all}
+use Rattle.pattern.proofs.Walks.{rest-all}
 use Rattle.reader.proofs.Offsets.{two-taken}
 use Rattle.reader.proofs.offset.two_at.Statement.{statement}
 use Rattle.reader.proofs.offset.two_at.Tie as tie

@@ -7,7 +7,8 @@ use native.Mathlib.Omega.{arith}
 use Rattle.constants.proofs.Answers.{found-name, found-within}
 use Rattle.meaning.specs.Names.{names, english}
 use Rattle.meaning.specs.Readers.{matchName}
-use Rattle.parse.proofs.Moves.{rest-all, matched-name, matched-nothing}
+use Rattle.parse.proofs.Moves.{matched-name, matched-nothing}
+use Rattle.pattern.proofs.Walks.{rest-all}
 use Rattle.parse.proofs.cursor.Cursor.match_name.Statement.{statement}
 use Rattle.parse.proofs.cursor.Cursor.match_name.Tie as tie
 

@@ -4,7 +4,8 @@ use denote.Ref.{now}
 use lib.ListN.{length, drop, length-drop}
 use mathlib.Core.Path.{_≡_, sym, _∙_}
 use native.Mathlib.Omega.{arith}
-use Rattle.parse.proofs.Moves.{rest-all, taken-by, taken-within}
+use Rattle.parse.proofs.Moves.{taken-by, taken-within}
+use Rattle.pattern.proofs.Walks.{rest-all}
 use Rattle.parse.proofs.cursor.Cursor.take.Statement.{statement}
 use Rattle.parse.proofs.cursor.Cursor.take.Tie as tie
 

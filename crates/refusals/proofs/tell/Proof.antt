@@ -1,0 +1,202 @@
+-- Each refusal has the number and the details of the table.
+use mathlib.Core.List.{[], _∷_}
+use mathlib.Core.Path.{refl, ap, _∙_}
+use lib.IntN.{ℤ}
+use mir.Facts.{toZ-ofZ}
+use mir.Syntax.{w32}
+use mir.Val.{toZ, ofZ}
+use borrow.Author.Needs.{needs}
+use Rattle.refusals.proofs.Integers.{sign-and-size}
+use Rattle.meaning.specs.Answers.{number, details}
+use Rattle.refusals.proofs.tell.Statement.{statement}
+use Rattle.refusals.proofs.tell.Tie as tie
+use Rattle.refusals.proofs.tell.Reads as reads
+use Rattle.refusals.proofs.tell.Lts as lts
+use Rattle.refusals.proofs.detail_of.Reads as detail-of-reads
+use Rattle.refusals.proofs.number_of.Reads as number-of-reads
+use Rattle.refusals.proofs.with_one.Reads as with-one-reads
+use Rattle.fields.proofs.signed.is_negative.Reads as is-negative-reads
+use Rattle.fields.proofs.signed.size.Reads as size-reads
+
+enum-known-why : tie.Need-enum-known-why
+enum-known-why c = search needs
+
+with-one-requires : tie.Need-with-one-requires
+with-one-requires c κs = search needs
+
+enum-known-why-2 : tie.Need-enum-known-why-2
+enum-known-why-2 c = search needs
+
+with-one-requires-2 : tie.Need-with-one-requires-2
+with-one-requires-2 c κs = search needs
+
+enum-known-why-3 : tie.Need-enum-known-why-3
+enum-known-why-3 c = search needs
+
+with-one-requires-3 : tie.Need-with-one-requires-3
+with-one-requires-3 c κs = search needs
+
+enum-known-why-4 : tie.Need-enum-known-why-4
+enum-known-why-4 c = search needs
+
+cast-with-one : tie.Need-cast-with-one
+cast-with-one c = search needs
+
+with-one-requires-4 : tie.Need-with-one-requires-4
+with-one-requires-4 c κs = search needs
+
+enum-known-why-5 : tie.Need-enum-known-why-5
+enum-known-why-5 c = search needs
+
+with-one-requires-5 : tie.Need-with-one-requires-5
+with-one-requires-5 c κs = search needs
+
+enum-known-why-6 : tie.Need-enum-known-why-6
+enum-known-why-6 c = search needs
+
+with-one-requires-6 : tie.Need-with-one-requires-6
+with-one-requires-6 c κs = search needs
+
+enum-known-why-7 : tie.Need-enum-known-why-7
+enum-known-why-7 c = search needs
+
+with-one-requires-7 : tie.Need-with-one-requires-7
+with-one-requires-7 c κs = search needs
+
+enum-known-why-8 : tie.Need-enum-known-why-8
+enum-known-why-8 c = search needs
+
+number-of-requires : tie.Need-number-of-requires
+number-of-requires c κs = search needs
+
+detail-of-requires : tie.Need-detail-of-requires
+detail-of-requires c κs = search needs
+
+detail-of-requires-2 : tie.Need-detail-of-requires-2
+detail-of-requires-2 c κs = search needs
+
+enum-known-why-9 : tie.Need-enum-known-why-9
+enum-known-why-9 c = search needs
+
+with-one-requires-8 : tie.Need-with-one-requires-8
+with-one-requires-8 c κs = search needs
+
+enum-known-why-10 : tie.Need-enum-known-why-10
+enum-known-why-10 c = search needs
+
+cast-with-one-2 : tie.Need-cast-with-one-2
+cast-with-one-2 c = search needs
+
+with-one-requires-9 : tie.Need-with-one-requires-9
+with-one-requires-9 c κs = search needs
+
+enum-known-why-11 : tie.Need-enum-known-why-11
+enum-known-why-11 c = search needs
+
+is-negative-requires : tie.Need-is-negative-requires
+is-negative-requires c κs = search needs
+
+size-requires : tie.Need-size-requires
+size-requires c κs = search needs
+
+cast-t23 : tie.Need-cast-t23
+cast-t23 c = search needs
+
+detail-of-requires-3 : tie.Need-detail-of-requires-3
+detail-of-requires-3 c κs = search needs
+
+returns : tie.Need-returns
+unfolding number details
+returns c = rw (c .with-one .ensures, c .before .before .why .given .1) (refl, refl)
+
+returns-2 : tie.Need-returns-2
+unfolding number details
+returns-2 c = rw (c .with-one2 .ensures, c .before .before .why2 .given .1) (refl, refl)
+
+returns-3 : tie.Need-returns-3
+unfolding number details
+returns-3 c = rw (c .with-one3 .ensures, c .before .before .why3 .given .1) (refl, refl)
+
+returns-4 : tie.Need-returns-4
+unfolding number details
+returns-4 c = rw (c .with-one4 .ensures, c .before .before .why4 .given .1) (refl, refl)
+
+returns-5 : tie.Need-returns-5
+unfolding number details
+returns-5 c = rw (c .with-one5 .ensures, c .before .before .why5 .given .1) (refl, refl)
+
+returns-6 : tie.Need-returns-6
+unfolding number details
+returns-6 c = rw (c .with-one6 .ensures, c .before .before .why6 .given .1) (refl, refl)
+
+returns-7 : tie.Need-returns-7
+unfolding number details
+returns-7 c = rw (c .with-one7 .ensures, c .before .before .why7 .given .1) (refl, refl)
+
+returns-8 : tie.Need-returns-8
+unfolding number details
+returns-8 c =
+    rw (c .before .before .number-of .ensures, c .before .detail-of .ensures, c .detail-of2 .ensures, c .before .before .before .before .why8 .given .1)
+    (refl, refl)
+
+returns-9 : tie.Need-returns-9
+unfolding number details
+returns-9 c = rw (c .with-one8 .ensures, c .before .before .why9 .given .1) (refl, refl)
+
+returns-10 : tie.Need-returns-10
+unfolding number details
+returns-10 c = rw (c .with-one9 .ensures, c .before .before .why10 .given .1) (refl, refl)
+
+returns-11 : tie.Need-returns-11
+unfolding number details
+returns-11 c =
+    let year = c .before .before .before .before .why11 .given .0 .0 in
+    let bits = toZ-ofZ {z = year} (record { sfits = c .before .before .before .known-told11 .given .0 .1 }) in
+    let whole = ap (λ z. z ∷ []) (sign-and-size (toZ w32 (ofZ w32 year)) ∙ bits) in
+    rw (c .before .before .is-negative .ensures, c .before .size .ensures, c .before .before .before .before .why11 .given .1)
+    (refl, whole)
+
+pub tell-spec : {M : Type 1} → statement M
+tell-spec =
+    tie.close
+    (tie.spec
+    enum-known-why
+    with-one-requires
+    enum-known-why-2
+    with-one-requires-2
+    enum-known-why-3
+    with-one-requires-3
+    enum-known-why-4
+    cast-with-one
+    with-one-requires-4
+    enum-known-why-5
+    with-one-requires-5
+    enum-known-why-6
+    with-one-requires-6
+    enum-known-why-7
+    with-one-requires-7
+    enum-known-why-8
+    number-of-requires
+    detail-of-requires
+    detail-of-requires-2
+    enum-known-why-9
+    with-one-requires-8
+    enum-known-why-10
+    cast-with-one-2
+    with-one-requires-9
+    enum-known-why-11
+    is-negative-requires
+    size-requires
+    cast-t23
+    detail-of-requires-3
+    returns
+    returns-2
+    returns-3
+    returns-4
+    returns-5
+    returns-6
+    returns-7
+    returns-8
+    returns-9
+    returns-10
+    returns-11)

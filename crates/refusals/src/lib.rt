@@ -1,0 +1,87 @@
+// "Answer numbers" of document 01: a refusal's number and what it returns.
+ghost use mathlib.Core.Path.{_≡_};
+ghost use Rattle.refusals.specs.Told.{unsigned, oneDetail, detailsOf};
+ghost use Rattle.meaning.specs.Answers.{troubleNumber, number, details};
+use fields::signed::is_negative;
+use fields::signed::size;
+use meaning::Refusal;
+use meaning::Trouble;
+
+pub struct Detail {
+    pub negative: bool,
+    pub size: u64,
+}
+
+// A refusal's number and one or two details.
+pub struct Told {
+    pub number: u32,
+    pub first: Detail,
+    pub second: Detail,
+    pub two: bool,
+}
+
+fn number_of(trouble: Trouble) -> u32
+    ensures { λ r. ⌜ r ≡ troubleNumber trouble ⌝ }
+{
+    match trouble {
+        Trouble::TooFew => 8,
+        Trouble::NoNumber => 9,
+        Trouble::NoName => 10,
+        Trouble::NoSign => 11,
+    }
+}
+
+fn detail_of(n: usize) -> Detail
+    ensures { λ r. ⌜ r ≡ unsigned n ⌝ }
+{
+    Detail {
+        negative: false,
+        size: n as u64,
+    }
+}
+
+fn with_one(number: u32, n: usize) -> Told
+    ensures { λ r. ⌜ r ≡ oneDetail number n ⌝ }
+{
+    Told {
+        number: number,
+        first: detail_of(n),
+        second: detail_of(0),
+        two: false,
+    }
+}
+
+pub fn tell(why: Refusal) -> Told
+    ensures { λ r. ⌜ (r .number ≡ number why) × (detailsOf r ≡ details why) ⌝ }
+{
+    match why {
+        Refusal::PatternTooLong(n) => with_one(1, n),
+        Refusal::PatternByte(place) => with_one(2, place),
+        Refusal::LoneQuote(place) => with_one(3, place),
+        Refusal::FieldRange(field) => with_one(4, field as usize),
+        Refusal::NoRoom(n) => with_one(5, n),
+        Refusal::TextTooLong(n) => with_one(6, n),
+        Refusal::TextByte(place) => with_one(7, place),
+        Refusal::InPart {
+            trouble,
+            part,
+            place,
+        } => Told {
+            number: number_of(trouble),
+            first: detail_of(part),
+            second: detail_of(place),
+            two: true,
+        },
+        Refusal::OffsetLength(n) => with_one(12, n),
+        Refusal::OffsetRange(which) => with_one(13, which as usize),
+        Refusal::CurrentYear(year) => Told {
+            number: 14,
+            first: Detail {
+                negative: is_negative(year),
+                size: size(year) as u64,
+            },
+            second: detail_of(0),
+            two: false,
+        },
+    }
+}

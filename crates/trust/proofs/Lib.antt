@@ -1,0 +1,13 @@
+pub mod Samples
+pub mod Table
+pub mod Fitting
+pub mod NameRules
+pub mod Sound
+pub mod RulesAhead
+pub mod Ahead
+pub mod Takes
+pub mod Fails
+pub mod Steps
+pub mod Turns
+pub mod Verdicts
+pub mod Agreement

@@ -1,0 +1,79 @@
+-- How many bytes a reader takes where it goes on, whatever they give: by this a failing part is told from its own text.
+use mathlib.Core.Bool.{Bool, true, false}
+use mathlib.Core.List.{List, _++_}
+use mathlib.Core.Option.{Option, none, some}
+use mathlib.Core.Path.{_≡_, refl}
+use Prim.Native.Nat.{ℕ, zero, suc, _+_, _≤_, _<_}
+use native.Mathlib.Omega.{arith}
+use lib.Dec.{ltb}
+use lib.ListN.{length, take, drop}
+use lib.Seq.{drop-append-seam}
+use Rattle.meaning.specs.Bytes.{digitAt}
+use Rattle.meaning.specs.Numerals.{Signed, numberOf}
+use Rattle.meaning.specs.Readers.{Got, got, stopped, Reader, behind, goOn, _>>=_, done, skip, takenNumber, takeNumber, reach}
+use Rattle.meaning.specs.declared.Numeral.{Numeral}
+use Rattle.laws.proofs.Readers.{reach-on, reach-ends}
+use Rattle.laws.proofs.Tests.{when-is}
+
+abbrev pub Takes : {A : Type 0} → ℕ → Got A → Type 0
+Takes k (got n a) = n ≡ k
+Takes k (stopped why i) = Unit
+
+pub takes-got : {A : Type 0} (k : ℕ) {x : Got A} {n : ℕ} {a : A} → Takes k x → x ≡ got n a → n ≡ k
+takes-got k h e = rw e at h
+
+pub takes-skip : (k : ℕ) (s : List ℕ) → Takes k (skip k s)
+unfolding skip
+takes-skip k s = when-is (Takes k) (ltb (length s) k) (λ _. tt) (λ _. refl)
+
+number-takes : (k : ℕ) (n : Option Signed) → Takes k (takenNumber k n)
+number-takes k none = tt
+number-takes k (some n) = refl
+
+pub takes-number : (kind : Numeral) (k : ℕ) (s : List ℕ) → Takes k (takeNumber kind k s)
+unfolding takeNumber
+takes-number kind k s =
+    when-is (Takes k) (ltb (length s) k) (λ _. tt) (λ _. number-takes k (numberOf kind (take k s)))
+
+-- one reader after the other
+
+takes-behind : {B : Type 0} (n k : ℕ) (x : Got B) → Takes k x → Takes (n + k) (behind n x)
+takes-behind n k (got m b) h = omega arith
+takes-behind n k (stopped why i) h = tt
+
+goes-on-takes : {A B : Type 0} (j k : ℕ) (x : Got A) (next : A → Reader B) (s : List ℕ) → Takes j x
+    → ((n : ℕ) (a : A) → x ≡ got n a → Takes k (next a (drop n s))) → Takes (j + k) (goOn x next s)
+goes-on-takes j k (got n a) next s h rest = rw (← h) (takes-behind n k (next a (drop n s)) (rest n a refl))
+goes-on-takes j k (stopped why i) next s h rest = tt
+
+pub takes-both : {A B : Type 0} (j k : ℕ) (first : Reader A) (next : A → Reader B) (s : List ℕ) → Takes j (first s)
+    → ((n : ℕ) (a : A) → first s ≡ got n a → Takes k (next a (drop n s))) → Takes (j + k) ((first >>= next) s)
+takes-both j k first next s h rest = goes-on-takes j k (first s) next s h rest
+
+-- a reader that takes just t, and the next on what is behind it
+pub takes-then : {A B : Type 0} (k : ℕ) (first : Reader A) (next : A → Reader B) (t r : List ℕ) {a : A} → first (t ++ r) ≡ got (length t) a
+    → Takes k (next a r) → Takes (length t + k) ((first >>= next) (t ++ r))
+takes-then k first next t r {a} e h = rw (e, drop-append-seam) (takes-behind (length t) k (next a r) h)
+
+-- what a reader gives is turned into something else
+pub takes-done : {A B : Type 0} (k : ℕ) (first : Reader A) (g : A → B) (s : List ℕ) → Takes k (first s)
+    → Takes k ((first >>= λ a. done (g a)) s)
+takes-done k first g s h =
+    let e : k + 0 ≡ k = omega arith in
+    rw e at (takes-both k 0 first (λ a. done (g a)) s h (λ n a _. refl))
+
+-- how far a greedy number goes
+
+pub reach-bounds : (more i : ℕ) (s : List ℕ) → (i ≤ reach more i s) × (reach more i s ≤ i + more)
+unfolding reach
+reach-bounds zero i s = (omega arith, omega arith)
+reach-bounds (suc more) i s = go (digitAt i s) refl (reach-bounds more (suc i) s)
+  where
+    go : (t : Bool) → digitAt i s ≡ t → (suc i ≤ reach more (suc i) s) × (reach more (suc i) s ≤ suc i + more)
+        → (i ≤ reach (suc more) i s) × (reach (suc more) i s ≤ i + suc more)
+    go true e ih = rw (reach-on more i s e) (omega arith, omega arith)
+    go false e ih = rw (reach-ends more i s e) (omega arith, omega arith)
+
+pub reach-past : (more i : ℕ) (s : List ℕ) → 0 < more → digitAt i s ≡ true → i < reach more i s
+reach-past zero i s h e = absurd (omega arith)
+reach-past (suc more) i s h e = rw (reach-on more i s e) (reach-bounds more (suc i) s .0)

@@ -1,0 +1,137 @@
+-- The check is right: its answer is what `Says` asks of it, for every pattern and every current year.
+use mathlib.Core.Bool.{Bool, true, false}
+use mathlib.Core.List.{List, [], _∷_}
+use mathlib.Core.Path.{_≡_, refl}
+use Prim.Native.Nat.{ℕ, zero, suc, _+_, _≤_, _<_}
+use native.Mathlib.Omega.{arith}
+use lib.Dec.{leb}
+use lib.IntN.{ℤ, pos, negsuc, natAbs}
+use lib.ListN.{length, drop}
+use borrow.Author.Tests.{leb-true}
+use Rattle.meaning.specs.Answers.{currentYearCheck, fieldsCheck, patternCheck, within}
+use Rattle.meaning.specs.Names.{english}
+use Rattle.meaning.specs.Trust.{partAt, ComesBack, AllComeBack, FailsFirst, trustCheck, Says}
+use Rattle.meaning.specs.Writing.{Step, steps}
+use Rattle.meaning.specs.declared.Checked.{Checked}
+use Rattle.meaning.specs.declared.Checked.the-variants.{Fine, Refused}
+use Rattle.meaning.specs.declared.Fields.{Fields}
+use Rattle.meaning.specs.declared.Pair.the-variants.{Full}
+use Rattle.meaning.specs.declared.Refusal.the-variants.{CurrentYear}
+use Rattle.meaning.specs.declared.Verdict.{Verdict}
+use Rattle.meaning.specs.declared.Verdict.the-variants as verdict
+use Rattle.laws.proofs.Checks.{else-fine, fine-unless}
+use Rattle.laws.proofs.Fields.{allowed}
+use Rattle.laws.proofs.Tests.{both-true, by-test}
+use Rattle.laws.proofs.Texts.{text-from}
+use Rattle.trust.proofs.Fitting.{Fitting, fitting-from, steps-fit}
+use Rattle.trust.proofs.Steps.{step-comes-back, step-fails, witness-fine}
+use Rattle.trust.proofs.Turns.{failing-on, failing-here}
+use Rattle.trust.specs.Check.{meets, witness, firstFailing, verdictBy, verdictOf}
+use Rattle.trust.specs.Needs.{stepNeed}
+
+-- what the first part that fails is, by the definition
+
+-- whether the check takes part i to hold
+holds : List Step → ℕ → Bool
+holds ss i = meets (stepNeed (partAt ss i)) (drop (suc i) ss)
+
+record FirstOf (ss : List Step) (i : ℕ) (f : Fields) : Type 0 where
+  there : i < length ss
+  fails : holds ss i ≡ false
+  shows : f ≡ witness (stepNeed (partAt ss i))
+  earlier : (j : ℕ) → j < i → holds ss j ≡ true
+
+-- what an answer about parts that are counted on from k says
+Tells : ℕ → List Step → Verdict → Type 0
+Tells k ss verdict.Yes = (j : ℕ) → j < length ss → holds ss j ≡ true
+Tells k ss (verdict.No part f) = (i : ℕ) × (part ≡ k + i) × FirstOf ss i f
+Tells k ss (verdict.Refused why) = ⊥
+
+-- with a part in front that holds
+module _ (s : Step) (ss : List Step) (first : meets (stepNeed s) ss ≡ true) where
+  holds-from : (n : ℕ) → ((j : ℕ) → j < n → holds ss j ≡ true) → (j : ℕ) → j < suc n → holds (s ∷ ss) j ≡ true
+  unfolding holds
+  holds-from n rest zero h = first
+  holds-from n rest (suc j) h = rest j (omega arith)
+
+  tells-from : (k : ℕ) (v : Verdict) → Tells (suc k) ss v → Tells k (s ∷ ss) v
+  unfolding Tells
+  tells-from k verdict.Yes h = holds-from (length ss) h
+  tells-from k (verdict.No part f) h =
+      let i = h .0 in
+      let named = h .2 in (
+        suc i,
+        omega (arith, h .1),
+        record {
+          there = omega (arith, named .there);
+          fails = unfold holds in named .fails;
+          shows = named .shows;
+          earlier = holds-from i (named .earlier);
+        },
+      )
+  tells-from k (verdict.Refused why) h = h
+
+tells : (k : ℕ) (ss : List Step) → Tells k ss (firstFailing k ss)
+unfolding firstFailing Tells
+tells k [] = λ j h. absurd (omega arith)
+tells k (s ∷ ss) =
+    by-test (meets (stepNeed s) ss)
+    (λ e. rw (failing-on k s ss e) (tells-from s ss e k (firstFailing (suc k) ss) (tells (suc k) ss)))
+    (λ e.
+    rw (failing-here k s ss e) (
+      0,
+      omega arith,
+      record { there = omega arith; fails = unfold holds in e; shows = refl; earlier = λ j h. absurd (omega arith) },
+    ))
+
+-- and what that says of the written text
+
+module _ (now : ℕ) {ss : List Step} (fit : Fitting ss) (i : ℕ) (there : i < length ss) where
+  part-comes-back : holds ss i ≡ true → (f : Fields) → fieldsCheck f ≡ Fine → ComesBack english now ss f i
+  unfolding holds ComesBack
+  part-comes-back e f h = rw (text-from english f ss i there) (step-comes-back now (fitting-from fit i there) e f (allowed f h))
+
+  part-fails : now ≤ 9999 → holds ss i ≡ false → ComesBack english now ss (witness (stepNeed (partAt ss i))) i → ⊥
+  unfolding holds ComesBack
+  part-fails small e back =
+      step-fails now small (fitting-from fit i there) e (rw (text-from english (witness (stepNeed (partAt ss i))) ss i there) at back)
+
+all-come-back : (now : ℕ) {ss : List Step} → Fitting ss → (n : ℕ) → n ≤ length ss → ((j : ℕ) → j < n → holds ss j ≡ true)
+    → AllComeBack english now ss n
+unfolding AllComeBack
+all-come-back now fit n h all f fine i k = part-comes-back now fit i (omega arith) (all i k) f fine
+
+fails-first : (now : ℕ) → now ≤ 9999 → {ss : List Step} → Fitting ss → (i : ℕ) (f : Fields) → FirstOf ss i f → FailsFirst english now ss i f
+fails-first now small {ss} fit i f first =
+    record {
+      there = first .there;
+      allowed = rw (first .shows) (witness-fine (stepNeed (partAt ss i)));
+      fails = λ back. part-fails now fit i (first .there) small (first .fails) (rw (first .shows) at back);
+      earlier = all-come-back now fit i (omega (arith, first .there)) (first .earlier);
+    }
+
+-- the whole answer
+
+year-bound : (now : ℤ) → currentYearCheck now ≡ Fine → natAbs now ≤ 9999
+unfolding currentYearCheck
+year-bound (pos n) h =
+    leb-true n 9999 (both-true (leb 1 n) (leb n 9999) (fine-unless (within 1 9999 n) (CurrentYear (pos n)) h) .1)
+year-bound (negsuc n) h = absurd (let z : _≡_ {A = ℕ} 0 1 = cc in omega arith)
+
+answer-says : (p : List ℕ) (now : ℤ) → trustCheck p now ≡ Fine → (v : Verdict) → Tells 0 (steps Full p) v → Says english p now v
+unfolding Tells Says
+answer-says p now fine verdict.Yes h =
+    (fine, all-come-back (natAbs now) (steps-fit p) (length (steps Full p)) (omega arith) h)
+answer-says p now fine (verdict.No part f) h =
+    let small = year-bound now (else-fine (patternCheck p) (currentYearCheck now) fine .1) in
+    let e : part ≡ h .0 = omega (arith, h .1) in
+    (fine, rw e (fails-first (natAbs now) small (steps-fit p) (h .0) f (h .2)))
+answer-says p now fine (verdict.Refused why) h = absurd h
+
+pub verdict-says : (p : List ℕ) (now : ℤ) → Says english p now (verdictOf p now)
+unfolding verdictOf
+verdict-says p now = go (trustCheck p now) refl
+  where
+    go : (c : Checked) → trustCheck p now ≡ c → Says english p now (verdictBy c (firstFailing 0 (steps Full p)))
+    go Fine e = answer-says p now e (firstFailing 0 (steps Full p)) (tells 0 (steps Full p))
+    go (Refused why) e = unfold Says in e

@@ -1,0 +1,71 @@
+-- Demand 3: the check. A part holds where what can follow it meets its need; the first that does not is shown with a record
+-- for which it fails; and the whole answer, "the check 1, 2, 3, 14" first.
+use mathlib.Core.Bool.{Bool, true, false, not}
+use mathlib.Core.List.{List, [], _∷_}
+use Prim.Native.Nat.{ℕ, suc}
+use lib.IntN.{ℤ, pos}
+use Rattle.meaning.specs.Trust.{trustCheck}
+use Rattle.meaning.specs.Writing.{Step, steps}
+use Rattle.meaning.specs.declared.Checked.{Checked}
+use Rattle.meaning.specs.declared.Checked.the-variants.{Fine, Refused}
+use Rattle.meaning.specs.declared.Fields.{Fields}
+use Rattle.meaning.specs.declared.Pair.the-variants.{Full}
+use Rattle.meaning.specs.declared.Verdict.{Verdict}
+use Rattle.meaning.specs.declared.Verdict.the-variants as verdict
+use Rattle.trust.specs.Ahead.{digitFirst, digitSecond}
+use Rattle.trust.specs.Needs.{stepNeed}
+use Rattle.trust.specs.declared.Need.{Need}
+use Rattle.trust.specs.declared.Need.the-variants.{Nothing, NoDigit, NoSecondDigit, Broken}
+
+-- whether what these parts can write meets a need
+unfoldable pub meets : Need → List Step → Bool
+unfolding digitFirst digitSecond
+meets Nothing behind = true
+meets NoDigit behind = not (digitFirst behind)
+meets NoSecondDigit behind = not (digitSecond behind)
+meets Broken behind = false
+
+-- Two records show every failure. Both are real days of the year 1,000,001, whose days are those of 2001, a whole number of
+-- cycles of 400 years before. The first is Monday, 1 January, in week 1, at 1:01:01: each of its numbers has one digit.
+abbrev pub oneDigit : Fields
+oneDigit =
+    record { year = pos 1000001; month = 1; day = 1; doy = 1; week = 1; wday = 1; nanos = 3661000000000; offset = pos 3600 }
+
+-- The second is Wednesday, 10 October, day 283, in week 41, at 10:10:10: each of its numbers has two digits where it can.
+abbrev pub twoDigits : Fields
+twoDigits =
+    record {
+      year = pos 1000001;
+      month = 10;
+      day = 10;
+      doy = 283;
+      week = 41;
+      wday = 3;
+      nanos = 36610000000000;
+      offset = pos 3600;
+    }
+
+-- The record that shows a failure: a digit that follows is taken for a short number's own, a long number is cut, and only a
+-- long number has a second digit.
+abbrev pub witness : Need → Fields
+witness Nothing = twoDigits
+witness NoDigit = oneDigit
+witness NoSecondDigit = twoDigits
+witness Broken = twoDigits
+
+-- the first of these parts that does not hold, counted on from i
+unfoldable pub firstFailing : ℕ → List Step → Verdict
+unfolding stepNeed meets
+firstFailing i [] = verdict.Yes
+firstFailing i (s ∷ ss) =
+    elim (meets (stepNeed s) ss) [ true ↦ firstFailing (suc i) ss | false ↦ verdict.No i (witness (stepNeed s)) ]
+
+-- a refusal, or else what is found of the parts
+abbrev pub verdictBy : Checked → Verdict → Verdict
+verdictBy Fine answer = answer
+verdictBy (Refused why) answer = verdict.Refused why
+
+-- the answer of the check, of the full pair: yes, or no with the part from 0 and the record
+unfoldable pub verdictOf : List ℕ → ℤ → Verdict
+unfolding trustCheck firstFailing steps
+verdictOf p now = verdictBy (trustCheck p now) (firstFailing 0 (steps Full p))

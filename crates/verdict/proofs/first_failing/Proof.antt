@@ -1,0 +1,119 @@
+-- The first failing from here on is the first of all.
+use Prim.Native.Nat.{_+_, _-_, _≤_}
+use borrow.Author.Needs.{needs}
+use borrow.Author.Tests.{not-true, not-false}
+use denote.Ref.{now}
+use lib.ListN.{length, drop}
+use mathlib.Core.Bool.{true, false}
+use mathlib.Core.Path.{_≡_, refl, sym, _∙_}
+use native.Mathlib.Numerals.{add-one}
+use native.Mathlib.Omega.{arith}
+use Rattle.meaning.specs.Writing.{stepOf, steps}
+use Rattle.meaning.specs.declared.Pair.the-variants.{Full}
+use Rattle.pattern.proofs.Laws.{next, starts-here}
+use Rattle.pattern.specs.First.{contentOf}
+use Rattle.trust.proofs.Turns.{failing-on, failing-here}
+use Rattle.trust.specs.Check.{meets, firstFailing}
+use Rattle.trust.specs.Needs.{stepNeed}
+use Rattle.pattern.proofs.Walks.{steps-next, steps-done}
+use Rattle.verdict.proofs.first_failing.Statement.{statement}
+use Rattle.verdict.proofs.first_failing.Tie as tie
+
+abbrev Inv-loop : tie.InvT-loop
+Inv-loop pattern place₀ i₀ place i = (firstFailing i (steps Full (drop place pattern)) ≡ firstFailing 0 (steps Full pattern)) × (i ≤ place)
+
+abbrev μ-loop : tie.MeasureT-loop
+μ-loop pattern place₀ i₀ place i = length pattern - place
+
+loop-holds : tie.Need-loop-holds Inv-loop μ-loop
+loop-holds c = (refl, omega arith)
+
+next-part-requires : tie.Need-next-part-requires Inv-loop μ-loop
+next-part-requires c κs = search needs
+
+part-need-requires : tie.Need-part-need-requires Inv-loop μ-loop
+part-need-requires c κs =
+    let p = now (c .before .before .before .before .args .pattern) in
+    let L = c .before .before .loop in
+    let part = c .next-part .result in
+    let n = next p (L .place) part (c .before .loop-test .taken) (c .next-part .ensures) in
+    starts-here n
+
+add-place : tie.Need-add-place Inv-loop μ-loop
+add-place c =
+    let p = now (c .before .before .before .before .before .before .args .pattern) in
+    let L = c .before .before .before .before .loop in
+    let part = c .before .before .next-part .result in
+    let n = next p (L .place) part (c .before .before .before .loop-test .taken) (c .before .before .next-part .ensures) in
+    omega (arith, n .fits)
+
+meets-requires : tie.Need-meets-requires Inv-loop μ-loop
+meets-requires c κs = search needs
+
+witness-requires : tie.Need-witness-requires Inv-loop μ-loop
+witness-requires c κs = search needs
+
+returns : tie.Need-returns Inv-loop μ-loop
+returns c =
+    let p = now (c .before .before .before .before .before .before .before .before .before .args .pattern) in
+    let L = c .before .before .before .before .before .before .before .loop in
+    let part = c .before .before .before .before .before .next-part .result in
+    let n = next p (L .place) part (c .before .before .before .before .before .before .loop-test .taken) (c .before .before .before .before .before .next-part .ensures) in
+    let here = steps-next Full p (L .place) part n in
+    let s = stepOf Full (contentOf p part) in
+    let ss = steps Full (drop (L .place + part .length) p) in
+    let fails : meets (stepNeed s) ss ≡ false = rw (c .before .before .before .before .part-need .ensures) at (sym (c .before .before .meets .ensures) ∙ not-true (c .before .before .meets .result) (c .before .if1 .taken)) in
+    rw (← L .inv .0, here, failing-here (L .i) s ss fails, ← c .before .before .before .before .part-need .ensures, c .witness .ensures)
+
+add-i : tie.Need-add-i Inv-loop μ-loop
+add-i c =
+    let p = now (c .before .before .before .before .before .before .before .before .args .pattern) in
+    let L = c .before .before .before .before .before .before .loop in
+    let part = c .before .before .before .before .next-part .result in
+    let n = next p (L .place) part (c .before .before .before .before .before .loop-test .taken) (c .before .before .before .before .next-part .ensures) in
+    omega (arith, L .inv .1, n .some, n .fits)
+
+loop-less : tie.Need-loop-less Inv-loop μ-loop
+loop-less c =
+    let p = now (c .before .before .before .before .before .before .before .before .args .pattern) in
+    let L = c .before .before .before .before .before .before .loop in
+    let part = c .before .before .before .before .next-part .result in
+    let n = next p (L .place) part (c .before .before .before .before .before .loop-test .taken) (c .before .before .before .before .next-part .ensures) in
+    omega (arith, n .some, n .fits)
+
+loop-again : tie.Need-loop-again Inv-loop μ-loop
+loop-again c =
+    let p = now (c .before .before .before .before .before .before .before .before .args .pattern) in
+    let L = c .before .before .before .before .before .before .loop in
+    let part = c .before .before .before .before .next-part .result in
+    let n = next p (L .place) part (c .before .before .before .before .before .loop-test .taken) (c .before .before .before .before .next-part .ensures) in
+    let here = steps-next Full p (L .place) part n in
+    let s = stepOf Full (contentOf p part) in
+    let ss = steps Full (drop (L .place + part .length) p) in
+    let holds : meets (stepNeed s) ss ≡ true = rw (c .before .before .before .part-need .ensures) at (sym (c .before .meets .ensures) ∙ not-false (c .before .meets .result) (c .if1 .left)) in
+    (rw add-one (sym (failing-on (L .i) s ss holds) ∙ rw (← here) (L .inv .0)), omega (arith, n .some, L .inv .1))
+
+returns-2 : tie.Need-returns-2 Inv-loop μ-loop
+unfolding firstFailing
+returns-2 c =
+    let p = now (c .before .before .before .args .pattern) in
+    let L = c .before .loop in
+    rw (← L .inv .0, steps-done Full p (L .place) (c .loop-test .left))
+
+pub first-failing-spec : {M : Type 1} → statement M
+first-failing-spec =
+    tie.close
+    (tie.spec
+    Inv-loop
+    μ-loop
+    loop-holds
+    next-part-requires
+    part-need-requires
+    add-place
+    meets-requires
+    witness-requires
+    returns
+    add-i
+    loop-less
+    loop-again
+    returns-2)

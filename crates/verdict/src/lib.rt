@@ -1,0 +1,117 @@
+// Demand 3, the pattern check: whether every part comes back for every allowed record, or the first that does not, with a
+// record that shows it.
+pub mod ahead;
+pub mod needs;
+
+ghost use mathlib.Core.Path.{_≡_};
+ghost use lib.ListN.{drop};
+ghost use Rattle.meaning.specs.Names.{english};
+ghost use Rattle.meaning.specs.Trust.{Says, trustCheck};
+ghost use Rattle.meaning.specs.Writing.{steps};
+ghost use Rattle.trust.specs.Check as trust;
+use ahead::digit_first;
+use ahead::digit_second;
+use fields::checks::current_year_check;
+use fields::checks::or_else;
+use meaning::Checked;
+use meaning::Fields;
+use meaning::Pair;
+use meaning::Verdict;
+use needs::part_need;
+use pattern::next_part;
+use pattern::pattern_check;
+use trust::Need;
+
+// Whether what the parts from a place on can write meets a need.
+fn meets(need: Need, pattern: &[u8], place: usize) -> bool
+    ensures { λ r. ⌜ r ≡ trust.meets need (steps Pair.Full (drop place (now (pattern .entry)))) ⌝ }
+{
+    match need {
+        Need::Nothing => true,
+        Need::NoDigit => !digit_first(pattern, place),
+        Need::NoSecondDigit => !digit_second(pattern, place),
+        Need::Broken => false,
+    }
+}
+
+// Two real days of the year 1,000,001: Monday, 1 January, at 1:01:01, and Wednesday, 10 October, at 10:10:10.
+fn one_digit() -> Fields
+    ensures { λ r. ⌜ r ≡ trust.oneDigit ⌝ }
+{
+    Fields {
+        year: 1000001,
+        month: 1,
+        day: 1,
+        doy: 1,
+        week: 1,
+        wday: 1,
+        nanos: 3661000000000,
+        offset: 3600,
+    }
+}
+
+fn two_digits() -> Fields
+    ensures { λ r. ⌜ r ≡ trust.twoDigits ⌝ }
+{
+    Fields {
+        year: 1000001,
+        month: 10,
+        day: 10,
+        doy: 283,
+        week: 41,
+        wday: 3,
+        nanos: 36610000000000,
+        offset: 3600,
+    }
+}
+
+// A record for which a part with this need fails.
+fn witness(need: Need) -> Fields
+    ensures { λ r. ⌜ r ≡ trust.witness need ⌝ }
+{
+    match need {
+        Need::Nothing => two_digits(),
+        Need::NoDigit => one_digit(),
+        Need::NoSecondDigit => two_digits(),
+        Need::Broken => two_digits(),
+    }
+}
+
+fn first_failing(pattern: &[u8]) -> Verdict
+    ensures { λ r. ⌜ r ≡ trust.firstFailing 0 (steps Pair.Full (now (pattern .entry))) ⌝ }
+{
+    let mut place = 0;
+    let mut i = 0;
+    while place < pattern.len() {
+        let part = next_part(pattern, place);
+        let need = part_need(pattern, part);
+        place += part.length;
+        if !meets(need, pattern, place) {
+            return Verdict::No {
+                part: i,
+                record: witness(need),
+            };
+        }
+        i += 1;
+    }
+    Verdict::Yes
+}
+
+fn trust_check(pattern: &[u8], year: i32) -> Checked
+    ensures { λ r. ⌜ r ≡ trustCheck (now (pattern .entry)) year ⌝ }
+{
+    let of_pattern = pattern_check(pattern);
+    let of_year = current_year_check(year);
+    or_else(of_pattern, of_year)
+}
+
+// Whether a pattern can be trusted to read back what it wrote, in a current year: the refusals 1, 2, 3, 14; yes exactly when
+// every part comes back for every allowed record; else the first part that fails for some record, with such a record.
+pub fn verdict_on(pattern: &[u8], year: i32) -> Verdict
+    ensures { λ r. ⌜ Says english (now (pattern .entry)) year r ⌝ }
+{
+    match trust_check(pattern, year) {
+        Checked::Fine => first_failing(pattern),
+        Checked::Refused(why) => Verdict::Refused(why),
+    }
+}
