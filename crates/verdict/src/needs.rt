@@ -138,10 +138,7 @@ fn run_need(b: u8, count: usize) -> Need
 fn loss_need(lost: bool) -> Need
     ensures { λ r. ⌜ r ≡ when lost Need.Broken Need.Nothing ⌝ }
 {
-    if lost {
-        return Need::Broken;
-    }
-    Need::Nothing
+    if lost { Need::Broken } else { Need::Nothing }
 }
 
 pub fn part_need(pattern: &[u8], part: Part) -> Need
