@@ -1,17 +1,10 @@
 -- The answers of the steps of reading, from what the definitions' readers give: places count from the text's start, and a
 -- step that goes on answers the moved cursor.
-use mathlib.Core.Bool.{Bool}
 use mathlib.Core.Option.{Option, none, some}
-use Prim.Native.Nat.{ℕ, _+_, _*_, _<_}
-use lib.IntN.{pos, _+ℤ_}
-use Rattle.meaning.specs.Numerals.{Signed, integer}
-use Rattle.meaning.specs.Readers.{Got, got, stopped, Reader, _>>=_, done, takeCount, takeYear, ZoneSign, utc, ahead, behindUtc}
-use Rattle.meaning.specs.Reading.{nameCarries, year, zoneGroup}
+use Prim.Native.Nat.{ℕ, _+_}
+use Rattle.meaning.specs.Numerals.{Signed}
+use Rattle.meaning.specs.Readers.{Got, got, stopped}
 use Rattle.meaning.specs.declared.Carried.{Carried}
-use Rattle.meaning.specs.declared.Carried.the-variants.{Value}
-use Rattle.meaning.specs.declared.Group.{Group}
-use Rattle.meaning.specs.declared.NameList.{NameList}
-use Rattle.meaning.specs.declared.ParseUnit.the-variants as unit
 use Rattle.meaning.specs.declared.Trouble.{Trouble}
 use Rattle.meaning.specs.declared.Trouble.the-variants.{TooFew, NoNumber, NoName, NoSign}
 use Rattle.parse.specs.declared.cursor.Matched.{Matched}
@@ -24,10 +17,6 @@ use Rattle.parse.specs.declared.cursor.Taken.{Taken}
 use Rattle.parse.specs.declared.cursor.Taken.the-variants as taken
 use Rattle.parse.specs.declared.numbers.Number.{Number}
 use Rattle.parse.specs.declared.numbers.Number.the-variants as number
-use Rattle.parse.specs.declared.zones.Counted.{Counted}
-use Rattle.parse.specs.declared.zones.Counted.the-variants as counted
-use Rattle.parse.specs.declared.zones.SignRead.{SignRead}
-use Rattle.parse.specs.declared.zones.SignRead.the-variants as sign
 
 -- a number at the front of a text
 
@@ -65,39 +54,3 @@ matchedAt at (stopped why i) = matched.Stopped why (at + i)
 abbrev pub partAt : ℕ → Got Carried → PartRead
 partAt at (got k carried) = part.Got carried (record { at = at + k })
 partAt at (stopped why i) = part.Stopped why (at + i)
-
--- so many bytes of a year, counted on from one: 0 for a year in full, the current millennium for yy
-abbrev pub yearSince : ℕ → ℕ → Reader Carried
-yearSince since k = takeYear k >>= λ z. done (year (z +ℤ pos since))
-
--- a match in a list, whose place must be one of it
-
-abbrev pub namedBy : NameList → Matched → PartRead
-namedBy l (matched.Stopped why place) = part.Stopped why place
-namedBy l (matched.Name index next) = part.Got (nameCarries l index) next
-
-abbrev pub indexBelow : ℕ → Matched → Type 0
-indexBelow n (matched.Stopped why place) = Unit
-indexBelow n (matched.Name index next) = index < n
-
--- zones: a sign, a group of two digits, and all behind the sign
-
-abbrev pub signAt : ℕ → Got ZoneSign → SignRead
-signAt at (got k utc) = sign.Utc (record { at = at + k })
-signAt at (got k ahead) = sign.Ahead (record { at = at + k })
-signAt at (got k behindUtc) = sign.BehindUtc (record { at = at + k })
-signAt at (stopped why i) = sign.Stopped why (at + i)
-
-abbrev pub countedAt : ℕ → Got ℕ → Counted
-countedAt at (got k n) = counted.Number n (record { at = at + k })
-countedAt at (stopped why i) = counted.Stopped why (at + i)
-
-abbrev pub offset : Bool → ℕ → Carried
-offset negative n = Value unit.Offset (integer (record { negative = negative; size = n }))
-
-abbrev pub zoneFrom : Bool → Bool → Group → Group → Reader Carried
-zoneFrom negative c minutes seconds = do
-  hh ← takeCount 2
-  mm ← zoneGroup c minutes
-  ss ← zoneGroup c seconds
-  done (offset negative (hh * 3600 + mm * 60 + ss))

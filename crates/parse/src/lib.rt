@@ -1,10 +1,5 @@
-// Reading, document 01's column Reads: numbers in, the cursor and its steps, what a rule and a part read.
+// Reading, document 01's column Reads, from below: numbers in, the cursor and its steps, how far a greedy number goes.
 pub mod cursor;
 pub mod extent;
-pub mod names;
 pub mod numbers;
-pub mod part;
-pub mod rule;
 pub mod steps;
-pub mod years;
-pub mod zones;

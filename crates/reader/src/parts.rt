@@ -11,7 +11,7 @@ use meaning::Reading;
 use meaning::Refusal;
 use parse::cursor::Cursor;
 use parse::cursor::PartRead;
-use parse::part::parse_part;
+use symbols::part::parse_part;
 use pattern::next_part;
 use reading::no_reading;
 use reading::unit_number;

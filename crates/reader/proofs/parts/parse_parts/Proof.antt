@@ -18,7 +18,7 @@ use Rattle.meaning.specs.Writing.{stepOf}
 use Rattle.meaning.specs.Writing.{steps}
 use Rattle.meaning.specs.declared.Carried.the-variants.{Nothing, Value}
 use Rattle.meaning.specs.declared.Carried.{Carried}
-use Rattle.parse.proofs.Within.{part-stays, within-step}
+use Rattle.symbols.proofs.Within.{part-stays, within-step}
 use Rattle.pattern.proofs.Laws.{next, starts-here}
 use Rattle.pattern.specs.First.{contentOf}
 use Rattle.reader.proofs.Walks.{walk-step, walk-done}
