@@ -12,3 +12,4 @@ pub mod Splitting
 pub mod Sizes
 pub mod Years
 pub mod Zones
+pub mod Determined
