@@ -1,16 +1,16 @@
 -- Laws of decimal text: how many digits there are, that they are digits, and what number they stand for; and the turns of
 -- the loops that count and lay them. Reading a written number back is in Numbers.
-use mathlib.Core.Bool.{Bool, true, false}
+use mathlib.Core.Bool.{true, false}
 use mathlib.Core.List.{List, [], _∷_, _++_, append-assoc, append-nil}
 use mathlib.Core.Path.{_≡_, refl, sym, ap, _∙_}
 use Prim.Native.Nat.{ℕ, zero, suc, _+_, _-_, _*_, _/_, _%_, _^_, _≤_, _<_, max}
 use native.Mathlib.Nat.{add-zero, pow-suc, pow-le-pow-right, lt-of-lt-of-le, div-lt-iff-lt-mul}
 use native.Mathlib.Omega.{arith}
 use lib.Dec.{leb, ltb}
-use lib.ListN.{length, getD, set, replicate, length-append, List·getD-append}
+use lib.ListN.{length, set, replicate, length-append, List·getD-append}
 use lib.Seq.{sets}
 use borrow.Author.Tests.{lt-ltb, le-ltb, ltb-true, ltb-false, le-leb, lt-leb, leb-true}
-use Rattle.meaning.specs.Bytes.{both, isDigit, digitAt, digits, widthIn, width, num}
+use Rattle.meaning.specs.Bytes.{isDigit, digitAt, digits, widthIn, width, num}
 use Rattle.meaning.specs.Numerals.{allDigits, decimal}
 use Rattle.laws.proofs.Laid.{sets-append, set-sets}
 use Rattle.laws.proofs.Tests.{by-test, both-true, both-are}

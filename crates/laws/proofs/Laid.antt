@@ -1,7 +1,7 @@
 -- Laws of laying a list over another, for writers: neighbours join, a turn of a loop that lays byte after byte, and two
 -- writers one after the other. The library's own laws of `sets` are in `lib.Seq`.
 use mathlib.Core.List.{List, [], _∷_, _++_}
-use mathlib.Core.Path.{_≡_, refl, sym, ap, _∙_}
+use mathlib.Core.Path.{_≡_, refl, ap, _∙_}
 use Prim.Native.Nat.{ℕ, suc, _+_, _-_, _≤_, _<_}
 use native.Mathlib.Nat.{add-zero}
 use native.Mathlib.Omega.{arith}

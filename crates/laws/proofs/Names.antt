@@ -8,7 +8,7 @@ use lib.Dec.{eqb}
 use lib.ListN.{length, getD}
 use borrow.Author.Tests.{eq-eqb}
 use Rattle.meaning.specs.Bytes.{when, both}
-use Rattle.meaning.specs.Readers.{Got, got, begins, firstName, matchName}
+use Rattle.meaning.specs.Readers.{got, begins, firstName, matchName}
 use Rattle.laws.proofs.Tests.{both-true, every, every-at, true-is-not-false}
 
 -- neither of two names begins the other

@@ -2,32 +2,29 @@
 -- just its digits where there are as many as it may take or no digit follows.
 use mathlib.Core.Bool.{Bool, true, false}
 use mathlib.Core.List.{List, [], _∷_, _++_}
-use mathlib.Core.Option.{Option, none, some}
-use mathlib.Core.Path.{_≡_, refl, ap, _∙_}
-use Prim.Native.Nat.{ℕ, zero, suc, _+_, _-_, _^_, _≤_, _<_, max}
+use mathlib.Core.Option.{some}
+use mathlib.Core.Path.{_≡_, _∙_}
+use Prim.Native.Nat.{ℕ, _+_, _-_, _≤_, _<_}
 use native.Mathlib.Nat.{add-zero}
 use native.Mathlib.Omega.{arith}
-use lib.Dec.{leb, eqb}
 use lib.IntN.{pos}
-use lib.ListN.{length, take, drop, length-append}
+use lib.ListN.{length, take, length-append}
 use lib.Seq.{take-append-seam}
 use borrow.Author.Tests.{le-leb, ne-eqb}
-use Rattle.meaning.specs.Bytes.{both, isDigit, digitAt, num, width}
+use Rattle.meaning.specs.Bytes.{isDigit, digitAt}
 use Rattle.meaning.specs.Names.{Book}
-use Rattle.meaning.specs.Numerals.{Signed, allDigits, decimal, signOf, sized, largest, numberOf, sizedBy}
-use Rattle.meaning.specs.Readers.{Got, got, Reader, _>>=_, _>>_, done, skip, takeNumber, reach}
+use Rattle.meaning.specs.Numerals.{Signed, allDigits, decimal, signOf, sized, largest, numberOf}
+use Rattle.meaning.specs.Readers.{got, reach}
 use Rattle.meaning.specs.Reading.{readRule, zeroFor}
-use Rattle.meaning.specs.declared.Carried.{Carried}
 use Rattle.meaning.specs.declared.Carried.the-variants.{Nothing, Value}
 use Rattle.meaning.specs.declared.Numeral.{Numeral}
 use Rattle.meaning.specs.declared.Numeral.the-variants.{Count, Year}
 use Rattle.meaning.specs.declared.ParseUnit.{ParseUnit}
 use Rattle.meaning.specs.declared.Quantity.{Quantity}
 use Rattle.meaning.specs.declared.Rule.the-variants.{Number, SkippedNumber}
-use Rattle.meaning.specs.declared.Sign.{Sign}
-use Rattle.meaning.specs.declared.Sign.the-variants.{Plus, Minus, Bare}
-use Rattle.laws.proofs.Digits.{digit-bounds, digit-in, digit-behind, all-num, decimal-num, length-num, num-some, width-at-most}
-use Rattle.laws.proofs.Readers.{goes-on, skip-goes-on, take-goes-on, reach-exact}
+use Rattle.meaning.specs.declared.Sign.the-variants.{Bare}
+use Rattle.laws.proofs.Digits.{digit-bounds, digit-in, digit-behind}
+use Rattle.laws.proofs.Readers.{skip-goes-on, take-goes-on, reach-exact}
 use Rattle.laws.proofs.Tests.{both-true}
 
 -- a digit is no sign

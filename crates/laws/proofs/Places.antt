@@ -1,11 +1,9 @@
 -- The name that a record asks for is there: its place is below its list's length, for English and an allowed record.
-use mathlib.Core.Bool.{Bool, true, false}
-use mathlib.Core.Path.{_≡_}
-use Prim.Native.Nat.{ℕ, _-_, _/_, _≤_, _<_}
+use Prim.Native.Nat.{ℕ, _-_, _<_}
 use native.Mathlib.Omega.{arith}
 use lib.Dec.{eqb, ltb}
 use lib.ListN.{length}
-use Rattle.meaning.specs.Bytes.{when, bytes}
+use Rattle.meaning.specs.Bytes.{bytes}
 use Rattle.meaning.specs.Names.{english, names}
 use Rattle.meaning.specs.Writing.{isNegative, eraPlace, periodPlace, noonPlace, placeOf, secondOfDay}
 use Rattle.meaning.specs.declared.Fields.{Fields}

@@ -1,20 +1,19 @@
 -- Laws of the readers that reading is made of: what each step gives where it goes on and where it stops, and one reader
 -- after the other. Proofs about reading cite these and do not open `skip` or `takeNumber`.
-use mathlib.Core.Bool.{Bool, true, false}
-use mathlib.Core.List.{List, [], _∷_, _++_}
-use mathlib.Core.Option.{Option, none, some}
-use mathlib.Core.Path.{_≡_, refl, ap, _∙_}
+use mathlib.Core.Bool.{true, false}
+use mathlib.Core.List.{List, _++_}
+use mathlib.Core.Option.{none, some}
+use mathlib.Core.Path.{_≡_, _∙_}
 use Prim.Native.Nat.{ℕ, zero, suc, _+_, _≤_, _<_}
 use native.Mathlib.Nat.{eq-or-lt-of-le}
 use mathlib.Core.Logic.{_⊎_, inl, inr}
 use native.Mathlib.Omega.{arith}
-use lib.Dec.{ltb}
 use lib.ListN.{length, take, drop}
 use lib.Seq.{drop-append-seam}
 use borrow.Author.Tests.{lt-ltb, le-ltb}
 use Rattle.meaning.specs.Bytes.{digitAt}
 use Rattle.meaning.specs.Numerals.{Signed, numberOf}
-use Rattle.meaning.specs.Readers.{Got, got, stopped, Reader, behind, _>>=_, skip, takeNumber, reach}
+use Rattle.meaning.specs.Readers.{got, stopped, Reader, behind, _>>=_, skip, takeNumber, reach}
 use Rattle.meaning.specs.declared.Numeral.{Numeral}
 use Rattle.meaning.specs.declared.Trouble.{Trouble}
 use Rattle.meaning.specs.declared.Trouble.the-variants.{TooFew, NoNumber}

@@ -2,12 +2,12 @@
 -- is tested as a whole by computation; the test is lifted to each symbol and count.
 use mathlib.Core.Bool.{Bool, true, false}
 use mathlib.Core.List.{List, [], _∷_, _++_, map}
-use mathlib.Core.Path.{_≡_, refl, sym, ap, _∙_}
+use mathlib.Core.Path.{_≡_, refl}
 use Prim.Native.Nat.{ℕ, zero, suc, _+_, _*_, _-_, _/_, _%_, _^_, _≤_, _<_, max}
 use native.Mathlib.Omega.{arith}
 use lib.Dec.{eqb, leb, ltb}
 use lib.IntN.{ℤ, pos, negsuc, natAbs}
-use lib.ListN.{length, getD, take, replicate, length-append, length-take, length-replicate}
+use lib.ListN.{length, getD, replicate, length-append, length-take, length-replicate}
 use borrow.Author.Tests.{leb-true, leb-false, eqb-true, eqb-false, ltb-true}
 use Rattle.meaning.specs.Answers.{_else_, fieldsCheck, patternCheck, bytesCheck, refuseUnless, byteCheck}
 use Rattle.meaning.specs.Bytes.{when, both, bytes, num, quote}
@@ -16,13 +16,11 @@ use Rattle.meaning.specs.Reading.{colonLength}
 use Rattle.meaning.specs.Rules.{Counts, just, upTo, among, Row, _is_, Otherwise, always, fixedYear, otherwiseRule, pick, Symbol, ruleOf, roleAmong, dateSymbols, timeSymbols, dateRole, timeRole, roleOf, orElse}
 use Rattle.meaning.specs.Splitting.{Content, run, quotes, quoted, unclosed, contents, lengthOf, insideLength}
 use Rattle.meaning.specs.Whole.{text}
-use Rattle.meaning.specs.Writing.{quantityOf, signedText, twoDigitText, offsetText, groupText, isThere, colonText, zoneText, nameText, placeOf, ruleText, isNegative, Step, literal, field, runStep, stepOf, endsInQuote, steps, stepText, texts}
-use Rattle.meaning.specs.declared.Checked.{Checked}
-use Rattle.meaning.specs.declared.Checked.the-variants.{Fine, Refused}
+use Rattle.meaning.specs.Writing.{quantityOf, signedText, twoDigitText, offsetText, groupText, isThere, colonText, zoneText, nameText, placeOf, ruleText, isNegative, literal, runStep, stepOf, endsInQuote, steps, stepText, texts}
+use Rattle.meaning.specs.declared.Checked.the-variants.{Fine}
 use Rattle.meaning.specs.declared.Fields.{Fields}
 use Rattle.meaning.specs.declared.Group.{Group}
 use Rattle.meaning.specs.declared.Group.the-variants.{Never, NotZero, Always}
-use Rattle.meaning.specs.declared.NameList.{NameList}
 use Rattle.meaning.specs.declared.Pair.{Pair}
 use Rattle.meaning.specs.declared.Pair.the-variants.{Full, Date}
 use Rattle.meaning.specs.declared.Quantity.the-variants.{Quarter}
@@ -33,10 +31,10 @@ use Rattle.meaning.specs.declared.Rule.{Rule}
 use Rattle.meaning.specs.declared.Rule.the-variants.{Number, SkippedNumber, LetterQuarter, SkippedName, MatchedName, Letters, Years, FixedYear, TwoDigitYear, Zone}
 use Rattle.laws.specs.Widths.{mostDigits, longest, groupMost, mostBytes}
 use Rattle.laws.proofs.Checks.{else-fine, fine-unless}
-use Rattle.laws.proofs.Digits.{length-num, num-fits, width-at-most}
+use Rattle.laws.proofs.Digits.{length-num, width-at-most}
 use Rattle.laws.proofs.Fields.{Allowed, allowed, quantity-below}
 use Rattle.laws.proofs.Splitting.{total, parts-fill, isSome, runs-are-some}
-use Rattle.laws.proofs.Tests.{by-test, both-true, every, when-is, true-is-not-false}
+use Rattle.laws.proofs.Tests.{both-true, every, when-is}
 
 -- what a rule writes
 

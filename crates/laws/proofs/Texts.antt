@@ -3,7 +3,7 @@
 use mathlib.Core.List.{List, [], _∷_, _++_, append-assoc}
 use mathlib.Core.Path.{_≡_, refl, ap, _∙_}
 use Prim.Native.Nat.{ℕ, suc, _<_}
-use lib.ListN.{length, getD, take, drop}
+use lib.ListN.{length, take, drop}
 use lib.Seq.{drop-append-seam, split-at}
 use Rattle.meaning.specs.Names.{Book}
 use Rattle.meaning.specs.Trust.{partAt, startOf}

@@ -1,11 +1,11 @@
 -- Zones come back: each group of two digits does, where one that is left out has no digit in its place, and so does the
 -- whole offset, cut to minutes where seconds are never written.
 use mathlib.Core.Bool.{Bool, true, false}
-use mathlib.Core.List.{List, [], _∷_, _++_, append-assoc}
+use mathlib.Core.List.{List, _∷_, _++_, append-assoc}
 use mathlib.Core.Option.{some}
 use mathlib.Core.Path.{_≡_, refl, sym, ap, _∙_}
 use Prim.Native.Char.{Char, code}
-use Prim.Native.Nat.{ℕ, zero, suc, _+_, _*_, _/_, _%_, _≤_, _<_}
+use Prim.Native.Nat.{ℕ, suc, _+_, _*_, _/_, _%_, _≤_, _<_}
 use native.Mathlib.Nat.{add-zero}
 use native.Mathlib.Omega.{arith}
 use lib.Dec.{eqb}
@@ -16,7 +16,7 @@ use borrow.Author.Tests.{eqb-true}
 use Rattle.meaning.specs.Bytes.{when, both, digitAt, num, plus, minus}
 use Rattle.meaning.specs.Names.{Book}
 use Rattle.meaning.specs.Numerals.{Signed, numberOf}
-use Rattle.meaning.specs.Readers.{got, Reader, _>>=_, done, skip, takeCount, ZoneSign, ahead, behindUtc, zoneSign}
+use Rattle.meaning.specs.Readers.{got, _>>=_, done, skip, takeCount, ahead, behindUtc, zoneSign}
 use Rattle.meaning.specs.Reading.{colonLength, takeGroup, zoneGroup, zoneSize, zoneBehind, readRule, carriedOffset}
 use Rattle.meaning.specs.Writing.{isNegative, colonText, groupText, offsetText, zoneText}
 use Rattle.meaning.specs.declared.Carried.the-variants.{Value}

@@ -1,5 +1,5 @@
 -- How many bytes a quantity, a name and a rule can write at most, for a record that is allowed.
-use mathlib.Core.Bool.{Bool, true, false}
+use mathlib.Core.Bool.{Bool}
 use mathlib.Core.List.{List, [], _∷_}
 use Prim.Native.Nat.{ℕ, _+_, max}
 use lib.ListN.{length}

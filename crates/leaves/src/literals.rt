@@ -1,5 +1,4 @@
 // Literals: what stands between quotes, with a quote for each escaped one.
-ghost use mathlib.Core.Path.{_≡_};
 ghost use Prim.Native.Nat.{_+_, _≤_};
 ghost use lib.ListN.{length};
 ghost use Rattle.laws.specs.Laid.{Laid};

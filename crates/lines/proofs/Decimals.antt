@@ -1,8 +1,8 @@
 -- Laws of decimal numbers: a turn of the loop over digits, and where it ends.
 use mathlib.Core.Bool.{Bool, true, false}
 use mathlib.Core.List.{List, [], _∷_}
-use mathlib.Core.Path.{_≡_, refl, ap, sym, _∙_}
-use Prim.Native.Nat.{ℕ, zero, suc, _+_, _*_, _-_, _^_, _≤_, _<_}
+use mathlib.Core.Path.{_≡_, refl}
+use Prim.Native.Nat.{ℕ, suc, _+_, _*_, _-_, _^_, _≤_, _<_}
 use native.Mathlib.Nat.{pow-le-pow-right}
 use native.Mathlib.Omega.{arith}
 use lib.Dec.{leb}
@@ -14,7 +14,7 @@ use Rattle.laws.proofs.Tests.{by-test}
 use Rattle.lines.specs.Decimal.{sizeBehind, sizeOf, signed, numberOf}
 use Rattle.lines.specs.declared.numbers.Size.the-variants.{Bad, Is}
 use Rattle.lines.specs.declared.numbers.Number.the-variants as number
-use Rattle.meaning.specs.Bytes.{when, both, isDigit}
+use Rattle.meaning.specs.Bytes.{both}
 use Rattle.meaning.specs.Numerals.{allDigits, decimal}
 
 grows : (n : ℕ) (s : List ℕ) → n ≤ decimal n s

@@ -2,9 +2,8 @@
 use mathlib.Core.Bool.{Bool, true, false}
 use mathlib.Core.List.{List, [], _∷_}
 use mathlib.Core.Path.{_≡_, refl, ap, sym, _∙_}
-use Prim.Native.Nat.{ℕ, zero, suc, _+_, _*_, _/_, _%_, _≤_, _<_}
+use Prim.Native.Nat.{ℕ, suc, _+_, _*_, _/_, _%_, _≤_, _<_}
 use native.Mathlib.Omega.{arith}
-use lib.Dec.{ltb}
 use lib.ListN.{length, getD, set, drop, drop-of-length-le, length-set}
 use lib.Seq.{sets, drop-cons}
 use borrow.Author.Tests.{lt-ltb, le-ltb}
@@ -13,7 +12,7 @@ use Rattle.laws.specs.Laid.{Laid}
 use Rattle.laws.proofs.Tests.{by-test, true-is-not-false}
 use Rattle.lines.specs.Hex.{digitValue, isHexDigit, isHex, fromHex, toHex, decoded, Decodes}
 use Rattle.lines.specs.declared.hex.Decoded.the-variants.{Bad, Length}
-use Rattle.meaning.specs.Bytes.{when, both}
+use Rattle.meaning.specs.Bytes.{both}
 
 -- the next two digits
 pub pair-at : (s : List ℕ) (i : ℕ) → i + 1 < length s → drop i s ≡ getD s i 0 ∷ (getD s (i + 1) 0 ∷ drop (i + 2) s)

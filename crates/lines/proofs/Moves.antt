@@ -1,10 +1,10 @@
 -- Laws of moving bytes down in a row: a turn reads a byte that no turn before has written.
 use mathlib.Core.List.{List}
-use mathlib.Core.Path.{_≡_, refl, ap, sym, _∙_}
-use Prim.Native.Nat.{ℕ, suc, _+_, _≤_, _<_}
+use mathlib.Core.Path.{_≡_, ap, sym, _∙_}
+use Prim.Native.Nat.{ℕ, _+_, _≤_, _<_}
 use native.Mathlib.Omega.{arith}
 use lib.ListN.{length, getD, set, take, drop, length-set, length-take, length-drop}
-use lib.Seq.{sets, drop-cons, drop-set-lt, drop-drop, getD-drop, getD-take}
+use lib.Seq.{sets, drop-set-lt, drop-drop, getD-drop, getD-take}
 use Rattle.laws.proofs.Laid.{lay-next, lay-done}
 
 -- what is moved

@@ -1,7 +1,6 @@
 -- Decimal numbers of the protocol: a sign and a size that fits 64 bits, and a number as text.
 use mathlib.Core.Bool.{Bool, true, false}
 use mathlib.Core.List.{List, [], _∷_, _++_}
-use mathlib.Core.Path.{_≡_}
 use Prim.Native.Nat.{ℕ, _+_, _≤_}
 use lib.Dec.{eqb, leb}
 use lib.ListN.{length}

@@ -2,7 +2,7 @@
 use mathlib.Core.List.{List}
 use mathlib.Core.Path.{_≡_}
 use Prim.Native.Nat.{ℕ, _+_, _≤_, min}
-use lib.ListN.{length, take, drop}
+use lib.ListN.{length}
 use Rattle.bytes.specs.Bytes.{indexOf, slice}
 
 pub record IsWord (line : List ℕ) (at start end : ℕ) : Type 0 where

@@ -1,7 +1,6 @@
 // Words, separated by one space. A word that is missing is empty, and so is one between two spaces.
 ghost use mathlib.Core.Path.{_≡_};
-ghost use Prim.Native.Nat.{_≤_, _+_, min};
-ghost use lib.ListN.{length};
+ghost use Prim.Native.Nat.{min};
 ghost use Rattle.lines.specs.Words.{IsWord};
 
 pub struct Word {

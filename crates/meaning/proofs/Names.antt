@@ -1,7 +1,6 @@
 -- The English names agree with each other: short and narrow names are the beginnings of the wide ones.
-use mathlib.Core.List.{List, map}
+use mathlib.Core.List.{map}
 use mathlib.Core.Path.{_≡_, refl}
-use Prim.Native.Nat.{ℕ}
 use lib.ListN.{take}
 use Rattle.meaning.specs.Bytes.{bytes}
 use Rattle.meaning.specs.Names.{Book, english}

@@ -5,7 +5,7 @@ use mathlib.Core.List.{List, [], _∷_, _++_}
 use Prim.Native.Char.{Char, code}
 use Prim.Native.Nat.{ℕ, zero, suc, _+_, _/_, _%_, max}
 use Prim.Native.String.{String, [] as []ˢ, _∷_ as _∷ˢ_}
-use lib.Dec.{eqb, leb, ltb}
+use lib.Dec.{leb, ltb}
 use lib.ListN.{getD}
 
 -- the first where the test holds, else the second

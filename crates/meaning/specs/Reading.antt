@@ -2,13 +2,13 @@
 -- zones; and "Splitting", what a read of literals skips. The steps are those of Readers.
 use mathlib.Core.Bool.{Bool, true, false}
 use mathlib.Core.List.{List, [], _∷_}
-use Prim.Native.Nat.{ℕ, zero, suc, _+_, _*_, _-_, _/_}
+use Prim.Native.Nat.{ℕ, suc, _+_, _*_, _-_, _/_}
 use lib.Dec.{eqb, ltb}
 use lib.IntN.{ℤ, pos, negℤ, natAbs, _+ℤ_}
 use lib.ListN.{length, drop}
-use Rattle.meaning.specs.Bytes.{when, both, isDigit, digitAt, minus}
+use Rattle.meaning.specs.Bytes.{when, isDigit, digitAt, minus}
 use Rattle.meaning.specs.Names.{Book, names}
-use Rattle.meaning.specs.Readers.{Got, got, stopped, Reader, _>>=_, _>>_, done, skip, takeCount, takeYear, takeNumber, reach, ifDigit, matchName, letters, ZoneSign, utc, ahead, behindUtc, zoneSign}
+use Rattle.meaning.specs.Readers.{Reader, _>>=_, _>>_, done, skip, takeCount, takeYear, reach, ifDigit, matchName, letters, ZoneSign, utc, ahead, behindUtc, zoneSign}
 use Rattle.meaning.specs.Writing.{quantityOf, secondOfDay, isNegative, Step, literal, field}
 use Rattle.meaning.specs.declared.Carried.{Carried}
 use Rattle.meaning.specs.declared.Carried.the-variants.{Nothing, Value}

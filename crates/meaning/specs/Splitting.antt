@@ -1,6 +1,6 @@
 -- Document 01, "Splitting": the elements of a pattern from left to right, what its parts hold, and the parts with their
 -- places. What a part does is in Writing and Reading.
-use mathlib.Core.Bool.{Bool, true, false}
+use mathlib.Core.Bool.{true, false}
 use mathlib.Core.List.{List, [], _∷_}
 use Prim.Native.Nat.{ℕ, suc, _+_, _*_}
 use lib.Dec.{eqb}

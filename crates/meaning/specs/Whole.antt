@@ -4,16 +4,16 @@ use mathlib.Core.Bool.{Bool, true, false}
 use mathlib.Core.List.{List, [], _∷_, _++_, map}
 use mathlib.Core.Option.{Option, none, some}
 use Prim.Native.Char.{Char, code}
-use Prim.Native.Nat.{ℕ, zero, suc, _+_, _*_, _-_, _/_, _%_, _^_}
+use Prim.Native.Nat.{ℕ, suc, _+_, _*_, _-_, _/_, _%_, _^_}
 use lib.Dec.{eqb, leb}
 use lib.IntN.{ℤ, pos, negℤ, natAbs}
 use lib.ListN.{length, getD, take, drop, replicate}
 use lib.Seq.{sets}
 use Rattle.meaning.specs.Answers.{_else_, refuseUnless, bytesCheck, patternCheck, fieldsCheck, roomCheck, textCheck, currentYearCheck}
-use Rattle.meaning.specs.Bytes.{when, both, plus}
+use Rattle.meaning.specs.Bytes.{when, plus}
 use Rattle.meaning.specs.Names.{Book}
 use Rattle.meaning.specs.Numerals.{Signed, numberOf}
-use Rattle.meaning.specs.Readers.{Got, got, stopped}
+use Rattle.meaning.specs.Readers.{got, stopped}
 use Rattle.meaning.specs.Reading.{readStep}
 use Rattle.meaning.specs.Splitting.{parts, noPart}
 use Rattle.meaning.specs.Writing.{Step, steps, texts}

@@ -1,5 +1,5 @@
 -- Laws of the cursor's steps: what a step answers, from what the number reader and the matcher found in the remaining text.
-use mathlib.Core.Bool.{Bool, true, false}
+use mathlib.Core.Bool.{Bool}
 use mathlib.Core.List.{List}
 use mathlib.Core.Option.{Option, none, some}
 use mathlib.Core.Path.{_≡_, refl}
@@ -7,7 +7,7 @@ use Prim.Native.Nat.{ℕ, _+_, _-_, _≤_, _<_}
 use native.Mathlib.Nat.{add-zero}
 use native.Mathlib.Omega.{arith}
 use lib.Dec.{ltb}
-use lib.ListN.{length, take, drop}
+use lib.ListN.{length, take}
 use borrow.Author.Tests.{ltb-false, lt-ltb, le-ltb}
 use Rattle.constants.proofs.Answers.{found-name, found-nothing}
 use Rattle.constants.specs.Table.{foundIn}

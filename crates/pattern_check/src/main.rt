@@ -1,7 +1,7 @@
 // The program of document 01: it prints one line for a pattern on standard input, up to the first newline, in the current year
 // 2025: `yes`, `no P` with P the part, or `refused N`.
 ghost use mathlib.Core.Path.{_≡_};
-ghost use Prim.Native.Nat.{_+_, _≤_};
+ghost use Prim.Native.Nat.{_≤_};
 ghost use lib.ListN.{length};
 use leaves::numbers::put_byte;
 use leaves::numbers::put_bytes;

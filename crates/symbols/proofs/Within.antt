@@ -1,20 +1,20 @@
 -- No reader takes more than there is: each step, one after the other, a rule, a part. So a cursor that moves on stays in its text.
-use mathlib.Core.Bool.{Bool, true, false}
+use mathlib.Core.Bool.{Bool}
 use mathlib.Core.List.{List, [], _∷_}
 use mathlib.Core.Option.{Option, none, some}
 use mathlib.Core.Path.{_≡_, refl}
 use Prim.Native.Char.{Char, code}
-use Prim.Native.Nat.{ℕ, suc, _+_, _-_, _≤_, _<_}
+use Prim.Native.Nat.{ℕ, suc, _+_, _-_, _≤_}
 use native.Mathlib.Omega.{arith}
 use borrow.Author.Tests.{ltb-false}
 use lib.Dec.{eqb, ltb}
 use lib.ListN.{length, take, drop, length-take, length-drop}
 use Rattle.constants.proofs.Answers.{found-within}
 use Rattle.laws.proofs.Tests.{when-is}
-use Rattle.meaning.specs.Bytes.{when, both, digitAt, plus, minus}
+use Rattle.meaning.specs.Bytes.{both, digitAt, plus, minus}
 use Rattle.meaning.specs.Names.{Book, names}
 use Rattle.meaning.specs.Numerals.{Signed, numberOf}
-use Rattle.meaning.specs.Readers.{Got, got, stopped, Reader, behind, goOn, _>>=_, _>>_, done, skip, takenNumber, takeNumber, takeCount, takeYear, reach, ifDigit, matchName, letters, ZoneSign, utc, ahead, behindUtc, zoneSign}
+use Rattle.meaning.specs.Readers.{Got, got, stopped, Reader, behind, goOn, _>>=_, _>>_, skip, takenNumber, takeNumber, takeCount, takeYear, reach, matchName, letters, ZoneSign, utc, ahead, behindUtc, zoneSign}
 use Rattle.meaning.specs.Reading.{readRule, readStep, passed, takenYear, minusFirst, zoneBehind, zoneSize, zoneGroup, takeGroup, colonLength}
 use Rattle.meaning.specs.Writing.{Step, literal, field}
 use Rattle.meaning.specs.declared.Carried.{Carried}

@@ -1,6 +1,6 @@
 -- Laws of zones: what each step gives at a cursor, from what the step before it gave.
 use mathlib.Core.Bool.{Bool, true, false}
-use mathlib.Core.List.{List, [], _∷_}
+use mathlib.Core.List.{List}
 use mathlib.Core.Path.{_≡_, refl, sym, ap, _∙_}
 use Prim.Native.Char.{Char, code}
 use Prim.Native.Nat.{ℕ, _+_, _≤_, _<_}
@@ -20,7 +20,7 @@ use Rattle.meaning.specs.declared.Group.{Group}
 use Rattle.meaning.specs.declared.Numeral.the-variants.{Count}
 use Rattle.meaning.specs.declared.ParseUnit.the-variants as unit
 use Rattle.meaning.specs.declared.Trouble.the-variants.{TooFew, NoSign}
-use Rattle.parse.proofs.Parts.{madeOf, made, made-on}
+use Rattle.parse.proofs.Parts.{madeOf, made}
 use Rattle.parse.specs.Steps.{takenAt, skippedAt, partAt}
 use Rattle.symbols.specs.Symbols.{countedAt, signAt, offset, zoneFrom}
 use Rattle.parse.specs.declared.cursor.PartRead.{PartRead}

@@ -5,11 +5,11 @@ ghost use lib.ListN.{length};
 ghost use Rattle.meaning.specs.Names.{names, english};
 ghost use Rattle.meaning.specs.Reading as reading;
 ghost use Rattle.symbols.specs.Symbols.{namedBy, indexBelow};
-use parse::cursor::Matched;
-use parse::cursor::PartRead;
 use meaning::Carried;
 use meaning::NameList;
 use meaning::ParseUnit;
+use parse::cursor::Matched;
+use parse::cursor::PartRead;
 
 fn month_at(i: usize) -> Carried
     requires { ⌜ i < 12 ⌝ }

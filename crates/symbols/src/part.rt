@@ -9,14 +9,14 @@ ghost use Rattle.meaning.specs.Writing.{runStep, stepOf};
 ghost use Rattle.parse.specs.Steps.{partAt};
 ghost use Rattle.pattern.proofs.Laws.{Next};
 ghost use Rattle.pattern.specs.First.{contentOf};
-use parse::cursor::Cursor;
-use parse::cursor::PartRead;
 use crate::rule::parse_rule;
-use parse::steps::pass;
 use meaning::Kind;
 use meaning::Pair;
 use meaning::Part;
 use meaning::Role;
+use parse::cursor::Cursor;
+use parse::cursor::PartRead;
+use parse::steps::pass;
 use pattern::quoted::unescaped_length;
 use rules::role_of;
 

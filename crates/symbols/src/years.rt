@@ -5,14 +5,14 @@ ghost use lib.ListN.{length, drop};
 ghost use Rattle.meaning.specs.Reading as reading;
 ghost use Rattle.parse.specs.Steps.{partAt};
 ghost use Rattle.symbols.specs.Symbols.{yearSince};
-use parse::cursor::Cursor;
-use parse::cursor::PartRead;
-use parse::cursor::Taken;
-use parse::numbers::integer_of;
 use meaning::Carried;
 use meaning::Numeral;
 use meaning::ParseUnit;
 use meaning::Trouble;
+use parse::cursor::Cursor;
+use parse::cursor::PartRead;
+use parse::cursor::Taken;
+use parse::numbers::integer_of;
 
 // So many bytes of a year, counted on from one.
 fn take_year(since: u32, k: usize, text: &[u8], cursor: Cursor) -> PartRead

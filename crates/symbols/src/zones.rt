@@ -8,16 +8,16 @@ ghost use Rattle.meaning.specs.Readers as reads;
 ghost use Rattle.meaning.specs.Reading as reading;
 ghost use Rattle.parse.specs.Steps.{partAt};
 ghost use Rattle.symbols.specs.Symbols.{signAt, countedAt, zoneFrom};
-use parse::cursor::Cursor;
-use parse::cursor::PartRead;
-use parse::cursor::Skipped;
-use parse::cursor::Taken;
-use parse::numbers::integer_of;
 use meaning::Carried;
 use meaning::Group;
 use meaning::Numeral;
 use meaning::ParseUnit;
 use meaning::Trouble;
+use parse::cursor::Cursor;
+use parse::cursor::PartRead;
+use parse::cursor::Skipped;
+use parse::cursor::Taken;
+use parse::numbers::integer_of;
 
 pub enum SignRead {
     Stopped { trouble: Trouble, place: usize },

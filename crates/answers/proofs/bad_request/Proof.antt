@@ -4,9 +4,6 @@ use Rattle.io.proofs.Counting.{counts}
 use borrow.Author.Needs.{needs}
 use Rattle.answers.proofs.bad_request.Statement.{statement}
 use Rattle.answers.proofs.bad_request.Tie as tie
-use Rattle.answers.proofs.bad_request.Reads as reads
-use Rattle.answers.proofs.bad_request.Lts as lts
-use Rattle.leaves.proofs.numbers.put_bytes.Reads as put-bytes-reads
 
 -- src/lib.rt:40:15
 slice-aggregate-put-bytes : tie.Need-slice-aggregate-put-bytes

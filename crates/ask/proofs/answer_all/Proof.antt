@@ -1,14 +1,10 @@
 -- The rows keep their lengths, and what is held stays small; the turns are counted down.
 use mathlib.Core.Path.{_≡_}
 use Prim.Native.Nat.{_≤_}
-use native.Mathlib.Omega.{arith}
 use lib.ListN.{length}
 use borrow.Author.Needs.{needs}
 use Rattle.ask.proofs.answer_all.Statement.{statement}
 use Rattle.ask.proofs.answer_all.Tie as tie
-use Rattle.ask.proofs.answer_all.Reads as reads
-use Rattle.ask.proofs.answer_all.Lts as lts
-use Rattle.ask.proofs.read_more.Reads as read-more-reads
 
 abbrev Inv-loop : tie.InvT-loop
 Inv-loop row₀ out₀ turns₀ held₀ row out turns held = (length row ≡ 65536) × (length out ≡ 65536) × (length row₀ ≡ 65536) × (length out₀ ≡ 65536) × (held ≤ 20001)

@@ -1,16 +1,11 @@
 -- The line from here on ends at `end` or has not ended, and the output keeps its length.
-use mathlib.Core.Path.{_≡_, refl}
+use mathlib.Core.Path.{_≡_}
 use Prim.Native.Nat.{_-_, _≤_}
 use native.Mathlib.Omega.{arith}
 use lib.ListN.{length}
 use borrow.Author.Needs.{needs}
 use Rattle.ask.proofs.answer_lines.Statement.{statement}
 use Rattle.ask.proofs.answer_lines.Tie as tie
-use Rattle.ask.proofs.answer_lines.Reads as reads
-use Rattle.ask.proofs.answer_lines.Lts as lts
-use Rattle.ask.proofs.add_answer.Reads as add-answer-reads
-use Rattle.ask.proofs.write_out.Reads as write-out-reads
-use Rattle.lines.proofs.input.line_end.Reads as line-end-reads
 
 abbrev Inv-loop : tie.InvT-loop
 Inv-loop bytes out₀ at₀ filled₀ end₀ out at filled end = (at ≤ end) × (end ≤ length bytes) × (filled ≤ 65536) × (length out ≡ 65536) × (length out₀ ≡ 65536)

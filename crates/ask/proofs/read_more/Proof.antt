@@ -5,13 +5,6 @@ use lib.Seq.{length-take-le}
 use borrow.Author.Needs.{needs}
 use Rattle.ask.proofs.read_more.Statement.{statement}
 use Rattle.ask.proofs.read_more.Tie as tie
-use Rattle.ask.proofs.read_more.Reads as reads
-use Rattle.ask.proofs.read_more.Lts as lts
-use Rattle.ask.proofs.answer_last.Reads as answer-last-reads
-use Rattle.ask.proofs.answer_lines.Reads as answer-lines-reads
-use Rattle.ask.proofs.kept.Reads as kept-reads
-use Rattle.lines.proofs.input.read_behind.Reads as read-behind-reads
-use Rattle.lines.proofs.input.move_down.Reads as move-down-reads
 
 -- src/main.rt:97:9
 read-behind-requires : tie.Need-read-behind-requires

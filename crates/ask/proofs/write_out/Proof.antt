@@ -5,9 +5,6 @@ use borrow.Author.Needs.{needs}
 use denote.Ref.{now}
 use Rattle.ask.proofs.write_out.Statement.{statement}
 use Rattle.ask.proofs.write_out.Tie as tie
-use Rattle.ask.proofs.write_out.Reads as reads
-use Rattle.ask.proofs.write_out.Lts as lts
-use Rattle.io.proofs.write_all.Reads as write-all-reads
 
 -- src/main.rt:20:34
 slice-aggregate-write-all : tie.Need-slice-aggregate-write-all

@@ -1,7 +1,6 @@
 -- Each refusal has the number and the details of the table.
 use mathlib.Core.List.{[], _∷_}
 use mathlib.Core.Path.{refl, ap, _∙_}
-use lib.IntN.{ℤ}
 use mir.Facts.{toZ-ofZ}
 use mir.Syntax.{w32}
 use mir.Val.{toZ, ofZ}
@@ -10,13 +9,6 @@ use Rattle.refusals.proofs.Integers.{sign-and-size}
 use Rattle.meaning.specs.Answers.{number, details}
 use Rattle.refusals.proofs.tell.Statement.{statement}
 use Rattle.refusals.proofs.tell.Tie as tie
-use Rattle.refusals.proofs.tell.Reads as reads
-use Rattle.refusals.proofs.tell.Lts as lts
-use Rattle.refusals.proofs.detail_of.Reads as detail-of-reads
-use Rattle.refusals.proofs.number_of.Reads as number-of-reads
-use Rattle.refusals.proofs.with_one.Reads as with-one-reads
-use Rattle.fields.proofs.signed.is_negative.Reads as is-negative-reads
-use Rattle.fields.proofs.signed.size.Reads as size-reads
 
 enum-known-why : tie.Need-enum-known-why
 enum-known-why c = search needs

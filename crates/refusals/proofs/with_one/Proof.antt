@@ -2,9 +2,6 @@
 use borrow.Author.Needs.{needs}
 use Rattle.refusals.proofs.with_one.Statement.{statement}
 use Rattle.refusals.proofs.with_one.Tie as tie
-use Rattle.refusals.proofs.with_one.Reads as reads
-use Rattle.refusals.proofs.with_one.Lts as lts
-use Rattle.refusals.proofs.detail_of.Reads as detail-of-reads
 
 detail-of-requires : tie.Need-detail-of-requires
 detail-of-requires c κs = search needs

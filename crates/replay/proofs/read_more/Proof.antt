@@ -5,11 +5,6 @@ use lib.Seq.{length-take-le}
 use borrow.Author.Needs.{needs}
 use Rattle.replay.proofs.read_more.Statement.{statement}
 use Rattle.replay.proofs.read_more.Tie as tie
-use Rattle.replay.proofs.read_more.Reads as reads
-use Rattle.replay.proofs.read_more.Lts as lts
-use Rattle.lines.proofs.input.move_down.Reads as move-down-reads
-use Rattle.lines.proofs.input.read_behind.Reads as read-behind-reads
-use Rattle.replay.proofs.replay_lines.Reads as replay-lines-reads
 
 -- src/main.rt:101:9
 read-behind-requires : tie.Need-read-behind-requires

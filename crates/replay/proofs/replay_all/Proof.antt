@@ -1,14 +1,10 @@
 -- The rows keep their lengths; the turns are counted down.
 use mathlib.Core.Path.{_≡_}
 use Prim.Native.Nat.{_≤_}
-use native.Mathlib.Omega.{arith}
 use lib.ListN.{length}
 use borrow.Author.Needs.{needs}
 use Rattle.replay.proofs.replay_all.Statement.{statement}
 use Rattle.replay.proofs.replay_all.Tie as tie
-use Rattle.replay.proofs.replay_all.Reads as reads
-use Rattle.replay.proofs.replay_all.Lts as lts
-use Rattle.replay.proofs.read_more.Reads as read-more-reads
 
 abbrev Inv-loop : tie.InvT-loop
 Inv-loop row₀ out₀ turns₀ held₀ tally₀ row out turns held tally = (length row ≡ 65536) × (length out ≡ 65536) × (length row₀ ≡ 65536) × (length out₀ ≡ 65536) × (held ≤ 65536)

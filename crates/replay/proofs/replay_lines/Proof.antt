@@ -7,11 +7,6 @@ use lib.ListN.{length}
 use borrow.Author.Needs.{needs}
 use Rattle.replay.proofs.replay_lines.Statement.{statement}
 use Rattle.replay.proofs.replay_lines.Tie as tie
-use Rattle.replay.proofs.replay_lines.Reads as reads
-use Rattle.replay.proofs.replay_lines.Lts as lts
-use Rattle.lines.proofs.input.line_end.Reads as line-end-reads
-use Rattle.replay.proofs.recording_end.Reads as recording-end-reads
-use Rattle.replay.proofs.replay.Reads as replay-reads
 
 abbrev Inv-loop : tie.InvT-loop
 Inv-loop bytes out₀ at₀ t₀ end₀ out at t end = (at ≤ end) × (end ≤ length bytes) × (length out ≡ 65536) × (length out₀ ≡ 65536)

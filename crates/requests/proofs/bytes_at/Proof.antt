@@ -9,11 +9,6 @@ use Rattle.io.proofs.Counting.{counts}
 use Rattle.lines.proofs.HexDigits.{decoded-small}
 use Rattle.requests.proofs.bytes_at.Statement.{statement}
 use Rattle.requests.proofs.bytes_at.Tie as tie
-use Rattle.requests.proofs.bytes_at.Reads as reads
-use Rattle.requests.proofs.bytes_at.Lts as lts
-use Rattle.check.proofs.same.Reads as same-reads
-use Rattle.lines.proofs.hex.decode.Reads as decode-reads
-use Rattle.lines.proofs.words.word_from.Reads as word-from-reads
 
 word-from-requires : tie.Need-word-from-requires
 word-from-requires c κs = search needs

@@ -1,17 +1,10 @@
 -- By its sign.
-use mathlib.Core.Path.{_≡_, refl, ap, sym, _∙_}
 use native.Mathlib.Omega.{arith}
-use lib.IntN.{pos}
 use mir.Facts.{toZ-pos, toZ-ofZ}
 use mir.Syntax.{w32}
-use mir.Val.{SFits}
 use Rattle.requests.proofs.Opposites.{opposite-fits}
-use borrow.Author.Needs.{needs}
 use Rattle.requests.proofs.integer_of.Statement.{statement}
 use Rattle.requests.proofs.integer_of.Tie as tie
-use Rattle.requests.proofs.integer_of.Reads as reads
-use Rattle.requests.proofs.integer_of.Lts as lts
-use Rattle.requests.proofs.opposite_of.Reads as opposite-of-reads
 
 opposite-of-requires : tie.Need-opposite-of-requires
 opposite-of-requires c κs = rw (c .if1 .taken) at (c .before .pre)

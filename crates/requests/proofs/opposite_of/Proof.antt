@@ -1,13 +1,11 @@
 -- The opposite of the size before, and one less.
-use mathlib.Core.Path.{_≡_, refl, ap, sym, _∙_}
+use mathlib.Core.Path.{ap, sym}
 use lib.IntN.{pos, negℤ}
 use mir.Facts.{toZ-ofZ}
 use borrow.Author.Needs.{needs}
 use Rattle.requests.proofs.Opposites.{opposite}
 use Rattle.requests.proofs.opposite_of.Statement.{statement}
 use Rattle.requests.proofs.opposite_of.Tie as tie
-use Rattle.requests.proofs.opposite_of.Reads as reads
-use Rattle.requests.proofs.opposite_of.Lts as lts
 
 returns : tie.Need-returns
 returns c = sym (ap (λ n. negℤ (pos n)) (c .if1 .taken))

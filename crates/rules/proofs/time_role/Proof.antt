@@ -5,7 +5,7 @@ use Rattle.meaning.specs.Rules.{number, roleAmong, timeRole}
 use Rattle.meaning.specs.declared.ParseUnit.the-variants as unit
 use Rattle.meaning.specs.declared.Quantity.the-variants as quantity
 use Rattle.meaning.specs.declared.Role.the-variants.{Symbol}
-use Rattle.meaning.specs.declared.Rule.the-variants.{Number, SkippedNumber}
+use Rattle.meaning.specs.declared.Rule.the-variants.{Number}
 use Rattle.rules.proofs.Laws.{one-or-two-rule}
 use borrow.Author.Needs.{needs}
 use Rattle.rules.proofs.time_role.Statement.{statement}

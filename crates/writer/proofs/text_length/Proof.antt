@@ -1,8 +1,6 @@
 -- Every text fits the row.
 use borrow.Author.Needs.{needs}
 use denote.Ref.{now}
-use mathlib.Core.Path.{_∙_}
-use native.Mathlib.Omega.{arith}
 use Rattle.writer.proofs.text_length.Statement.{statement}
 use Rattle.writer.proofs.text_length.Tie as tie
 use Rattle.laws.proofs.Sizes.{text-fits}

@@ -1,6 +1,5 @@
 -- The room is that of every answer.
 use borrow.Author.Needs.{needs}
-use denote.Ref.{now}
 use Rattle.answers.proofs.reads.answer_read.Statement.{statement}
 use Rattle.answers.proofs.reads.answer_read.Tie as tie
 

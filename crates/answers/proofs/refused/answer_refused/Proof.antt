@@ -4,12 +4,6 @@ use borrow.Author.Needs.{needs}
 use Rattle.io.proofs.Counting.{counts}
 use Rattle.answers.proofs.refused.answer_refused.Statement.{statement}
 use Rattle.answers.proofs.refused.answer_refused.Tie as tie
-use Rattle.answers.proofs.refused.answer_refused.Reads as reads
-use Rattle.answers.proofs.refused.answer_refused.Lts as lts
-use Rattle.answers.proofs.refused.put_detail.Reads as put-detail-reads
-use Rattle.refusals.proofs.tell.Reads as tell-reads
-use Rattle.leaves.proofs.numbers.put_bytes.Reads as put-bytes-reads
-use Rattle.lines.proofs.numbers.put_size.Reads as put-size-reads
 
 tell-requires : tie.Need-tell-requires
 tell-requires c κs = search needs

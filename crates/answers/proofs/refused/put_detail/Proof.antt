@@ -4,10 +4,6 @@ use Rattle.answers.proofs.Signs.{sign-small}
 use borrow.Author.Needs.{needs}
 use Rattle.answers.proofs.refused.put_detail.Statement.{statement}
 use Rattle.answers.proofs.refused.put_detail.Tie as tie
-use Rattle.answers.proofs.refused.put_detail.Reads as reads
-use Rattle.answers.proofs.refused.put_detail.Lts as lts
-use Rattle.leaves.proofs.numbers.put_byte.Reads as put-byte-reads
-use Rattle.lines.proofs.numbers.put_number.Reads as put-number-reads
 
 put-byte-requires : tie.Need-put-byte-requires
 put-byte-requires c κs = search needs

@@ -1,5 +1,5 @@
 -- Each part takes at most 49 bytes.
-use mathlib.Core.Path.{_≡_, refl, _∙_}
+use mathlib.Core.Path.{_≡_, refl}
 use Prim.Native.Nat.{_+_, _*_, _-_, _≤_}
 use native.Mathlib.Omega.{arith}
 use lib.ListN.{length}
@@ -7,11 +7,6 @@ use borrow.Author.Needs.{needs}
 use Rattle.io.proofs.Counting.{counts}
 use Rattle.answers.proofs.splits.put_parts.Statement.{statement}
 use Rattle.answers.proofs.splits.put_parts.Tie as tie
-use Rattle.answers.proofs.splits.put_parts.Reads as reads
-use Rattle.answers.proofs.splits.put_parts.Lts as lts
-use Rattle.answers.proofs.splits.put_part.Reads as put-part-reads
-use Rattle.leaves.proofs.numbers.put_bytes.Reads as put-bytes-reads
-use Rattle.lines.proofs.numbers.put_size.Reads as put-size-reads
 
 abbrev Inv-loop : tie.InvT-loop
 Inv-loop out₀ used parts words next₀ i₀ out next i = (i ≤ 256) × (next ≤ 26 + 49 * i) × (16384 ≤ length out) × (length out ≡ length out₀)

@@ -6,15 +6,6 @@ use lib.Seq.{length-take-le}
 use borrow.Author.Needs.{needs}
 use Rattle.answers.proofs.writes.answer_write.Statement.{statement}
 use Rattle.answers.proofs.writes.answer_write.Tie as tie
-use Rattle.answers.proofs.writes.answer_write.Reads as reads
-use Rattle.answers.proofs.writes.answer_write.Lts as lts
-use Rattle.answers.proofs.bad_request.Reads as bad-request-reads
-use Rattle.requests.proofs.bytes_at.Reads as bytes-at-reads
-use Rattle.requests.proofs.bytes_row.Reads as bytes-row-reads
-use Rattle.requests.proofs.count_at.Reads as count-at-reads
-use Rattle.requests.proofs.fields_at.Reads as fields-at-reads
-use Rattle.answers.proofs.writes.answer_written.Reads as answer-written-reads
-use Rattle.io.proofs.buffer.Reads as buffer-reads
 
 -- src/writes.rt:124:19
 bytes-row-requires : tie.Need-bytes-row-requires

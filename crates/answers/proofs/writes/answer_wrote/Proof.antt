@@ -7,13 +7,6 @@ use borrow.Author.Needs.{needs}
 use denote.Ref.{now}
 use Rattle.answers.proofs.writes.answer_wrote.Statement.{statement}
 use Rattle.answers.proofs.writes.answer_wrote.Tie as tie
-use Rattle.answers.proofs.writes.answer_wrote.Reads as reads
-use Rattle.answers.proofs.writes.answer_wrote.Lts as lts
-use Rattle.answers.proofs.refused.answer_refused.Reads as answer-refused-reads
-use Rattle.answers.proofs.writes.first_altered.Reads as first-altered-reads
-use Rattle.answers.proofs.writes.put_altered.Reads as put-altered-reads
-use Rattle.answers.proofs.writes.put_text.Reads as put-text-reads
-use Rattle.answers.proofs.writes.written.Reads as written-reads
 
 -- src/writes.rt:98:9
 written-requires : tie.Need-written-requires

@@ -1,5 +1,5 @@
 -- All places passed are filled.
-use mathlib.Core.Path.{_≡_, refl, ap, sym, _∙_}
+use mathlib.Core.Path.{_≡_, refl}
 use Prim.Native.Nat.{ℕ, _-_, _≤_, _<_}
 use native.Mathlib.Omega.{arith}
 use lib.ListN.{length, getD, length-set}
@@ -8,9 +8,6 @@ use Rattle.answers.proofs.Marked.{marks-more}
 use Rattle.answers.specs.Marks.{markAt}
 use Rattle.answers.proofs.writes.fill.Statement.{statement}
 use Rattle.answers.proofs.writes.fill.Tie as tie
-use Rattle.answers.proofs.writes.fill.Reads as reads
-use Rattle.answers.proofs.writes.fill.Lts as lts
-use Rattle.answers.proofs.writes.mark.Reads as mark-reads
 
 abbrev Inv-loop : tie.InvT-loop
 Inv-loop out₀ i₀ out i = (i ≤ length out) × (length out ≡ length out₀) × ((k : ℕ) → k < i → getD out k 0 ≡ markAt k)

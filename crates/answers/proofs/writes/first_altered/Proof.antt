@@ -9,9 +9,6 @@ use Rattle.answers.proofs.Marked.{same-more}
 use Rattle.answers.specs.Marks.{markAt}
 use Rattle.answers.proofs.writes.first_altered.Statement.{statement}
 use Rattle.answers.proofs.writes.first_altered.Tie as tie
-use Rattle.answers.proofs.writes.first_altered.Reads as reads
-use Rattle.answers.proofs.writes.first_altered.Lts as lts
-use Rattle.answers.proofs.writes.mark.Reads as mark-reads
 
 abbrev Inv-loop : tie.InvT-loop
 Inv-loop out from i₀ i = (from ≤ i) × ((k : ℕ) → from ≤ k → k < i → getD out k 0 ≡ markAt k)

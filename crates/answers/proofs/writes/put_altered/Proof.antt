@@ -4,10 +4,6 @@ use borrow.Author.Needs.{needs}
 use Rattle.io.proofs.Counting.{counts}
 use Rattle.answers.proofs.writes.put_altered.Statement.{statement}
 use Rattle.answers.proofs.writes.put_altered.Tie as tie
-use Rattle.answers.proofs.writes.put_altered.Reads as reads
-use Rattle.answers.proofs.writes.put_altered.Lts as lts
-use Rattle.leaves.proofs.numbers.put_bytes.Reads as put-bytes-reads
-use Rattle.lines.proofs.numbers.put_size.Reads as put-size-reads
 
 -- src/writes.rt:79:27
 slice-aggregate-put-bytes : tie.Need-slice-aggregate-put-bytes

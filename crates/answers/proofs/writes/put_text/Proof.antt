@@ -6,12 +6,6 @@ use Rattle.io.proofs.Counting.{counts}
 use Rattle.lines.proofs.HexDigits.{hex-length}
 use Rattle.answers.proofs.writes.put_text.Statement.{statement}
 use Rattle.answers.proofs.writes.put_text.Tie as tie
-use Rattle.answers.proofs.writes.put_text.Reads as reads
-use Rattle.answers.proofs.writes.put_text.Lts as lts
-use Rattle.leaves.proofs.numbers.put_byte.Reads as put-byte-reads
-use Rattle.leaves.proofs.numbers.put_bytes.Reads as put-bytes-reads
-use Rattle.lines.proofs.hex.put_hex.Reads as put-hex-reads
-use Rattle.lines.proofs.numbers.put_size.Reads as put-size-reads
 
 -- src/writes.rt:66:27
 slice-aggregate-put-bytes : tie.Need-slice-aggregate-put-bytes

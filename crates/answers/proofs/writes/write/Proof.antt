@@ -1,18 +1,10 @@
 -- A writer writes no more than it has room for.
-use mathlib.Core.Path.{_≡_, ap, sym, subst}
 use borrow.Author.Needs.{needs}
 use denote.Ref.{now}
-use lib.ListN.{length}
-use Prim.Native.Nat.{_≤_}
 use Rattle.answers.proofs.Rooms.{write-fits}
-use Rattle.answers.specs.Marks.{lengthOf}
 use Rattle.meaning.specs.declared.Pair.the-variants.{Full, Date}
 use Rattle.answers.proofs.writes.write.Statement.{statement}
 use Rattle.answers.proofs.writes.write.Tie as tie
-use Rattle.answers.proofs.writes.write.Reads as reads
-use Rattle.answers.proofs.writes.write.Lts as lts
-use Rattle.date.proofs.format.Reads as format-reads
-use Rattle.writer.proofs.format.Reads as writer-format-reads
 
 -- src/writes.rt:54:63
 enum-told : tie.Need-enum-told

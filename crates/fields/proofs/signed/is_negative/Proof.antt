@@ -1,9 +1,8 @@
 -- The sign, once the bits are taken away.
-use Prim.Native.Nat.{ℕ}
 use borrow.Author.Tests.{le-ltb}
 use lib.IntN.{ℤ, pos, negsuc}
 use lib.Signed.{ltZ}
-use mathlib.Core.Path.{_≡_, refl, _∙_}
+use mathlib.Core.Path.{_≡_, refl}
 use native.Mathlib.Omega.{arith}
 use Rattle.fields.proofs.signed.is_negative.Statement.{statement}
 use Rattle.fields.proofs.signed.is_negative.Tie as tie

@@ -2,7 +2,6 @@
 use Prim.Native.Nat.{ℕ, zero, suc}
 use borrow.Author.Needs.{needs}
 use mathlib.Core.Path.{_≡_, refl}
-use native.Mathlib.Omega.{arith}
 use Rattle.fields.proofs.values.in_place_of_zero.Statement.{statement}
 use Rattle.fields.proofs.values.in_place_of_zero.Tie as tie
 use Rattle.meaning.specs.Writing.{inPlaceOfZero}

@@ -1,6 +1,5 @@
 -- Each arm is its list's place.
 use borrow.Author.Needs.{needs}
-use mathlib.Core.Path.{_≡_}
 use native.Mathlib.Omega.{arith}
 use Rattle.fields.proofs.values.place_of.Statement.{statement}
 use Rattle.fields.proofs.values.place_of.Tie as tie

@@ -1,6 +1,5 @@
 -- Each arm is its quantity, within the bounds of an allowed record.
 use borrow.Author.Needs.{needs}
-use mathlib.Core.Path.{_≡_}
 use native.Mathlib.Omega.{arith}
 use Rattle.fields.proofs.values.quantity_of.Statement.{statement}
 use Rattle.fields.proofs.values.quantity_of.Tie as tie

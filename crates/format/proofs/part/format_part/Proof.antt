@@ -2,7 +2,7 @@
 use borrow.Author.Needs.{needs}
 use denote.Ref.{now}
 use Prim.Native.Nat.{_+_, _-_}
-use lib.ListN.{length, take, drop, length-drop, length-replicate}
+use lib.ListN.{length, length-replicate}
 use Rattle.pattern.proofs.Walks.{rest-all}
 use mathlib.Core.Path.{_≡_}
 use native.Mathlib.Omega.{arith}

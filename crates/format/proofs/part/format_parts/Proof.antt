@@ -1,9 +1,9 @@
 -- What lies there and the text of what is left of the pattern are the whole text.
-use Prim.Native.Nat.{_+_, _-_, _≤_}
+use Prim.Native.Nat.{_+_, _-_}
 use denote.Ref.{now}
 use lib.ListN.{length, drop, length-append}
 use lib.Seq.{sets}
-use mathlib.Core.Path.{_≡_, refl, sym, _∙_}
+use mathlib.Core.Path.{_≡_, refl, _∙_}
 use native.Mathlib.Omega.{arith}
 use Rattle.format.proofs.Laws.{text-step, text-done}
 use Rattle.format.proofs.part.format_parts.Statement.{statement}

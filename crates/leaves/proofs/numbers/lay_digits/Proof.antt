@@ -1,5 +1,5 @@
 -- What lies there and the digits still to be laid are all the digits.
-use Prim.Native.Nat.{_+_, _-_, _≤_}
+use Prim.Native.Nat.{_-_, _≤_}
 use lib.ListN.{length, length-set}
 use lib.Seq.{sets}
 use mathlib.Core.Path.{_≡_, refl, sym, _∙_}

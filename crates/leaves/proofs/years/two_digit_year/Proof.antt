@@ -1,6 +1,5 @@
 -- Both ways, by the test of the definition.
 use borrow.Author.Needs.{needs}
-use native.Mathlib.Omega.{arith}
 use Rattle.leaves.proofs.years.two_digit_year.Statement.{statement}
 use Rattle.leaves.proofs.years.two_digit_year.Tie as tie
 use Rattle.laws.proofs.Years.{two-digit-whole, two-digit-cut}

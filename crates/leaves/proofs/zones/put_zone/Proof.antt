@@ -1,6 +1,5 @@
 -- The sign, then the offset.
 use borrow.Author.Needs.{needs}
-use native.Mathlib.Omega.{arith}
 use Rattle.leaves.proofs.zones.put_zone.Statement.{statement}
 use Rattle.leaves.proofs.zones.put_zone.Tie as tie
 use Rattle.laws.proofs.Laid.{laid-then}

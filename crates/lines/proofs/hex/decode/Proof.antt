@@ -7,9 +7,6 @@ use denote.Ref.{now}
 use Rattle.lines.proofs.HexDigits.{Decoding, decoding-starts, decoding-goes-on, decoding-fails, decoding-ends, high-bad, low-bad, odd-end}
 use Rattle.lines.proofs.hex.decode.Statement.{statement}
 use Rattle.lines.proofs.hex.decode.Tie as tie
-use Rattle.lines.proofs.hex.decode.Reads as reads
-use Rattle.lines.proofs.hex.decode.Lts as lts
-use Rattle.lines.proofs.hex.digit_value.Reads as digit-value-reads
 
 abbrev Inv-loop : tie.InvT-loop
 Inv-loop word out₀ i₀ n₀ out i n = Decoding word out₀ out i n

@@ -2,8 +2,6 @@ use Rattle.laws.proofs.Tests.{chosen}
 use borrow.Author.Needs.{needs}
 use Rattle.lines.proofs.hex.digit_of.Statement.{statement}
 use Rattle.lines.proofs.hex.digit_of.Tie as tie
-use Rattle.lines.proofs.hex.digit_of.Reads as reads
-use Rattle.lines.proofs.hex.digit_of.Lts as lts
 
 -- src/hex.rt:54:17
 add-result : tie.Need-add-result

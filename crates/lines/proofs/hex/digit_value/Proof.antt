@@ -2,8 +2,6 @@ use Rattle.laws.proofs.Tests.{chosen}
 use borrow.Author.Needs.{needs}
 use Rattle.lines.proofs.hex.digit_value.Statement.{statement}
 use Rattle.lines.proofs.hex.digit_value.Tie as tie
-use Rattle.lines.proofs.hex.digit_value.Reads as reads
-use Rattle.lines.proofs.hex.digit_value.Lts as lts
 
 -- src/hex.rt:20:9
 returns : tie.Need-returns

@@ -7,9 +7,6 @@ use denote.Ref.{now}
 use Rattle.lines.proofs.HexDigits.{Spelling, spelling-starts, spelling-goes-on, spelling-ends}
 use Rattle.lines.proofs.hex.put_hex.Statement.{statement}
 use Rattle.lines.proofs.hex.put_hex.Tie as tie
-use Rattle.lines.proofs.hex.put_hex.Reads as reads
-use Rattle.lines.proofs.hex.put_hex.Lts as lts
-use Rattle.lines.proofs.hex.digit_of.Reads as digit-of-reads
 
 abbrev Inv-loop : tie.InvT-loop
 Inv-loop src out₀ at next₀ i₀ out next i = Spelling src out₀ out at next i

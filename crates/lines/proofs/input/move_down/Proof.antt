@@ -7,8 +7,6 @@ use denote.Ref.{now}
 use Rattle.lines.proofs.Moves.{Moving, moving-goes-on, moving-ends}
 use Rattle.lines.proofs.input.move_down.Statement.{statement}
 use Rattle.lines.proofs.input.move_down.Tie as tie
-use Rattle.lines.proofs.input.move_down.Reads as reads
-use Rattle.lines.proofs.input.move_down.Lts as lts
 
 abbrev Inv-loop : tie.InvT-loop
 Inv-loop row₀ from count i₀ row i = Moving row₀ row from count i

@@ -8,10 +8,6 @@ use Rattle.lines.proofs.Decimals.{number-of-none, number-of-negative, n
 use Rattle.lines.specs.Decimal.{signed}
 use Rattle.lines.proofs.numbers.number_of.Statement.{statement}
 use Rattle.lines.proofs.numbers.number_of.Tie as tie
-use Rattle.lines.proofs.numbers.number_of.Reads as reads
-use Rattle.lines.proofs.numbers.number_of.Lts as lts
-use Rattle.lines.proofs.numbers.signed.Reads as signed-reads
-use Rattle.lines.proofs.numbers.size_of.Reads as size-of-reads
 
 -- src/numbers.rt:60:9
 returns : tie.Need-returns

@@ -4,10 +4,6 @@ use Rattle.laws.proofs.Laid.{laid-then}
 use borrow.Author.Needs.{needs}
 use Rattle.lines.proofs.numbers.put_number.Statement.{statement}
 use Rattle.lines.proofs.numbers.put_number.Tie as tie
-use Rattle.lines.proofs.numbers.put_number.Reads as reads
-use Rattle.lines.proofs.numbers.put_number.Lts as lts
-use Rattle.leaves.proofs.numbers.put_byte.Reads as put-byte-reads
-use Rattle.lines.proofs.numbers.put_size.Reads as put-size-reads
 
 -- src/numbers.rt:88:13
 put-byte-requires : tie.Need-put-byte-requires

@@ -4,10 +4,6 @@ use Rattle.lines.proofs.Decimals.{few-digits}
 use borrow.Author.Needs.{needs}
 use Rattle.lines.proofs.numbers.put_size.Statement.{statement}
 use Rattle.lines.proofs.numbers.put_size.Tie as tie
-use Rattle.lines.proofs.numbers.put_size.Reads as reads
-use Rattle.lines.proofs.numbers.put_size.Lts as lts
-use Rattle.leaves.proofs.numbers.put_bytes.Reads as put-bytes-reads
-use Rattle.io.proofs.decimal.Reads as decimal-reads
 
 -- src/numbers.rt:79:9
 decimal-requires : tie.Need-decimal-requires

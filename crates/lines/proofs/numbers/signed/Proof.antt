@@ -4,8 +4,6 @@ use Rattle.lines.specs.Decimal.{signed}
 use borrow.Author.Needs.{needs}
 use Rattle.lines.proofs.numbers.signed.Statement.{statement}
 use Rattle.lines.proofs.numbers.signed.Tie as tie
-use Rattle.lines.proofs.numbers.signed.Reads as reads
-use Rattle.lines.proofs.numbers.signed.Lts as lts
 
 -- src/numbers.rt:48:22
 enum-told : tie.Need-enum-told

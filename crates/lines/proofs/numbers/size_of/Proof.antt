@@ -9,8 +9,6 @@ use Rattle.lines.proofs.Decimals.{below-digits, above-digits, too-large
 use Rattle.lines.specs.Decimal.{sizeBehind}
 use Rattle.lines.proofs.numbers.size_of.Statement.{statement}
 use Rattle.lines.proofs.numbers.size_of.Tie as tie
-use Rattle.lines.proofs.numbers.size_of.Reads as reads
-use Rattle.lines.proofs.numbers.size_of.Lts as lts
 
 abbrev Inv-loop : tie.InvT-loop
 Inv-loop digits n₀ i₀ n i = (i ≤ length digits) × (n ≤ 18446744073709551615) × (sizeBehind 0 digits ≡ sizeBehind n (drop i digits))

@@ -1,8 +1,8 @@
 -- The digits read so far and those still to come give the whole number; one that is too large stays so.
-use Prim.Native.Nat.{_+_, _-_, _≤_}
+use Prim.Native.Nat.{_-_, _≤_}
 use borrow.Author.Needs.{needs}
 use denote.Ref.{now}
-use lib.ListN.{length, getD, drop}
+use lib.ListN.{length, drop}
 use mathlib.Core.Path.{_≡_, refl, sym, _∙_}
 use native.Mathlib.Omega.{arith}
 use Rattle.laws.proofs.Digits.{digit-yes, digit-below, digit-above}

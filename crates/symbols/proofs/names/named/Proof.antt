@@ -1,6 +1,5 @@
 -- What the match found, with what it carries.
 use borrow.Author.Needs.{needs}
-use denote.Ref.{now}
 use Rattle.symbols.proofs.names.named.Statement.{statement}
 use Rattle.symbols.proofs.names.named.Tie as tie
 

@@ -1,6 +1,5 @@
 -- By its role.
 use borrow.Author.Needs.{needs}
-use denote.Ref.{now}
 use lib.ListN.{length-replicate}
 use Rattle.meaning.specs.Reading.{readStep}
 use Rattle.symbols.proofs.part.parse_run.Statement.{statement}

@@ -1,6 +1,5 @@
 -- Each arm is what its rule says.
 use borrow.Author.Needs.{needs}
-use denote.Ref.{now}
 use Rattle.trust.specs.Ahead.{ruleFirst}
 use Rattle.verdict.proofs.ahead.rule_first.Statement.{statement}
 use Rattle.verdict.proofs.ahead.rule_first.Tie as tie

@@ -1,6 +1,5 @@
 -- By its role.
 use borrow.Author.Needs.{needs}
-use denote.Ref.{now}
 use Rattle.trust.specs.Ahead.{stepFirst}
 use Rattle.verdict.proofs.Literals.{run-first}
 use Rattle.verdict.proofs.ahead.run_first.Statement.{statement}

@@ -1,7 +1,6 @@
 -- By its role.
 use borrow.Author.Needs.{needs}
 use borrow.Author.Tests.{lt-ltb, le-ltb}
-use denote.Ref.{now}
 use lib.ListN.{length-replicate}
 use Rattle.trust.specs.Ahead.{stepSecond}
 use Rattle.verdict.proofs.Literals.{run-second}

@@ -1,6 +1,5 @@
 -- Each arm is what its quantity says.
 use borrow.Author.Needs.{needs}
-use denote.Ref.{now}
 use Rattle.laws.specs.Widths.{mostDigits}
 use Rattle.verdict.proofs.needs.most_digits.Statement.{statement}
 use Rattle.verdict.proofs.needs.most_digits.Tie as tie

@@ -1,6 +1,5 @@
 -- Each arm is what its rule needs.
 use borrow.Author.Needs.{needs}
-use denote.Ref.{now}
 use Rattle.trust.specs.Needs.{ruleNeed}
 use Rattle.verdict.proofs.needs.rule_need.Statement.{statement}
 use Rattle.verdict.proofs.needs.rule_need.Tie as tie

@@ -1,6 +1,5 @@
 -- By its role.
 use borrow.Author.Needs.{needs}
-use denote.Ref.{now}
 use Rattle.trust.specs.Needs.{stepNeed}
 use Rattle.verdict.proofs.needs.run_need.Statement.{statement}
 use Rattle.verdict.proofs.needs.run_need.Tie as tie

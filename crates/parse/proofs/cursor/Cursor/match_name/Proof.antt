@@ -1,8 +1,8 @@
 -- What the matcher finds in the remaining text.
 use borrow.Author.Needs.{needs}
 use denote.Ref.{now}
-use lib.ListN.{length, drop, length-drop}
-use mathlib.Core.Path.{_≡_, sym, _∙_}
+use lib.ListN.{drop, length-drop}
+use mathlib.Core.Path.{sym, _∙_}
 use native.Mathlib.Omega.{arith}
 use Rattle.constants.proofs.Answers.{found-name, found-within}
 use Rattle.meaning.specs.Names.{names, english}

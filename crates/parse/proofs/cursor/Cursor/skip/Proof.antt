@@ -1,8 +1,8 @@
 -- By how many bytes remain.
 use borrow.Author.Needs.{needs}
 use denote.Ref.{now}
-use lib.ListN.{length, drop, length-drop}
-use mathlib.Core.Path.{_≡_, sym, _∙_}
+use lib.ListN.{drop, length-drop}
+use mathlib.Core.Path.{sym}
 use native.Mathlib.Omega.{arith}
 use Rattle.parse.proofs.Moves.{skipped-few, skipped-past}
 use Rattle.parse.proofs.cursor.Cursor.skip.Statement.{statement}

@@ -1,8 +1,8 @@
 -- What the number reader finds in the remaining text.
 use borrow.Author.Needs.{needs}
 use denote.Ref.{now}
-use lib.ListN.{length, drop, length-drop}
-use mathlib.Core.Path.{_≡_, sym, _∙_}
+use lib.ListN.{drop, length-drop}
+use mathlib.Core.Path.{sym, _∙_}
 use native.Mathlib.Omega.{arith}
 use Rattle.parse.proofs.Moves.{taken-by, taken-within}
 use Rattle.pattern.proofs.Walks.{rest-all}
