@@ -15,11 +15,11 @@ use meaning::Checked;
 use meaning::Offset;
 use meaning::Pair;
 use meaning::Reading;
-use reader::offset::parse_offset;
 use refusals::Detail;
 use requests::bytes_at;
 use requests::bytes_row;
 use requests::signed_at;
+use texts::offset::parse_offset;
 
 fn read(pair: Pair, pattern: &[u8], text: &[u8], year: i32) -> Reading {
     match pair {

@@ -2,10 +2,10 @@
 use denote.Ref.{now}
 use mathlib.Core.Path.{sym, _∙_}
 use Rattle.meaning.specs.Whole.{twoAt}
-use Rattle.reader.proofs.Offsets.{none-told, some-told}
+use Rattle.texts.proofs.Offsets.{none-told, some-told}
 use borrow.Author.Needs.{needs}
-use Rattle.reader.proofs.offset.hour_and_minute.Statement.{statement}
-use Rattle.reader.proofs.offset.hour_and_minute.Tie as tie
+use Rattle.texts.proofs.offset.hour_and_minute.Statement.{statement}
+use Rattle.texts.proofs.offset.hour_and_minute.Tie as tie
 
 two-at-requires : tie.Need-two-at-requires
 two-at-requires c κs = search needs

@@ -6,9 +6,9 @@ use mir.Facts.{toZ-pos}
 use mir.Syntax.{w32}
 use native.Mathlib.Omega.{arith}
 use Rattle.laws.proofs.Tests.{chosen}
-use Rattle.reader.proofs.Offsets.{behind-fits, behind-is}
-use Rattle.reader.proofs.offset.seconds.Statement.{statement}
-use Rattle.reader.proofs.offset.seconds.Tie as tie
+use Rattle.texts.proofs.Offsets.{behind-fits, behind-is}
+use Rattle.texts.proofs.offset.seconds.Statement.{statement}
+use Rattle.texts.proofs.offset.seconds.Tie as tie
 
 returns : tie.Need-returns
 returns c = search chosen

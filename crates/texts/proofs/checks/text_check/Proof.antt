@@ -11,8 +11,8 @@ use Rattle.meaning.specs.Answers.{byteCheck, textCheck}
 use Rattle.meaning.specs.declared.Checked.the-variants.{Refused}
 use Rattle.meaning.specs.declared.Refusal.the-variants.{TextTooLong, TextByte}
 use Rattle.pattern.proofs.Checks.{within-yes, within-above, bytes-more, bytes-stop, bytes-done}
-use Rattle.reader.proofs.checks.text_check.Statement.{statement}
-use Rattle.reader.proofs.checks.text_check.Tie as tie
+use Rattle.texts.proofs.checks.text_check.Statement.{statement}
+use Rattle.texts.proofs.checks.text_check.Tie as tie
 
 long-text : (s : List ℕ) → 2048 < length s → textCheck s ≡ Refused (TextTooLong (length s))
 unfolding textCheck

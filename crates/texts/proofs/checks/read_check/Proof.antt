@@ -3,8 +3,8 @@ use borrow.Author.Needs.{needs}
 use mir.Syntax.{w32}
 use mir.ValLaws.{toZ-ofZ}
 use Rattle.meaning.specs.Whole.{readCheck}
-use Rattle.reader.proofs.checks.read_check.Statement.{statement}
-use Rattle.reader.proofs.checks.read_check.Tie as tie
+use Rattle.texts.proofs.checks.read_check.Statement.{statement}
+use Rattle.texts.proofs.checks.read_check.Tie as tie
 
 pattern-check-requires : tie.Need-pattern-check-requires
 pattern-check-requires c κs = search needs

@@ -3,9 +3,9 @@ use borrow.Author.Needs.{needs}
 use denote.Ref.{now}
 use mathlib.Core.Path.{_∙_}
 use Rattle.pattern.proofs.Walks.{rest-all}
-use Rattle.reader.proofs.Offsets.{two-taken}
-use Rattle.reader.proofs.offset.two_at.Statement.{statement}
-use Rattle.reader.proofs.offset.two_at.Tie as tie
+use Rattle.texts.proofs.Offsets.{two-taken}
+use Rattle.texts.proofs.offset.two_at.Statement.{statement}
+use Rattle.texts.proofs.offset.two_at.Tie as tie
 
 sub-read-number : tie.Need-sub-read-number
 sub-read-number c = search needs

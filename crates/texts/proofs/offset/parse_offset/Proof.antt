@@ -2,10 +2,10 @@
 use denote.Ref.{now}
 use mathlib.Core.Logic.{⊎-elim}
 use mathlib.Core.Path.{sym, _∙_}
-use Rattle.reader.proofs.Offsets.{refused-offset, no-first, z-offset, other-length, six-offset}
+use Rattle.texts.proofs.Offsets.{refused-offset, no-first, z-offset, other-length, six-offset}
 use borrow.Author.Needs.{needs}
-use Rattle.reader.proofs.offset.parse_offset.Statement.{statement}
-use Rattle.reader.proofs.offset.parse_offset.Tie as tie
+use Rattle.texts.proofs.offset.parse_offset.Statement.{statement}
+use Rattle.texts.proofs.offset.parse_offset.Tie as tie
 
 text-check-requires : tie.Need-text-check-requires
 text-check-requires c κs = search needs
