@@ -1,5 +1,5 @@
-pub mod Years
-pub mod Names
+pub mod YearParts
+pub mod NameParts
 pub mod Runs
 pub mod Within
 pub mod Zoning

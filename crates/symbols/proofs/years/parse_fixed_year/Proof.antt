@@ -5,7 +5,7 @@ use denote.Ref.{now}
 use lib.ListN.{drop, length-drop}
 use native.Mathlib.Omega.{arith}
 use Rattle.meaning.specs.Reading.{minusFirst}
-use Rattle.symbols.proofs.Years.{year-few, year-in-full}
+use Rattle.symbols.proofs.YearParts.{year-few, year-in-full}
 use Rattle.symbols.proofs.Runs.{minus-fits}
 use Rattle.symbols.proofs.years.parse_fixed_year.Statement.{statement}
 use Rattle.symbols.proofs.years.parse_fixed_year.Tie as tie

@@ -3,7 +3,7 @@ use borrow.Author.Needs.{needs}
 use borrow.Author.Tests.{eq-eqb, ne-eqb}
 use denote.Ref.{now}
 use lib.ListN.{drop}
-use Rattle.symbols.proofs.Years.{year-in-full}
+use Rattle.symbols.proofs.YearParts.{year-in-full}
 use Rattle.symbols.proofs.years.parse_two_digit_year.Statement.{statement}
 use Rattle.symbols.proofs.years.parse_two_digit_year.Tie as tie
 

@@ -5,7 +5,7 @@ use denote.Ref.{now}
 use lib.ListN.{drop, length-drop}
 use lib.Seq.{drop-drop}
 use native.Mathlib.Omega.{arith}
-use Rattle.symbols.proofs.Years.{year-in-full}
+use Rattle.symbols.proofs.YearParts.{year-in-full}
 use Rattle.symbols.proofs.Runs.{minus-fits, run-fits}
 use Rattle.symbols.proofs.years.parse_years.Statement.{statement}
 use Rattle.symbols.proofs.years.parse_years.Tie as tie

@@ -6,7 +6,7 @@ use mir.Syntax.{w64}
 use mir.ValLaws.{toZ-ofZ}
 use native.Mathlib.Omega.{arith}
 use Rattle.parse.proofs.Parts.{widened}
-use Rattle.symbols.proofs.Years.{part-year, sum-fits}
+use Rattle.symbols.proofs.YearParts.{part-year, sum-fits}
 use Rattle.symbols.proofs.years.take_year.Statement.{statement}
 use Rattle.symbols.proofs.years.take_year.Tie as tie
 
