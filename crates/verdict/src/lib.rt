@@ -1,23 +1,20 @@
 // Demand 3, the pattern check: whether every part comes back for every allowed record, or the first that does not, with a
 // record that shows it.
-pub mod ahead;
-pub mod needs;
-
 ghost use mathlib.Core.Path.{_≡_};
 ghost use lib.ListN.{drop};
 ghost use Rattle.meaning.specs.Names.{english};
 ghost use Rattle.meaning.specs.Trust.{Says, trustCheck};
 ghost use Rattle.meaning.specs.Writing.{steps};
 ghost use Rattle.trust.specs.Check as trust;
-use ahead::digit_first;
-use ahead::digit_second;
 use fields::checks::current_year_check;
 use fields::checks::or_else;
+use lookahead::ahead::digit_first;
+use lookahead::ahead::digit_second;
+use lookahead::needs::part_need;
 use meaning::Checked;
 use meaning::Fields;
 use meaning::Pair;
 use meaning::Verdict;
-use needs::part_need;
 use pattern::next_part;
 use pattern::pattern_check;
 use trust::Need;
