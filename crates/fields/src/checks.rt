@@ -1,6 +1,7 @@
 // Refusals 4 and 14.
 ghost use mathlib.Core.Path.{_≡_};
-ghost use Rattle.meaning.specs.Answers.{_else_, refuseUnless, within, fieldsCheck, currentYearCheck};
+ghost use Rattle.fields.specs.Ranges.{fieldOr, fieldOut};
+ghost use Rattle.meaning.specs.Answers.{_else_, within, fieldsCheck, currentYearCheck};
 use crate::signed::is_negative;
 use crate::signed::size;
 use meaning::Checked;
@@ -13,13 +14,14 @@ fn is_within(low: u64, high: u64, n: u64) -> bool
     if low <= n { n <= high } else { false }
 }
 
-fn in_range(field: u32, low: u64, high: u64, n: u64) -> Checked
-    ensures { λ r. ⌜ r ≡ refuseUnless (within low high n) (Refusal.FieldRange field) ⌝ }
+// A field out of its range, or else what the later fields say; 0 stands for none.
+fn field_or(field: u32, low: u64, high: u64, n: u64, later: u32) -> u32
+    ensures { λ r. ⌜ r ≡ fieldOr field low high n later ⌝ }
 {
     if is_within(low, high, n) {
-        Checked::Fine
+        later
     } else {
-        Checked::Refused(Refusal::FieldRange(field))
+        field
     }
 }
 
@@ -33,23 +35,30 @@ pub fn or_else(first: Checked, next: Checked) -> Checked
     }
 }
 
+fn field_out(f: Fields) -> u32
+    ensures { λ r. ⌜ r ≡ fieldOut f ⌝ }
+{
+    let y = f.year;
+    let o = f.offset;
+    let offset = field_or(8, 0, 86399, size(o) as u64, 0);
+    let nanos = field_or(7, 0, 86399999999999, f.nanos, offset);
+    let wday = field_or(6, 0, 6, f.wday as u64, nanos);
+    let week = field_or(5, 1, 53, f.week as u64, wday);
+    let doy = field_or(4, 1, 366, f.doy as u64, week);
+    let day = field_or(3, 1, 31, f.day as u64, doy);
+    let month = field_or(2, 1, 12, f.month as u64, day);
+    field_or(1, 1, 5879611, size(y) as u64, month)
+}
+
 // 4: the first field that is out of its range.
 pub fn fields_check(f: Fields) -> Checked
     ensures { λ r. ⌜ r ≡ fieldsCheck f ⌝ }
 {
-    let y = f.year;
-    let o = f.offset;
-    let year = in_range(1, 1, 5879611, size(y) as u64);
-    let month = in_range(2, 1, 12, f.month as u64);
-    let day = in_range(3, 1, 31, f.day as u64);
-    let doy = in_range(4, 1, 366, f.doy as u64);
-    let week = in_range(5, 1, 53, f.week as u64);
-    let wday = in_range(6, 0, 6, f.wday as u64);
-    let nanos = in_range(7, 0, 86399999999999, f.nanos);
-    let offset = in_range(8, 0, 86399, size(o) as u64);
-    let time = or_else(wday, or_else(nanos, offset));
-    let date = or_else(day, or_else(doy, or_else(week, time)));
-    or_else(year, or_else(month, date))
+    let field = field_out(f);
+    if field == 0 {
+        return Checked::Fine;
+    }
+    Checked::Refused(Refusal::FieldRange(field))
 }
 
 // 14: the current year is 1 to 9999.

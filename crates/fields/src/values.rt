@@ -32,15 +32,15 @@ const TENS: [u32; 10] = [
     1000000000,
 ];
 
-fn ten_to(n: usize) -> u32
+fn ten_to(n: u8) -> u32
     requires { ⌜ n < 10 ⌝ }
     ensures { λ r. ⌜ r ≡ 10 ^ n ⌝ }
 {
-    TENS[n]
+    TENS[n as usize]
 }
 
 // So many digits of the second's fraction; nine where more are asked for.
-fn fraction(nanos: u64, digits: usize) -> u32
+fn fraction(nanos: u64, digits: u8) -> u32
     ensures { λ r. ⌜ r ≡ nanos % 1000000000 / 10 ^ (9 - digits) ⌝ }
 {
     let whole = (nanos % 1000000000) as u32;

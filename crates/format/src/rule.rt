@@ -22,13 +22,13 @@ use meaning::NameList;
 use meaning::Quantity;
 use meaning::Rule;
 
-fn put_quantity(quantity: Quantity, k: usize, f: Fields, out: &mut [u8], at: usize) -> usize
+fn put_quantity(quantity: Quantity, k: u8, f: Fields, out: &mut [u8], at: usize) -> usize
     requires { ⌜ fieldsCheck f ≡ Fine ⌝ }
     requires { ⌜ at + length (num k (quantityOf quantity f)) ≤ length (now out) ⌝ }
     ensures { λ r. ⌜ Laid (now (out .entry)) (now (out .exit)) at r (num k (quantityOf quantity f)) ⌝ }
 {
     let n = quantity_of(quantity, f);
-    zero_padded(n, k, out, at)
+    zero_padded(n, k as usize, out, at)
 }
 
 fn put_name_of(names: NameList, f: Fields, out: &mut [u8], at: usize) -> usize

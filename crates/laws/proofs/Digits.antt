@@ -192,6 +192,12 @@ num-padded k n h =
     let e : max k (width n) ≡ (k - width n) + width n = omega arith in
     rw e (zeros-first (k - width n) (width n) n (below-width n))
 
+pub num-wide : (k n : ℕ) → width n ≤ k → num k n ≡ digits k n
+unfolding num
+num-wide k n h =
+    let e : max k (width n) ≡ k = omega arith in
+    rw e
+
 pub num-bare : (k n : ℕ) → k ≤ width n → num k n ≡ digits (width n) n
 unfolding num
 num-bare k n h =

@@ -32,6 +32,9 @@ pub fn put_times(b: u8, times: usize, out: &mut [u8], at: usize) -> usize
     requires { ⌜ at + times ≤ length (now out) ⌝ }
     ensures { λ r. ⌜ Laid (now (out .entry)) (now (out .exit)) at r (replicate times b) ⌝ }
 {
+    if times == 1 {
+        return put_byte(b, out, at);
+    }
     let mut j = 0;
     while j < times {
         out[at + j] = b;
@@ -81,11 +84,14 @@ pub fn zero_padded(n: u32, k: usize, out: &mut [u8], at: usize) -> usize
     ensures { λ r. ⌜ Laid (now (out .entry)) (now (out .exit)) at r (text.num k n) ⌝ }
 {
     let w = width(n);
-    if w < k {
-        let next = put_times(48, k - w, out, at);
-        return put_digits(n, w, out, next);
+    if k <= w {
+        return put_digits(n, w, out, at);
     }
-    put_digits(n, w, out, at)
+    if k <= 10 {
+        return put_digits(n, k, out, at);
+    }
+    let next = put_times(48, k - w, out, at);
+    put_digits(n, w, out, next)
 }
 
 // A byte, a minus or a colon, where it is wanted, and a padded number behind it.

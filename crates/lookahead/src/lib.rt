@@ -122,7 +122,7 @@ fn name_second(list: NameList, behind: bool) -> bool
     if has_letters(list) { behind } else { false }
 }
 
-fn number_second(quantity: Quantity, least: usize, behind: bool) -> bool
+fn number_second(quantity: Quantity, least: u8, behind: bool) -> bool
     ensures { λ r. ⌜ r ≡ ahead.numberSecond quantity least behind ⌝ }
 {
     if 2 <= least {

@@ -55,7 +55,7 @@ pub enum Quantity {
     Hour1To24,
     Minute,
     Second,
-    Fraction(usize),
+    Fraction(u8),
 }
 
 // The lists of names, each with its own way to choose the name that is written.
@@ -112,16 +112,16 @@ pub enum Rule {
     // A number, padded to `least` digits; read from `least` to `most` bytes, where `zero` gives 0.
     Number {
         quantity: Quantity,
-        least: usize,
-        most: usize,
+        least: u8,
+        most: u8,
         unit: ParseUnit,
         zero: u32,
     },
     // The same, passed over unseen.
     SkippedNumber {
         quantity: Quantity,
-        least: usize,
-        most: usize,
+        least: u8,
+        most: u8,
     },
     // Q and the quarter; two bytes passed over.
     LetterQuarter,

@@ -19,7 +19,7 @@ use rules::role_of;
 use trust::Need;
 
 // The most digits that a quantity has.
-pub fn most_digits(quantity: Quantity) -> usize
+pub fn most_digits(quantity: Quantity) -> u8
     ensures { λ r. ⌜ r ≡ mostDigits quantity ⌝ }
 {
     match quantity {
@@ -40,7 +40,7 @@ pub fn most_digits(quantity: Quantity) -> usize
     }
 }
 
-fn number_need(quantity: Quantity, least: usize, most: usize) -> Need
+fn number_need(quantity: Quantity, least: u8, most: u8) -> Need
     ensures { λ r. ⌜ r ≡ needs.numberNeed quantity least most ⌝ }
 {
     if most < most_digits(quantity) {

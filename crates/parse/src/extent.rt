@@ -5,13 +5,14 @@ ghost use lib.ListN.{length, drop};
 ghost use Rattle.meaning.specs.Readers.{reach};
 
 // So many bytes at least, and at most, as digits follow.
-pub fn extent(least: usize, most: usize, text: &[u8], at: usize) -> usize
+pub fn extent(least: u8, most: u8, text: &[u8], at: usize) -> usize
     requires { ⌜ at ≤ length (now text) ⌝ }
     ensures { λ r. ⌜ r ≡ reach (most - least) least (drop at (now (text .entry))) ⌝ }
 {
     let left = text.len() - at;
-    let mut k = least;
-    while k < most {
+    let bound = most as usize;
+    let mut k = least as usize;
+    while k < bound {
         if left <= k {
             return k;
         }

@@ -12,7 +12,7 @@ use meaning::Role;
 use meaning::Rule;
 
 // A number of which no other value reads as 0.
-fn number(quantity: Quantity, least: usize, most: usize, unit: ParseUnit) -> Rule
+fn number(quantity: Quantity, least: u8, most: u8, unit: ParseUnit) -> Rule
     ensures { λ r. ⌜ r ≡ table.number quantity least most unit ⌝ }
 {
     Rule::Number {
@@ -25,14 +25,14 @@ fn number(quantity: Quantity, least: usize, most: usize, unit: ParseUnit) -> Rul
 }
 
 // So many digits of the second's fraction.
-fn fraction(digits: usize, unit: ParseUnit) -> Rule
+fn fraction(digits: u8, unit: ParseUnit) -> Rule
     ensures { λ r. ⌜ r ≡ table.fraction digits unit ⌝ }
 {
     number(Quantity::Fraction(digits), digits, digits, unit)
 }
 
 // One digit for a count of 1, else two.
-fn one_or_two(count: usize) -> usize
+fn one_or_two(count: usize) -> u8
     ensures { λ r. ⌜ r ≡ when (eqb count 1) 1 2 ⌝ }
 {
     if count == 1 { 1 } else { 2 }
@@ -356,6 +356,10 @@ fn full_role(symbol: u8, count: usize) -> Role
 pub fn role_of(pair: Pair, symbol: u8, count: usize) -> Role
     ensures { λ r. ⌜ r ≡ table.roleOf pair symbol count ⌝ }
 {
+    // below the letters there are only literals
+    if symbol < b'A' {
+        return Role::Literal;
+    }
     match pair {
         Pair::Date => date_role(symbol, count),
         Pair::Full => full_role(symbol, count),

@@ -1,4 +1,5 @@
 -- What lies there and the times still to come are all the times.
+use borrow.Author.Needs.{needs}
 use Prim.Native.Nat.{_+_, _-_, _≤_}
 use lib.ListN.{length, replicate, length-set, length-replicate}
 use lib.Seq.{sets}
@@ -14,6 +15,15 @@ Inv-loop b times out₀ at j₀ out j = (sets out (at + j) (replicate (times - j
 
 abbrev μ-loop : tie.MeasureT-loop
 μ-loop b times out₀ at j₀ out j = times - j
+
+put-byte-requires : tie.Need-put-byte-requires Inv-loop μ-loop
+put-byte-requires c κs = search needs
+
+same-length : tie.Need-same-length Inv-loop μ-loop
+same-length c = search needs
+
+returns : tie.Need-returns Inv-loop μ-loop
+returns c = rw (c .before .before .before .before .if1 .taken) (c .before .before .put-byte .ensures)
 
 loop-holds : tie.Need-loop-holds Inv-loop μ-loop
 loop-holds c = (rw (add-zero, sub-zero), omega arith, refl)
@@ -33,19 +43,19 @@ loop-less c = omega arith
 loop-again : tie.Need-loop-again Inv-loop μ-loop
 loop-again c =
     let L = c .before .loop in
-    let a = c .before .before .args in
+    let a = c .before .before .before .before .args in
     (lay-next-time (L .out) (a .at) (a .b) (a .times) (L .j) (c .loop-test .taken) ∙ L .inv .0, omega arith, simp length-set (L .inv .2))
 
 add-result : tie.Need-add-result Inv-loop μ-loop
 add-result c = omega arith
 
-same-length : tie.Need-same-length Inv-loop μ-loop
-same-length c = c .before .loop .inv .2
+same-length-2 : tie.Need-same-length-2 Inv-loop μ-loop
+same-length-2 c = c .before .loop .inv .2
 
-returns : tie.Need-returns Inv-loop μ-loop
-returns c =
+returns-2 : tie.Need-returns-2 Inv-loop μ-loop
+returns-2 c =
     let L = c .before .loop in
-    let a = c .before .before .args in
+    let a = c .before .before .before .before .args in
     record {
       end = omega (arith, length-replicate (a .times) (a .b));
       held = sym (lay-times-done (L .out) (a .at) (a .b) (a .times) (L .j) (c .loop-test .left)) ∙ L .inv .0;
@@ -57,6 +67,9 @@ put-times-spec =
     (tie.spec
     Inv-loop
     μ-loop
+    put-byte-requires
+    same-length
+    returns
     loop-holds
     add-out
     slice-write-out
@@ -64,5 +77,5 @@ put-times-spec =
     loop-less
     loop-again
     add-result
-    same-length
-    returns)
+    same-length-2
+    returns-2)

@@ -11,10 +11,10 @@ use Rattle.parse.proofs.extent.extent.Statement.{statement}
 use Rattle.parse.proofs.extent.extent.Tie as tie
 
 abbrev Inv-loop : tie.InvT-loop
-Inv-loop least most text at left k₀ k = reach (most - k) k (drop at text) ≡ reach (most - least) least (drop at text)
+Inv-loop least most text at left bound k₀ k = reach (most - k) k (drop at text) ≡ reach (most - least) least (drop at text)
 
 abbrev μ-loop : tie.MeasureT-loop
-μ-loop least most text at left k₀ k = most - k
+μ-loop least most text at left bound k₀ k = most - k
 
 sub-left : tie.Need-sub-left Inv-loop μ-loop
 sub-left c = omega arith
