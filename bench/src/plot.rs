@@ -143,7 +143,7 @@ fn words(x: f64, y: f64, anchor: &str, text: &str) -> String {
 
 /// As much of a label as stands under a group of bars.
 fn short(label: &str) -> String {
-    const MOST: usize = 22;
+    const MOST: usize = 19;
     if label.len() <= MOST {
         return label.to_string();
     }

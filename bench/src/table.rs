@@ -34,7 +34,7 @@ fn cell(line: &Line, number: usize) -> String {
 pub fn notes(rows: &[Row]) -> String {
     let mut notes = String::new();
     for row in rows.iter().filter(|row| !row.note.is_empty()) {
-        notes += &format!("* {}: {}\n", row.pattern, row.note);
+        notes += &format!("note on {}: {}\n", row.pattern, row.note);
     }
     notes
 }

@@ -1,9 +1,23 @@
 //! Medians over rounds in which the contenders take turns.
 
-use std::time::{Duration, Instant};
+use std::ffi::{c_int, c_long};
+use std::time::Duration;
 
 const ROUNDS: usize = 31;
 const BATCH: Duration = Duration::from_millis(2);
+
+/// The clock that counts only while this thread runs, so that other work on the machine does not.
+const THREAD_TIME: c_int = 3;
+
+#[repr(C)]
+struct Timespec {
+    seconds: i64,
+    nanos: c_long,
+}
+
+extern "C" {
+    fn clock_gettime(clock: c_int, time: *mut Timespec) -> c_int;
+}
 
 /// Makes so many calls.
 pub type Calls<'a> = Box<dyn FnMut(usize) + 'a>;
@@ -52,9 +66,16 @@ fn batch_size(calls: &mut Calls) -> usize {
 }
 
 fn timed(calls: &mut Calls, number: usize) -> Duration {
-    let start = Instant::now();
+    let start = thread_time();
     calls(number);
-    start.elapsed()
+    thread_time() - start
+}
+
+fn thread_time() -> Duration {
+    let mut time = Timespec { seconds: 0, nanos: 0 };
+    // SAFETY: the pointer is to a live value of the type that clock_gettime fills.
+    unsafe { clock_gettime(THREAD_TIME, &mut time) };
+    Duration::new(time.seconds as u64, time.nanos as u32)
 }
 
 fn median(mut values: Vec<f64>) -> f64 {
