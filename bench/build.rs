@@ -7,6 +7,7 @@ use std::process::Command;
 fn main() {
     println!("cargo:rustc-check-cfg=cfg(icu)");
     println!("cargo:rerun-if-env-changed=SHEET_ARCHIVE");
+    println!("cargo:rerun-if-env-changed=ICU_VERSION");
     println!("cargo:rerun-if-changed=build.rs");
     println!("cargo:rerun-if-changed=icu.c");
     let archive = env::var("SHEET_ARCHIVE").expect("SHEET_ARCHIVE names the archive; bench/run sets it");
