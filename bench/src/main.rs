@@ -1,4 +1,5 @@
 //! The benchmark: ours beside the Rust, glibc and ICU, in one run on the machine that it was built on.
+#![cfg_attr(not(icu), allow(dead_code))]
 
 mod agreement;
 mod contender;
