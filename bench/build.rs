@@ -1,0 +1,46 @@
+//! Links the archive of ours that SHEET_ARCHIVE names and, where it is there, ICU with its shim.
+
+use std::env;
+use std::path::Path;
+use std::process::Command;
+
+fn main() {
+    println!("cargo:rustc-check-cfg=cfg(icu)");
+    println!("cargo:rerun-if-env-changed=SHEET_ARCHIVE");
+    println!("cargo:rerun-if-env-changed=ICU_VERSION");
+    println!("cargo:rerun-if-changed=build.rs");
+    println!("cargo:rerun-if-changed=icu.c");
+    let archive = env::var("SHEET_ARCHIVE").expect("SHEET_ARCHIVE names the archive; bench/run sets it");
+    println!("cargo:rerun-if-changed={archive}");
+    println!("cargo:rustc-link-arg={archive}");
+    if let Some(words) = icu() {
+        println!("cargo:rustc-cfg=icu");
+        for word in words {
+            println!("cargo:rustc-link-arg={word}");
+        }
+    }
+}
+
+/// The words that link ICU, its shim first; none where ICU is not there.
+fn icu() -> Option<Vec<String>> {
+    let flags = pkg_config("--cflags")?;
+    let libraries = pkg_config("--libs")?;
+    let object = Path::new(&env::var("OUT_DIR").ok()?).join("icu.o");
+    let compiler = env::var("CC").unwrap_or_else(|_| "cc".to_string());
+    let compiled = Command::new(compiler)
+        .args(["-O2", "-fPIC", "-c", "icu.c", "-o"])
+        .arg(&object)
+        .args(flags)
+        .status()
+        .is_ok_and(|status| status.success());
+    let shim = object.to_str().filter(|_| compiled)?.to_string();
+    Some([vec![shim], libraries].concat())
+}
+
+fn pkg_config(what: &str) -> Option<Vec<String>> {
+    let output = Command::new("pkg-config").args([what, "icu-i18n"]).output().ok()?;
+    let words = String::from_utf8(output.stdout)
+        .ok()
+        .filter(|_| output.status.success())?;
+    Some(words.split_whitespace().map(str::to_string).collect())
+}

@@ -1,0 +1,107 @@
+//! The benchmark: ours beside the Rust, glibc and ICU, in one run on the machine that it was built on.
+#![cfg_attr(not(icu), allow(dead_code))]
+
+mod agreement;
+mod contender;
+mod glibc;
+#[cfg(icu)]
+mod icu;
+mod measure;
+mod ours;
+mod plot;
+mod records;
+mod rows;
+mod rust;
+mod table;
+mod timing;
+
+use measure::{Line, Op, NAMES};
+use records::{records, Record};
+use rows::Row;
+use std::env::args;
+use std::fs;
+use std::process::ExitCode;
+
+const USAGE: &str = "usage: bench PICTURE.svg\n       bench calls CONTENDER write|read|check ROW CALLS";
+
+fn main() -> ExitCode {
+    let words: Vec<String> = args().skip(1).collect();
+    let words: Vec<&str> = words.iter().map(String::as_str).collect();
+    let outcome = match words[..] {
+        [picture] => run(picture),
+        ["calls", contender, op, row, calls] => only_calls(contender, op, row, calls),
+        _ => Err(USAGE.to_string()),
+    };
+    match outcome {
+        Ok(()) => ExitCode::SUCCESS,
+        Err(why) => {
+            eprintln!("bench: {why}");
+            ExitCode::FAILURE
+        }
+    }
+}
+
+/// Everything: agreement first, then the tables and the picture.
+fn run(picture: &str) -> Result<(), String> {
+    let (rows, records) = (rows::rows(), records());
+    agreed(&rows, &records)?;
+    if cfg!(not(icu)) {
+        println!("ICU is left out: pkg-config finds no icu-i18n\n");
+    }
+    let lines = |op| -> Vec<Line> { rows.iter().map(|row| measure::compared(op, row, &records)).collect() };
+    let (written, read) = (lines(Op::Write), lines(Op::Read));
+    println!("{}", table::comparison("Writing", &written));
+    println!("{}", table::comparison("Reading", &read));
+    println!("{}", table::notes(&rows));
+    print!("{}", table::standing("Rust", 10.0, "Writing", &written));
+    print!("{}", table::standing("Rust", 7.0, "Reading", &read));
+    print!("{}", table::standing("glibc", 1.0, "Writing", &written));
+    println!("{}", table::standing("glibc", 1.0, "Reading", &read));
+    let patterns = rows::checked();
+    println!("{}", table::checks(&patterns, &measure::checked(&patterns)));
+    let growths = measure::grown(&records);
+    println!("{}", table::growths(&growths));
+    fs::write(picture, plot::picture(&written, &read, &growths)).map_err(|why| format!("{picture}: {why}"))?;
+    println!("picture: {picture}");
+    Ok(())
+}
+
+fn agreed(rows: &[Row], records: &[Record]) -> Result<(), String> {
+    let patterns = rows.iter().map(|row| row.pattern.clone());
+    let grown = rows::LENGTHS.iter().map(|length| rows::stamps(*length));
+    match patterns
+        .chain(grown)
+        .find_map(|pattern| agreement::difference(&pattern, records))
+    {
+        Some(difference) => Err(format!("{difference}\nnothing is measured")),
+        None => match rows::checked()
+            .iter()
+            .find(|pattern| !ours::says_yes(pattern.as_bytes()))
+        {
+            Some(pattern) => Err(format!("the check of ours does not say yes to {pattern:?}")),
+            None => Ok(()),
+        },
+    }
+}
+
+/// Nothing but calls of one contender at one row, for a profiler to count.
+fn only_calls(contender: &str, op: &str, row: &str, calls: &str) -> Result<(), String> {
+    let (rows, records) = (rows::rows(), records());
+    let row: usize = row.parse().map_err(|_| USAGE)?;
+    let calls = calls.parse().map_err(|_| USAGE)?;
+    if op == "check" {
+        let pattern = rows::checked().into_iter().nth(row).ok_or(USAGE)?;
+        ours::check_calls(pattern.as_bytes(), calls);
+        return Ok(());
+    }
+    let number = NAMES.iter().position(|name| *name == contender).ok_or(USAGE)?;
+    let row = rows.get(row).ok_or(USAGE)?;
+    let mut contender =
+        measure::contender(number, row, &records).ok_or("not there, or it does not take the pattern")?;
+    match op {
+        "write" => contender.write_calls(calls),
+        "read" => contender.read_calls(calls),
+        _ => return Err(USAGE.to_string()),
+    }
+    Ok(())
+}

@@ -1,0 +1,195 @@
+//! Ours, through its C interface.
+
+use crate::contender::Contender;
+use crate::records::{Record, CURRENT_YEAR, RECORDS};
+use harness::Fields;
+use std::hint::black_box;
+
+/// Always enough: 8 bytes for each of the longest pattern.
+const ROOM: usize = 2048;
+const VALUES: usize = 15;
+
+/// What a reading has in front of the values: bytes taken, mask, number of units.
+const HEAD: usize = 3;
+
+/// A verdict: 1, or 0 with the part and the eight fields of a record.
+const VERDICT: usize = 10;
+
+extern "C" {
+    fn sheet_write(
+        pattern: *const u8,
+        pattern_length: usize,
+        year: i32,
+        month: u32,
+        day: u32,
+        day_of_year: u32,
+        week: u32,
+        weekday: u32,
+        nanoseconds: u64,
+        offset: i32,
+        out: *mut u8,
+        room: usize,
+        answer: *mut i64,
+        answer_length: usize,
+    ) -> u32;
+    fn sheet_read(
+        pattern: *const u8,
+        pattern_length: usize,
+        text: *const u8,
+        text_length: usize,
+        current_year: i32,
+        answer: *mut i64,
+        answer_length: usize,
+    ) -> u32;
+    fn sheet_check(
+        pattern: *const u8,
+        pattern_length: usize,
+        current_year: i32,
+        answer: *mut i64,
+        answer_length: usize,
+    ) -> u32;
+}
+
+/// What a read gives.
+#[derive(Debug, PartialEq, Eq)]
+pub struct Reading {
+    pub taken: usize,
+    pub mask: u16,
+    pub values: [i64; VALUES],
+}
+
+/// The length of the text, or the number of the refusal.
+#[inline(always)]
+pub fn write(pattern: &[u8], f: &Fields, out: &mut [u8]) -> Result<usize, u32> {
+    let mut answer = [0; 2];
+    // SAFETY: each pointer goes with the length of the slice that it comes from.
+    let number = unsafe {
+        sheet_write(
+            pattern.as_ptr(),
+            pattern.len(),
+            f.year,
+            f.month,
+            f.day,
+            f.day_of_year,
+            f.week,
+            f.weekday,
+            f.nanoseconds,
+            f.offset,
+            out.as_mut_ptr(),
+            out.len(),
+            answer.as_mut_ptr(),
+            answer.len(),
+        )
+    };
+    accepted(number, || answer[0] as usize)
+}
+
+pub fn read(pattern: &[u8], text: &[u8]) -> Result<Reading, u32> {
+    let mut answer = [0; HEAD + VALUES];
+    let number = read_into(pattern, text, &mut answer);
+    accepted(number, || Reading {
+        taken: answer[0] as usize,
+        mask: answer[1] as u16,
+        values: answer[HEAD..].try_into().expect("as many values as units"),
+    })
+}
+
+#[inline(always)]
+fn read_into(pattern: &[u8], text: &[u8], answer: &mut [i64]) -> u32 {
+    // SAFETY: each pointer goes with the length of the slice that it comes from.
+    unsafe {
+        sheet_read(
+            pattern.as_ptr(),
+            pattern.len(),
+            text.as_ptr(),
+            text.len(),
+            CURRENT_YEAR,
+            answer.as_mut_ptr(),
+            answer.len(),
+        )
+    }
+}
+
+#[inline(always)]
+fn check_into(pattern: &[u8], answer: &mut [i64]) -> u32 {
+    // SAFETY: each pointer goes with the length of the slice that it comes from.
+    unsafe {
+        sheet_check(
+            pattern.as_ptr(),
+            pattern.len(),
+            CURRENT_YEAR,
+            answer.as_mut_ptr(),
+            answer.len(),
+        )
+    }
+}
+
+pub fn says_yes(pattern: &[u8]) -> bool {
+    let mut answer = [0; VERDICT];
+    check_into(pattern, &mut answer) == 0 && answer[0] == 1
+}
+
+/// So many checks of a pattern.
+pub fn check_calls(pattern: &[u8], calls: usize) {
+    let mut answer = [0; VERDICT];
+    for _ in 0..calls {
+        black_box(check_into(black_box(pattern), black_box(&mut answer)));
+    }
+}
+
+pub struct Ours<'a> {
+    pattern: &'a [u8],
+    records: &'a [Record],
+    texts: Vec<Vec<u8>>,
+    out: Vec<u8>,
+}
+
+impl<'a> Ours<'a> {
+    pub fn new(pattern: &'a str, records: &'a [Record]) -> Option<Self> {
+        let mut this = Ours {
+            pattern: pattern.as_bytes(),
+            records,
+            texts: Vec::new(),
+            out: vec![0; ROOM],
+        };
+        this.texts = (0..RECORDS).map(|record| this.text(record)).collect::<Option<_>>()?;
+        Some(this)
+    }
+}
+
+impl Contender for Ours<'_> {
+    fn text(&mut self, record: usize) -> Option<Vec<u8>> {
+        let length = write(self.pattern, &self.records[record].fields, &mut self.out).ok()?;
+        Some(self.out[..length].to_vec())
+    }
+
+    fn write_calls(&mut self, calls: usize) {
+        for call in 0..calls {
+            let fields = &self.records[call % RECORDS].fields;
+            let _ = black_box(write(
+                black_box(self.pattern),
+                black_box(fields),
+                black_box(&mut self.out),
+            ));
+        }
+    }
+
+    fn read_calls(&mut self, calls: usize) {
+        let mut answer = [0; HEAD + VALUES];
+        for call in 0..calls {
+            let text = &self.texts[call % RECORDS];
+            black_box(read_into(
+                black_box(self.pattern),
+                black_box(text),
+                black_box(&mut answer),
+            ));
+        }
+    }
+}
+
+fn accepted<T>(number: u32, answer: impl FnOnce() -> T) -> Result<T, u32> {
+    match number {
+        0 => Ok(answer()),
+        _ => Err(number),
+    }
+}
