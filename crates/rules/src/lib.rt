@@ -3,6 +3,7 @@ ghost use mathlib.Core.Path.{_≡_};
 ghost use lib.Dec.{eqb};
 ghost use Rattle.meaning.specs.Bytes.{when};
 ghost use Rattle.meaning.specs.Rules as table;
+ghost use Rattle.rules.specs.Letters.{isAmong};
 use meaning::Group;
 use meaning::NameList;
 use meaning::Pair;
@@ -342,26 +343,35 @@ pub fn time_role(symbol: u8, count: usize) -> Role
     Role::Symbol(rule)
 }
 
-fn full_role(symbol: u8, count: usize) -> Role
-    ensures { λ r. ⌜ r ≡ table.roleOf Pair.Full symbol count ⌝ }
+fn is_date_symbol(b: u8) -> bool
+    ensures { λ r. ⌜ r ≡ isAmong table.dateSymbols b ⌝ }
 {
-    let date = date_role(symbol, count);
-    match date {
-        Role::Literal => time_role(symbol, count),
-        Role::Symbol(_) => date,
+    match b {
+        b'G' => true,
+        b'y' => true,
+        b'q' => true,
+        b'M' => true,
+        b'w' => true,
+        b'd' => true,
+        b'D' => true,
+        b'e' => true,
+        _ => false,
     }
 }
 
-// What a run of `count` equal bytes does: in the Date pair, time symbols are plain literals.
+// What a run of `count` equal bytes does: below the letters there are only literals; in the Date pair, time symbols are
+// plain literals too.
 pub fn role_of(pair: Pair, symbol: u8, count: usize) -> Role
     ensures { λ r. ⌜ r ≡ table.roleOf pair symbol count ⌝ }
 {
-    // below the letters there are only literals
     if symbol < b'A' {
         return Role::Literal;
     }
+    if is_date_symbol(symbol) {
+        return date_role(symbol, count);
+    }
     match pair {
-        Pair::Date => date_role(symbol, count),
-        Pair::Full => full_role(symbol, count),
+        Pair::Date => Role::Literal,
+        Pair::Full => time_role(symbol, count),
     }
 }
