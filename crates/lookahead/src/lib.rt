@@ -20,6 +20,7 @@ use needs::most_digits;
 use parts::next_part;
 use parts::quoted::bytes_of;
 use rules::role_of;
+use trust::Opening;
 
 fn is_digit(b: u8) -> bool
     ensures { λ r. ⌜ r ≡ isDigit b ⌝ }
@@ -30,57 +31,40 @@ fn is_digit(b: u8) -> bool
     b <= b'9'
 }
 
-// Only the quarters' names begin with a digit.
-fn name_first(list: NameList) -> bool
-    ensures { λ r. ⌜ r ≡ ahead.nameFirst list ⌝ }
+// How the names of a list begin: only the quarters' with a digit; some are one byte.
+fn opening_of(list: NameList) -> Opening
+    ensures { λ r. ⌜ r ≡ ahead.opening list ⌝ }
 {
     match list {
-        NameList::EraAbbreviated => false,
-        NameList::EraNarrow => false,
-        NameList::EraWide => false,
-        NameList::QuarterWide => true,
-        NameList::MonthAbbreviated => false,
-        NameList::MonthWide => false,
-        NameList::MonthNarrow => false,
-        NameList::WdayAbbreviated => false,
-        NameList::WdayWide => false,
-        NameList::WdayNarrow => false,
-        NameList::WdayShort => false,
-        NameList::PeriodUpper => false,
-        NameList::PeriodLower => false,
-        NameList::PeriodDotted => false,
-        NameList::PeriodLetter => false,
-        NameList::NoonUpper => false,
-        NameList::NoonLower => false,
-        NameList::NoonDotted => false,
-        NameList::NoonLetter => false,
+        NameList::EraAbbreviated => Opening::Word,
+        NameList::EraNarrow => Opening::OneLetter,
+        NameList::EraWide => Opening::Word,
+        NameList::QuarterWide => Opening::Digit,
+        NameList::MonthAbbreviated => Opening::Word,
+        NameList::MonthWide => Opening::Word,
+        NameList::MonthNarrow => Opening::OneLetter,
+        NameList::WdayAbbreviated => Opening::Word,
+        NameList::WdayWide => Opening::Word,
+        NameList::WdayNarrow => Opening::OneLetter,
+        NameList::WdayShort => Opening::Word,
+        NameList::PeriodUpper => Opening::Word,
+        NameList::PeriodLower => Opening::Word,
+        NameList::PeriodDotted => Opening::Word,
+        NameList::PeriodLetter => Opening::OneLetter,
+        NameList::NoonUpper => Opening::Word,
+        NameList::NoonLower => Opening::Word,
+        NameList::NoonDotted => Opening::Word,
+        NameList::NoonLetter => Opening::OneLetter,
     }
 }
 
-// The lists with names of one byte.
-fn has_letters(list: NameList) -> bool
-    ensures { λ r. ⌜ r ≡ ahead.hasLetters list ⌝ }
+fn name_first(list: NameList) -> bool
+    ensures { λ r. ⌜ r ≡ ahead.nameFirst list ⌝ }
 {
-    match list {
-        NameList::EraAbbreviated => false,
-        NameList::EraNarrow => true,
-        NameList::EraWide => false,
-        NameList::QuarterWide => false,
-        NameList::MonthAbbreviated => false,
-        NameList::MonthWide => false,
-        NameList::MonthNarrow => true,
-        NameList::WdayAbbreviated => false,
-        NameList::WdayWide => false,
-        NameList::WdayNarrow => true,
-        NameList::WdayShort => false,
-        NameList::PeriodUpper => false,
-        NameList::PeriodLower => false,
-        NameList::PeriodDotted => false,
-        NameList::PeriodLetter => true,
-        NameList::NoonUpper => false,
-        NameList::NoonLower => false,
-        NameList::NoonDotted => false,
-        NameList::NoonLetter => true,
+    match opening_of(list) {
+        Opening::Digit => true,
+        Opening::OneLetter => false,
+        Opening::Word => false,
     }
 }
 
@@ -119,7 +103,11 @@ fn rule_first(rule: Rule) -> bool
 fn name_second(list: NameList, behind: bool) -> bool
     ensures { λ r. ⌜ r ≡ ahead.nameSecond list behind ⌝ }
 {
-    if has_letters(list) { behind } else { false }
+    match opening_of(list) {
+        Opening::Digit => false,
+        Opening::OneLetter => behind,
+        Opening::Word => false,
+    }
 }
 
 fn number_second(quantity: Quantity, least: u8, behind: bool) -> bool

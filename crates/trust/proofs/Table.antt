@@ -24,7 +24,7 @@ use Rattle.meaning.specs.declared.Rule.the-variants.{Number, SkippedNumber, Let
 use Rattle.laws.proofs.Names.{allApart}
 use Rattle.laws.proofs.Tests.{both-true, every, when-is}
 use Rattle.laws.specs.Widths.{mostDigits}
-use Rattle.trust.specs.Ahead.{nameFirst, hasLetters}
+use Rattle.trust.specs.Ahead.{opening, nameFirst, hasLetters}
 use Rattle.trust.specs.Check.{oneDigit, twoDigits}
 
 -- the number that a quantity writes for zero
@@ -127,11 +127,11 @@ roleFits role.Literal = true
 roleFits (role.Symbol rule) = fits rule
 
 date-symbols-fit : every symbolFits dateSymbols ≡ true
-unfolding fits numberFits namesFit sameLength allApart english nameFirst hasLetters mostDigits quantityOf num digitAt nameText
+unfolding fits numberFits namesFit sameLength allApart english opening nameFirst hasLetters mostDigits quantityOf num digitAt nameText
 date-symbols-fit = refl
 
 time-symbols-fit : every symbolFits timeSymbols ≡ true
-unfolding fits numberFits namesFit sameLength allApart nameFirst hasLetters mostDigits quantityOf num digitAt nameText
+unfolding fits numberFits namesFit sameLength allApart opening nameFirst hasLetters mostDigits quantityOf num digitAt nameText
 time-symbols-fit = refl
 
 -- what is picked from it

@@ -12,51 +12,40 @@ use Rattle.meaning.specs.declared.NameList.the-variants.{EraAbbreviated, EraNar
 use Rattle.meaning.specs.declared.Quantity.{Quantity}
 use Rattle.meaning.specs.declared.Rule.{Rule}
 use Rattle.meaning.specs.declared.Rule.the-variants.{Number, SkippedNumber, LetterQuarter, SkippedName, MatchedName, Letters, Years, FixedYear, TwoDigitYear, Zone}
+use Rattle.trust.specs.declared.Opening.{Opening}
+use Rattle.trust.specs.declared.Opening.the-variants.{Digit, OneLetter, Word}
 use Rattle.laws.specs.Widths.{mostDigits}
 
--- English names that begin with a digit: "1st quarter", 2nd, 3rd, 4th
-unfoldable pub nameFirst : NameList → Bool
-nameFirst EraAbbreviated = false
-nameFirst EraNarrow = false
-nameFirst EraWide = false
-nameFirst QuarterWide = true
-nameFirst MonthAbbreviated = false
-nameFirst MonthWide = false
-nameFirst MonthNarrow = false
-nameFirst WdayAbbreviated = false
-nameFirst WdayWide = false
-nameFirst WdayNarrow = false
-nameFirst WdayShort = false
-nameFirst PeriodUpper = false
-nameFirst PeriodLower = false
-nameFirst PeriodDotted = false
-nameFirst PeriodLetter = false
-nameFirst NoonUpper = false
-nameFirst NoonLower = false
-nameFirst NoonDotted = false
-nameFirst NoonLetter = false
+-- how English names begin: "1st quarter", 2nd, 3rd, 4th with a digit; some lists have names of one byte, which may be among
+-- longer ones
+unfoldable pub opening : NameList → Opening
+opening EraAbbreviated = Word
+opening EraNarrow = OneLetter
+opening EraWide = Word
+opening QuarterWide = Digit
+opening MonthAbbreviated = Word
+opening MonthWide = Word
+opening MonthNarrow = OneLetter
+opening WdayAbbreviated = Word
+opening WdayWide = Word
+opening WdayNarrow = OneLetter
+opening WdayShort = Word
+opening PeriodUpper = Word
+opening PeriodLower = Word
+opening PeriodDotted = Word
+opening PeriodLetter = OneLetter
+opening NoonUpper = Word
+opening NoonLower = Word
+opening NoonDotted = Word
+opening NoonLetter = OneLetter
 
--- English lists with names of one byte; the second byte of a name is no digit
+unfoldable pub nameFirst : NameList → Bool
+unfolding opening
+nameFirst l = elim (opening l) [ Digit ↦ true | OneLetter ↦ false | Word ↦ false ]
+
 unfoldable pub hasLetters : NameList → Bool
-hasLetters EraAbbreviated = false
-hasLetters EraNarrow = true
-hasLetters EraWide = false
-hasLetters QuarterWide = false
-hasLetters MonthAbbreviated = false
-hasLetters MonthWide = false
-hasLetters MonthNarrow = true
-hasLetters WdayAbbreviated = false
-hasLetters WdayWide = false
-hasLetters WdayNarrow = true
-hasLetters WdayShort = false
-hasLetters PeriodUpper = false
-hasLetters PeriodLower = false
-hasLetters PeriodDotted = false
-hasLetters PeriodLetter = true
-hasLetters NoonUpper = false
-hasLetters NoonLower = false
-hasLetters NoonDotted = false
-hasLetters NoonLetter = true
+unfolding opening
+hasLetters l = elim (opening l) [ Digit ↦ false | OneLetter ↦ true | Word ↦ false ]
 
 -- a name of one byte leaves the second to what is behind it
 abbrev pub nameSecond : NameList → Bool → Bool

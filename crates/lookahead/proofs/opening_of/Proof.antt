@@ -1,8 +1,8 @@
 -- Each arm is what its list says.
 use borrow.Author.Needs.{needs}
-use Rattle.trust.specs.Ahead.{hasLetters}
-use Rattle.lookahead.proofs.has_letters.Statement.{statement}
-use Rattle.lookahead.proofs.has_letters.Tie as tie
+use Rattle.trust.specs.Ahead.{opening}
+use Rattle.lookahead.proofs.opening_of.Statement.{statement}
+use Rattle.lookahead.proofs.opening_of.Tie as tie
 
 enum-told : tie.Need-enum-told
 enum-told c = search needs
@@ -62,83 +62,83 @@ enum-told-19 : tie.Need-enum-told-19
 enum-told-19 c = search needs
 
 returns : tie.Need-returns
-unfolding hasLetters
+unfolding opening
 returns c = rw (c .enum-told .given .1)
 
 returns-2 : tie.Need-returns-2
-unfolding hasLetters
+unfolding opening
 returns-2 c = rw (c .enum-told2 .given .1)
 
 returns-3 : tie.Need-returns-3
-unfolding hasLetters
+unfolding opening
 returns-3 c = rw (c .enum-told3 .given .1)
 
 returns-4 : tie.Need-returns-4
-unfolding hasLetters
+unfolding opening
 returns-4 c = rw (c .enum-told4 .given .1)
 
 returns-5 : tie.Need-returns-5
-unfolding hasLetters
+unfolding opening
 returns-5 c = rw (c .enum-told5 .given .1)
 
 returns-6 : tie.Need-returns-6
-unfolding hasLetters
+unfolding opening
 returns-6 c = rw (c .enum-told6 .given .1)
 
 returns-7 : tie.Need-returns-7
-unfolding hasLetters
+unfolding opening
 returns-7 c = rw (c .enum-told7 .given .1)
 
 returns-8 : tie.Need-returns-8
-unfolding hasLetters
+unfolding opening
 returns-8 c = rw (c .enum-told8 .given .1)
 
 returns-9 : tie.Need-returns-9
-unfolding hasLetters
+unfolding opening
 returns-9 c = rw (c .enum-told9 .given .1)
 
 returns-10 : tie.Need-returns-10
-unfolding hasLetters
+unfolding opening
 returns-10 c = rw (c .enum-told10 .given .1)
 
 returns-11 : tie.Need-returns-11
-unfolding hasLetters
+unfolding opening
 returns-11 c = rw (c .enum-told11 .given .1)
 
 returns-12 : tie.Need-returns-12
-unfolding hasLetters
+unfolding opening
 returns-12 c = rw (c .enum-told12 .given .1)
 
 returns-13 : tie.Need-returns-13
-unfolding hasLetters
+unfolding opening
 returns-13 c = rw (c .enum-told13 .given .1)
 
 returns-14 : tie.Need-returns-14
-unfolding hasLetters
+unfolding opening
 returns-14 c = rw (c .enum-told14 .given .1)
 
 returns-15 : tie.Need-returns-15
-unfolding hasLetters
+unfolding opening
 returns-15 c = rw (c .enum-told15 .given .1)
 
 returns-16 : tie.Need-returns-16
-unfolding hasLetters
+unfolding opening
 returns-16 c = rw (c .enum-told16 .given .1)
 
 returns-17 : tie.Need-returns-17
-unfolding hasLetters
+unfolding opening
 returns-17 c = rw (c .enum-told17 .given .1)
 
 returns-18 : tie.Need-returns-18
-unfolding hasLetters
+unfolding opening
 returns-18 c = rw (c .enum-told18 .given .1)
 
 returns-19 : tie.Need-returns-19
-unfolding hasLetters
+unfolding opening
 returns-19 c = rw (c .enum-told19 .given .1)
 
-pub has-letters-spec : {M : Type 1} → statement M
-has-letters-spec =
+pub opening-of-spec : {M : Type 1} → statement M
+opening-of-spec =
     tie.close
     (tie.spec
     enum-told
