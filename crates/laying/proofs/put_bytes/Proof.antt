@@ -6,8 +6,8 @@ use lib.Seq.{sets}
 use mathlib.Core.Path.{_≡_, refl, sym, _∙_}
 use native.Mathlib.Nat.{add-zero}
 use native.Mathlib.Omega.{arith}
-use Rattle.leaves.proofs.numbers.put_bytes.Statement.{statement}
-use Rattle.leaves.proofs.numbers.put_bytes.Tie as tie
+use Rattle.laying.proofs.put_bytes.Statement.{statement}
+use Rattle.laying.proofs.put_bytes.Tie as tie
 use Rattle.laws.proofs.Laid.{lay-next, lay-done}
 
 abbrev Inv-loop : tie.InvT-loop

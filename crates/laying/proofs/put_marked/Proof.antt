@@ -1,8 +1,8 @@
 -- The byte where it is wanted, then the digits.
 use borrow.Author.Needs.{needs}
 use native.Mathlib.Omega.{arith}
-use Rattle.leaves.proofs.numbers.put_marked.Statement.{statement}
-use Rattle.leaves.proofs.numbers.put_marked.Tie as tie
+use Rattle.laying.proofs.put_marked.Statement.{statement}
+use Rattle.laying.proofs.put_marked.Tie as tie
 use Rattle.laws.proofs.Laid.{laid-then}
 
 put-byte-requires : tie.Need-put-byte-requires

@@ -6,8 +6,8 @@ use lib.Seq.{sets}
 use mathlib.Core.Path.{_≡_, refl, sym, _∙_}
 use native.Mathlib.Nat.{add-zero, sub-zero}
 use native.Mathlib.Omega.{arith}
-use Rattle.leaves.proofs.numbers.put_times.Statement.{statement}
-use Rattle.leaves.proofs.numbers.put_times.Tie as tie
+use Rattle.laying.proofs.put_times.Statement.{statement}
+use Rattle.laying.proofs.put_times.Tie as tie
 use Rattle.laws.proofs.Laid.{lay-next-time, lay-times-done}
 
 abbrev Inv-loop : tie.InvT-loop

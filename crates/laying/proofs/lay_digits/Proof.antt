@@ -4,8 +4,8 @@ use lib.ListN.{length, length-set}
 use lib.Seq.{sets}
 use mathlib.Core.Path.{_≡_, refl, sym, _∙_}
 use native.Mathlib.Omega.{arith}
-use Rattle.leaves.proofs.numbers.lay_digits.Statement.{statement}
-use Rattle.leaves.proofs.numbers.lay_digits.Tie as tie
+use Rattle.laying.proofs.lay_digits.Statement.{statement}
+use Rattle.laying.proofs.lay_digits.Tie as tie
 use Rattle.laws.proofs.Digits.{digits-turn, digits-done}
 use Rattle.meaning.specs.Bytes as text
 

@@ -5,8 +5,8 @@ use lib.ListN.{length-replicate}
 use native.Mathlib.Omega.{arith}
 use Rattle.laws.proofs.Digits.{length-num, num-padded, num-bare, num-wide, width-at-most}
 use Rattle.laws.proofs.Laid.{laid-then}
-use Rattle.leaves.proofs.numbers.zero_padded.Statement.{statement}
-use Rattle.leaves.proofs.numbers.zero_padded.Tie as tie
+use Rattle.laying.proofs.zero_padded.Statement.{statement}
+use Rattle.laying.proofs.zero_padded.Tie as tie
 
 width-requires : tie.Need-width-requires
 width-requires c κs = search needs
