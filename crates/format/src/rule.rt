@@ -9,7 +9,7 @@ ghost use Rattle.meaning.specs.Bytes.{num};
 ghost use Rattle.meaning.specs.Names.{english};
 ghost use Rattle.meaning.specs.Writing.{quantityOf, nameText, ruleText};
 ghost use Rattle.meaning.specs.declared.Checked.the-variants.{Fine};
-use constants::format_name;
+use english::format_name;
 use fields::values::place_of;
 use fields::values::quantity_of;
 use laying::put_byte;

@@ -7,10 +7,8 @@ use lib.Dec.{T, eqb, leb}
 use lib.ListN.{length, take, drop, getD}
 use Rattle.meaning.specs.Bytes.{both}
 use Rattle.meaning.specs.Readers.{Got, got, stopped}
-use Rattle.meaning.specs.declared.NameList.{NameList}
-use Rattle.meaning.specs.declared.NameList.the-variants.{EraAbbreviated, EraNarrow, EraWide, QuarterWide, MonthAbbreviated, MonthWide, MonthNarrow, WdayAbbreviated, WdayWide, WdayNarrow, WdayShort, PeriodUpper, PeriodDotted, PeriodLetter, NoonUpper, NoonDotted, NoonLetter}
-use Rattle.constants.specs.declared.Found.{Found}
-use Rattle.constants.specs.declared.Found.the-variants.{Name, Nothing}
+use Rattle.tables.specs.declared.Found.{Found}
+use Rattle.tables.specs.declared.Found.the-variants.{Name, Nothing}
 
 -- the bytes of a row: no name has more
 abbrev pub rowWidth : ℕ
@@ -42,14 +40,3 @@ foundIn (stopped why place) = Nothing
 pub record IsTable (rows lens : List ℕ) (these : List (List ℕ)) : Type 0 where
   pub whole : T (tableOk rows lens)
   pub held : table rows lens ≡ these
-
--- the list whose names a numbered table holds: those of two names, of four, six, seven and twelve
-abbrev pub listAt : ℕ → NameList
-listAt n =
-    getD
-    (EraAbbreviated ∷ EraNarrow ∷ EraWide ∷ PeriodDotted ∷ PeriodLetter
-    ∷ QuarterWide ∷ PeriodUpper ∷ NoonDotted ∷ NoonLetter
-    ∷ NoonUpper
-    ∷ WdayWide ∷ WdayAbbreviated ∷ WdayShort ∷ WdayNarrow
-    ∷ MonthWide ∷ MonthAbbreviated ∷ MonthNarrow ∷ [])
-    n MonthNarrow

@@ -1,4 +1,4 @@
--- `constants::put_name` meets its contract. The loop keeps the bytes that remain to be laid and what the name's row holds.
+-- `tables::put_name` meets its contract. The loop keeps the bytes that remain to be laid and what the name's row holds.
 use mathlib.Core.Path.{_≡_, refl, sym, _∙_}
 use Prim.Native.Nat.{_+_, _≤_, _-_}
 use native.Mathlib.Nat.{add-zero}
@@ -7,10 +7,10 @@ use borrow.Author.Needs.{needs}
 use lib.ListN.{length, drop, length-set}
 use lib.Seq.{sets}
 use Rattle.laws.proofs.Laid.{lay-next, lay-done}
-use Rattle.constants.specs.Table.{nameAt}
-use Rattle.constants.proofs.Laws.{Row, row}
-use Rattle.constants.proofs.put_name.Statement.{statement}
-use Rattle.constants.proofs.put_name.Tie as tie
+use Rattle.tables.specs.Table.{nameAt}
+use Rattle.tables.proofs.Laws.{Row, row}
+use Rattle.tables.proofs.put_name.Statement.{statement}
+use Rattle.tables.proofs.put_name.Tie as tie
 
 abbrev Inv-loop : tie.InvT-loop
 Inv-loop rows lens index out₀ at size j₀ out j =

@@ -1,9 +1,9 @@
--- `constants::match_name` meets its contract: the table of the list's number, t, holds the list's names. The answers
+-- `english::match_name` meets its contract: the table of the list's number, t, holds the list's names. The answers
 -- stand size by size, l where the number is known.
 use borrow.Author.Needs.{needs}
-use Rattle.constants.proofs.Laws.{match-told}
-use Rattle.constants.proofs.match_name.Statement.{statement}
-use Rattle.constants.proofs.match_name.Tie as tie
+use Rattle.tables.proofs.Laws.{match-told}
+use Rattle.english.proofs.match_name.Statement.{statement}
+use Rattle.english.proofs.match_name.Tie as tie
 
 pub match-name-spec : {M : Type 1} → statement M
 match-name-spec =

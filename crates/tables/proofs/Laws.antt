@@ -15,8 +15,8 @@ use Rattle.meaning.specs.Bytes.{both, when}
 use Rattle.meaning.specs.Readers.{begins, firstName, matchName, got, stopped}
 use Rattle.meaning.specs.declared.Trouble.the-variants.{NoName}
 use Rattle.laws.specs.Laid.{Laid}
-use Rattle.constants.specs.Table.{IsTable, rowWidth, table, nameAt, tableOk, allShort, foundIn}
-use Rattle.constants.specs.declared.Found.{Found}
+use Rattle.tables.specs.Table.{IsTable, rowWidth, table, nameAt, tableOk, allShort, foundIn}
+use Rattle.tables.specs.declared.Found.{Found}
 
 -- ---- what a row holds
 

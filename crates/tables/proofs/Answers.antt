@@ -10,9 +10,9 @@ use lib.ListN.{length}
 use Rattle.laws.proofs.Tests.{by-test, true-is-not-false, when-is}
 use Rattle.meaning.specs.Readers.{Got, got, stopped, begins, firstName, matchName}
 use Rattle.meaning.specs.declared.Trouble.the-variants.{NoName}
-use Rattle.constants.specs.Table.{foundIn}
-use Rattle.constants.specs.declared.Found.the-variants.{Name, Nothing}
-use Rattle.constants.proofs.Laws.{too-long}
+use Rattle.tables.specs.Table.{foundIn}
+use Rattle.tables.specs.declared.Found.the-variants.{Name, Nothing}
+use Rattle.tables.proofs.Laws.{too-long}
 
 pub found-name : (g : Got ℕ) {index n : ℕ} → foundIn g ≡ Name index n → g ≡ got n index
 found-name (got n index) e = cc

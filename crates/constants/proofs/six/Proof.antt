@@ -2,8 +2,8 @@
 use mathlib.Core.Path.{refl}
 use Rattle.meaning.specs.Bytes.{bytes}
 use Rattle.meaning.specs.Names.{names, english}
-use Rattle.constants.proofs.tables.six.Statement.{statement}
-use Rattle.constants.proofs.tables.six.Tie as tie
+use Rattle.constants.proofs.six.Statement.{statement}
+use Rattle.constants.proofs.six.Tie as tie
 
 pub six-spec : {M : Type 1} → statement M
 unfolding names english bytes

@@ -1,4 +1,4 @@
--- `constants::first_name` meets its contract. The loop over names keeps the match that remains, the loop over bytes the
+-- `tables::first_name` meets its contract. The loop over names keeps the match that remains, the loop over bytes the
 -- comparison that remains and what the name's row holds.
 use mathlib.Core.Path.{_≡_, refl, sym, _∙_}
 use Prim.Native.Nat.{_≤_, _<_, _-_}
@@ -7,10 +7,10 @@ use borrow.Author.Needs.{needs}
 use denote.Ref.{now}
 use lib.ListN.{length, drop}
 use Rattle.meaning.specs.Readers.{begins, firstName, matchName}
-use Rattle.constants.specs.Table.{table, nameAt}
-use Rattle.constants.proofs.Laws.{Row, row, too-long, same-byte, other-byte, all-bytes, this-name, next-name, no-name}
-use Rattle.constants.proofs.first_name.Statement.{statement}
-use Rattle.constants.proofs.first_name.Tie as tie
+use Rattle.tables.specs.Table.{table, nameAt}
+use Rattle.tables.proofs.Laws.{Row, row, too-long, same-byte, other-byte, all-bytes, this-name, next-name, no-name}
+use Rattle.tables.proofs.first_name.Statement.{statement}
+use Rattle.tables.proofs.first_name.Tie as tie
 
 abbrev Inv-loop : tie.InvT-loop
 Inv-loop rows lens text index₀ size j₀ index-end index j =

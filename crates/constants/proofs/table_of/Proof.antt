@@ -1,8 +1,8 @@
 -- Each arm's number is that of a table with its list's names.
 use borrow.Author.Needs.{needs}
 use Rattle.meaning.specs.Names.{names}
-use Rattle.constants.proofs.tables.table_of.Statement.{statement}
-use Rattle.constants.proofs.tables.table_of.Tie as tie
+use Rattle.constants.proofs.table_of.Statement.{statement}
+use Rattle.constants.proofs.table_of.Tie as tie
 
 pub table-of-spec : {M : Type 1} → statement M
 unfolding names
