@@ -13,7 +13,7 @@ use crate::reads::answer_read;
 use crate::splits::answer_split;
 use crate::verdicts::answer_check;
 use crate::writes::answer_write;
-use leaves::numbers::put_bytes;
+use laying::put_bytes;
 use meaning::Pair;
 use words::word_from;
 

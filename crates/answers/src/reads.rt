@@ -8,7 +8,7 @@ use crate::refused::put_detail;
 use fields::signed::is_negative;
 use fields::signed::size;
 use fields::signed::size_of;
-use leaves::numbers::put_bytes;
+use laying::put_bytes;
 use meaning::Checked;
 use meaning::Offset;
 use meaning::Pair;

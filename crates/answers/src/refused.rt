@@ -2,8 +2,8 @@
 ghost use Prim.Native.Nat.{_+_, _≤_};
 ghost use lib.ListN.{length};
 ghost use Rattle.io.specs.Counts.{Counts};
-use leaves::numbers::put_byte;
-use leaves::numbers::put_bytes;
+use laying::put_byte;
+use laying::put_bytes;
 use meaning::Refusal;
 use refusals::Detail;
 use refusals::tell;

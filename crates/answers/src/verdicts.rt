@@ -7,7 +7,7 @@ use crate::refused::answer_refused;
 use crate::refused::put_detail;
 use fields::signed::is_negative;
 use fields::signed::size;
-use leaves::numbers::put_bytes;
+use laying::put_bytes;
 use meaning::Fields;
 use meaning::Verdict;
 use refusals::Detail;

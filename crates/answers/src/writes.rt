@@ -7,8 +7,8 @@ ghost use Rattle.answers.specs.Marks.{markAt, Filled, FirstAltered, leng
 use crate::bad_request;
 use crate::refused::answer_refused;
 use hex::put_hex;
-use leaves::numbers::put_byte;
-use leaves::numbers::put_bytes;
+use laying::put_byte;
+use laying::put_bytes;
 use meaning::Fields;
 use meaning::Pair;
 use meaning::Wrote;

@@ -1,126 +1,95 @@
-// The English names of document 01: a matcher and a writer over any table of names, and over its lists of names.
-mod rows;
-mod tables;
+// The English names of document 01 as constant rows. Their tables have numbers, so that matcher and writer find the rows of
+// a list by one function for each size: first the tables of two names, then those of four, six, seven and twelve.
+pub mod rows;
 
-ghost use mathlib.Core.List.{[]};
 ghost use mathlib.Core.Path.{_≡_};
-ghost use Prim.Native.Nat.{_+_, _<_, _≤_};
-ghost use lib.Dec.{T};
-ghost use lib.ListN.{length, getD};
-ghost use Rattle.laws.specs.Laid.{Laid};
+ghost use Prim.Native.Nat.{_≤_, _<_};
 ghost use Rattle.meaning.specs.Names.{names, english};
-ghost use Rattle.meaning.specs.Readers.{matchName};
-ghost use Rattle.constants.specs.Table.{table, nameAt, tableOk, foundIn};
+ghost use Rattle.constants.specs.Lists.{listAt};
+ghost use Rattle.tables.specs.Table.{IsTable};
 use meaning::NameList;
-use rows::ROW_WIDTH;
+use rows::Four;
+use rows::Seven;
+use rows::Six;
+use rows::Twelve;
+use rows::Two;
 
-// The name that begins a text, or none.
-pub enum Found {
-    Name { index: usize, length: usize },
-    Nothing,
+pub fn table_of(list: NameList) -> usize
+    ensures { λ r. ⌜ (r < 17) × (names english (listAt r) ≡ names english list) ⌝ }
+{
+    match list {
+        NameList::EraAbbreviated => 0,
+        NameList::EraNarrow => 1,
+        NameList::EraWide => 2,
+        NameList::PeriodDotted => 3,
+        NameList::PeriodLetter => 4,
+        NameList::QuarterWide => 5,
+        NameList::PeriodUpper => 6,
+        NameList::PeriodLower => 6,
+        NameList::NoonDotted => 7,
+        NameList::NoonLetter => 8,
+        NameList::NoonUpper => 9,
+        NameList::NoonLower => 9,
+        NameList::WdayWide => 10,
+        NameList::WdayAbbreviated => 11,
+        NameList::WdayShort => 12,
+        NameList::WdayNarrow => 13,
+        NameList::MonthWide => 14,
+        NameList::MonthAbbreviated => 15,
+        NameList::MonthNarrow => 16,
+    }
 }
 
-// "takes the first name in the table order that begins the text"
-pub fn first_name(rows: &[u8], lens: &[u8], text: &[u8]) -> Found
-    requires { ⌜ T (tableOk (now rows) (now lens)) ⌝ }
-    ensures { λ r. ⌜ r ≡ foundIn (matchName (table (now (rows .entry)) (now (lens .entry))) (now (text .entry))) ⌝ }
+pub fn two(n: usize) -> Two
+    requires { ⌜ n < 5 ⌝ }
+    ensures { λ r. ⌜ IsTable (r .rows) (r .lens) (names english (listAt n)) ⌝ }
 {
-    'names: for index in 0..lens.len() {
-        let length = lens[index] as usize;
-        if length <= text.len() {
-            for j in 0..length {
-                if rows[index * ROW_WIDTH + j] != text[j] {
-                    continue 'names;
-                }
-            }
-            return Found::Name { index, length };
-        }
+    match n {
+        0 => rows::ERA_ABBREVIATED,
+        1 => rows::ERA_NARROW,
+        2 => rows::ERA_WIDE,
+        3 => rows::PERIOD_DOTTED,
+        _ => rows::PERIOD_LETTER,
     }
-    Found::Nothing
 }
 
-// Writes a name at a place and gives the next place.
-pub fn put_name(rows: &[u8], lens: &[u8], index: usize, out: &mut [u8], at: usize) -> usize
-    requires { ⌜ T (tableOk (now rows) (now lens)) ⌝ }
-    requires { ⌜ index < length (now lens) ⌝ }
-    requires { ⌜ at + length (nameAt (now rows) (now lens) index) ≤ length (now out) ⌝ }
-    ensures { λ r. ⌜ Laid (now (out .entry)) (now (out .exit)) at r (nameAt (now (rows .entry)) (now (lens .entry)) index) ⌝ }
+pub fn four(n: usize) -> Four
+    requires { ⌜ (5 ≤ n) × (n < 9) ⌝ }
+    ensures { λ r. ⌜ IsTable (r .rows) (r .lens) (names english (listAt n)) ⌝ }
 {
-    let size = lens[index] as usize;
-    for j in 0..size {
-        out[at + j] = rows[index * ROW_WIDTH + j];
+    match n {
+        5 => rows::QUARTER_WIDE,
+        6 => rows::PERIOD_LETTERS,
+        7 => rows::NOON_DOTTED,
+        _ => rows::NOON_LETTER,
     }
-    at + size
 }
 
-// The first name of a list that begins the text.
-pub fn match_name(list: NameList, text: &[u8]) -> Found
-    ensures { λ r. ⌜ r ≡ foundIn (matchName (names english list) (now (text .entry))) ⌝ }
+pub fn six() -> Six
+    ensures { λ r. ⌜ IsTable (r .rows) (r .lens) (names english (listAt 9)) ⌝ }
 {
-    let table = tables::table_of(list);
-    if table < 5 {
-        let t = tables::two(table);
-        let rows = t.rows;
-        let lens = t.lens;
-        return first_name(&rows, &lens, text);
-    }
-    if table < 9 {
-        let t = tables::four(table);
-        let rows = t.rows;
-        let lens = t.lens;
-        return first_name(&rows, &lens, text);
-    }
-    if table == 9 {
-        let t = tables::six();
-        let rows = t.rows;
-        let lens = t.lens;
-        return first_name(&rows, &lens, text);
-    }
-    if table < 14 {
-        let t = tables::seven(table);
-        let rows = t.rows;
-        let lens = t.lens;
-        return first_name(&rows, &lens, text);
-    }
-    let t = tables::twelve(table);
-    let rows = t.rows;
-    let lens = t.lens;
-    first_name(&rows, &lens, text)
+    rows::NOON_WORDS
 }
 
-// Writes a name of a list at a place and gives the next place.
-pub fn format_name(list: NameList, index: usize, out: &mut [u8], at: usize) -> usize
-    requires { ⌜ index < length (names english list) ⌝ }
-    requires { ⌜ at + length (getD (names english list) index []) ≤ length (now out) ⌝ }
-    ensures { λ r. ⌜ Laid (now (out .entry)) (now (out .exit)) at r (getD (names english list) index []) ⌝ }
+pub fn seven(n: usize) -> Seven
+    requires { ⌜ (10 ≤ n) × (n < 14) ⌝ }
+    ensures { λ r. ⌜ IsTable (r .rows) (r .lens) (names english (listAt n)) ⌝ }
 {
-    let table = tables::table_of(list);
-    if table < 5 {
-        let t = tables::two(table);
-        let rows = t.rows;
-        let lens = t.lens;
-        return put_name(&rows, &lens, index, out, at);
+    match n {
+        10 => rows::WDAY_WIDE,
+        11 => rows::WDAY_ABBREVIATED,
+        12 => rows::WDAY_SHORT,
+        _ => rows::WDAY_NARROW,
     }
-    if table < 9 {
-        let t = tables::four(table);
-        let rows = t.rows;
-        let lens = t.lens;
-        return put_name(&rows, &lens, index, out, at);
+}
+
+pub fn twelve(n: usize) -> Twelve
+    requires { ⌜ (14 ≤ n) × (n < 17) ⌝ }
+    ensures { λ r. ⌜ IsTable (r .rows) (r .lens) (names english (listAt n)) ⌝ }
+{
+    match n {
+        14 => rows::MONTH_WIDE,
+        15 => rows::MONTH_ABBREVIATED,
+        _ => rows::MONTH_NARROW,
     }
-    if table == 9 {
-        let t = tables::six();
-        let rows = t.rows;
-        let lens = t.lens;
-        return put_name(&rows, &lens, index, out, at);
-    }
-    if table < 14 {
-        let t = tables::seven(table);
-        let rows = t.rows;
-        let lens = t.lens;
-        return put_name(&rows, &lens, index, out, at);
-    }
-    let t = tables::twelve(table);
-    let rows = t.rows;
-    let lens = t.lens;
-    put_name(&rows, &lens, index, out, at)
 }

@@ -1,8 +1,5 @@
 // The names of document 01, from constants.rs where it has them: rows of one width, filled up with `_`, with the lengths beside.
 
-// The longest name that a table can hold.
-pub const ROW_WIDTH: usize = 20;
-
 pub struct Two {
     pub rows: [u8; 40],
     pub lens: [u8; 2],

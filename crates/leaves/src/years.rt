@@ -5,10 +5,10 @@ ghost use lib.ListN.{length};
 ghost use Rattle.laws.specs.Laid.{Laid};
 ghost use Rattle.meaning.specs.Bytes.{when};
 ghost use Rattle.meaning.specs.Writing.{signedText, twoDigitText};
-use crate::numbers::put_marked;
-use crate::numbers::zero_padded;
 use fields::signed::is_negative;
 use fields::signed::size;
+use laying::put_marked;
+use laying::zero_padded;
 
 // "`-` if negative, then num k"
 pub fn zero_padded_i(z: i32, k: usize, out: &mut [u8], at: usize) -> usize

@@ -7,11 +7,11 @@ ghost use lib.ListN.{length};
 ghost use Rattle.laws.specs.Laid.{Laid};
 ghost use Rattle.meaning.specs.Bytes.{when, both, num, minus, plus};
 ghost use Rattle.meaning.specs.Writing.{isThere, groupText, zoneText};
-use crate::numbers::put_byte;
-use crate::numbers::put_marked;
-use crate::numbers::zero_padded;
 use fields::signed::is_negative;
 use fields::signed::size;
+use laying::put_byte;
+use laying::put_marked;
+use laying::zero_padded;
 use meaning::Group;
 
 fn is_there(group: Group, n: u32) -> bool

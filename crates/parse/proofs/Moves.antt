@@ -9,9 +9,9 @@ use native.Mathlib.Omega.{arith}
 use lib.Dec.{ltb}
 use lib.ListN.{length, take}
 use borrow.Author.Tests.{ltb-false, lt-ltb, le-ltb}
-use Rattle.constants.proofs.Answers.{found-name, found-nothing}
-use Rattle.constants.specs.Table.{foundIn}
-use Rattle.constants.specs.declared.Found.the-variants.{Name, Nothing}
+use Rattle.tables.proofs.Answers.{found-name, found-nothing}
+use Rattle.tables.specs.Table.{foundIn}
+use Rattle.tables.specs.declared.Found.the-variants.{Name, Nothing}
 use Rattle.laws.proofs.Readers.{skip-goes-on, skip-stops}
 use Rattle.laws.proofs.Tests.{by-test}
 use Rattle.meaning.specs.Numerals.{Signed, numberOf}

@@ -8,11 +8,11 @@ ghost use Rattle.meaning.specs.Readers as reads;
 ghost use Rattle.parse.specs.Steps as steps;
 use crate::numbers::Number;
 use crate::numbers::read_number;
-use constants::Found;
 use meaning::Carried;
 use meaning::NameList;
 use meaning::Numeral;
 use meaning::Trouble;
+use tables::Found;
 
 pub struct Cursor {
     pub at: usize,
@@ -91,7 +91,7 @@ impl Cursor {
         ensures { λ r. ⌜ r ≡ steps.matchedAt (self .at) (reads.matchName (names english list) (drop (self .at) (now (text .entry)))) ⌝ }
     {
         let at = self.at;
-        match constants::match_name(list, &text[at..]) {
+        match english::match_name(list, &text[at..]) {
             Found::Name { index, length } => Matched::Name {
                 index,
                 next: Cursor { at: at + length },
@@ -116,7 +116,7 @@ impl Cursor {
             };
         }
         let end = at + k;
-        match constants::match_name(list, &text[at..end]) {
+        match english::match_name(list, &text[at..end]) {
             Found::Name { index, length } => Matched::Name {
                 index,
                 next: Cursor { at: at + length },

@@ -3,8 +3,8 @@
 ghost use mathlib.Core.Path.{_≡_};
 ghost use Prim.Native.Nat.{_≤_};
 ghost use lib.ListN.{length};
-use leaves::numbers::put_byte;
-use leaves::numbers::put_bytes;
+use laying::put_byte;
+use laying::put_bytes;
 use libc::STDIN_FILENO;
 use libc::STDOUT_FILENO;
 use lines::line_end;

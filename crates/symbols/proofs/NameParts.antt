@@ -5,7 +5,7 @@ use Prim.Native.Nat.{ℕ, _<_}
 use borrow.Author.Tests.{ltb-true, ltb-false}
 use lib.Dec.{ltb}
 use lib.ListN.{length, take}
-use Rattle.constants.proofs.Answers.{found-within}
+use Rattle.tables.proofs.Answers.{found-within}
 use Rattle.laws.proofs.Tests.{by-test}
 use Rattle.meaning.specs.Readers.{Got, got, stopped, Reader, _>>=_, done, matchName, letters}
 use Rattle.meaning.specs.Reading.{nameCarries}

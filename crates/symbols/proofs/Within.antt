@@ -9,7 +9,7 @@ use native.Mathlib.Omega.{arith}
 use borrow.Author.Tests.{ltb-false}
 use lib.Dec.{eqb, ltb}
 use lib.ListN.{length, take, drop, length-take, length-drop}
-use Rattle.constants.proofs.Answers.{found-within}
+use Rattle.tables.proofs.Answers.{found-within}
 use Rattle.laws.proofs.Tests.{when-is}
 use Rattle.meaning.specs.Bytes.{both, digitAt, plus, minus}
 use Rattle.meaning.specs.Names.{Book, names}

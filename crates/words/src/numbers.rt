@@ -5,8 +5,8 @@ ghost use Prim.Native.Nat.{_+_, _≤_};
 ghost use lib.ListN.{length};
 ghost use Rattle.words.specs.Decimal as decimal;
 ghost use Rattle.meaning.specs.Bytes.{when, minus};
-use leaves::numbers::put_byte;
-use leaves::numbers::put_bytes;
+use laying::put_byte;
+use laying::put_bytes;
 
 // The size that digits stand for, where it fits.
 pub enum Size {

@@ -6,7 +6,7 @@ use lib.ListN.{length, drop, length-drop}
 use lib.ListN.{take, length-take}
 use mathlib.Core.Path.{_≡_, sym, _∙_}
 use native.Mathlib.Omega.{arith}
-use Rattle.constants.proofs.Answers.{found-name, found-within}
+use Rattle.tables.proofs.Answers.{found-name, found-within}
 use Rattle.meaning.specs.Names.{names, english}
 use Rattle.meaning.specs.Readers.{matchName}
 use Rattle.parse.proofs.Moves.{matched-name, matched-nothing, letters-match, letters-few}

@@ -4,7 +4,7 @@ use denote.Ref.{now}
 use lib.ListN.{drop, length-drop}
 use mathlib.Core.Path.{sym, _∙_}
 use native.Mathlib.Omega.{arith}
-use Rattle.constants.proofs.Answers.{found-name, found-within}
+use Rattle.tables.proofs.Answers.{found-name, found-within}
 use Rattle.meaning.specs.Names.{names, english}
 use Rattle.meaning.specs.Readers.{matchName}
 use Rattle.parse.proofs.Moves.{matched-name, matched-nothing}

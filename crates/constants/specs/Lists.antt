@@ -1,0 +1,17 @@
+-- The numbers of the tables.
+use mathlib.Core.List.{[], _∷_}
+use Prim.Native.Nat.{ℕ}
+use lib.ListN.{getD}
+use Rattle.meaning.specs.declared.NameList.{NameList}
+use Rattle.meaning.specs.declared.NameList.the-variants.{EraAbbreviated, EraNarrow, EraWide, QuarterWide, MonthAbbreviated, MonthWide, MonthNarrow, WdayAbbreviated, WdayWide, WdayNarrow, WdayShort, PeriodUpper, PeriodDotted, PeriodLetter, NoonUpper, NoonDotted, NoonLetter}
+
+-- the list whose names a numbered table holds: those of two names, of four, six, seven and twelve
+abbrev pub listAt : ℕ → NameList
+listAt n =
+    getD
+    (EraAbbreviated ∷ EraNarrow ∷ EraWide ∷ PeriodDotted ∷ PeriodLetter
+    ∷ QuarterWide ∷ PeriodUpper ∷ NoonDotted ∷ NoonLetter
+    ∷ NoonUpper
+    ∷ WdayWide ∷ WdayAbbreviated ∷ WdayShort ∷ WdayNarrow
+    ∷ MonthWide ∷ MonthAbbreviated ∷ MonthNarrow ∷ [])
+    n MonthNarrow
