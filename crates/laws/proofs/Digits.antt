@@ -198,6 +198,22 @@ num-wide k n h =
     let e : max k (width n) ≡ k = omega arith in
     rw e
 
+-- numbers of one digit, and of two
+pub num-one : (k n : ℕ) → k < 2 → n < 10 → num k n ≡ (48 + n) ∷ []
+unfolding num digits
+num-one k n h small =
+    let w = width-small n small in
+    let e : max k (width n) ≡ 1 = omega (arith, w) in
+    let d : n % 10 ≡ n = omega arith in
+    rw (e, digits, d)
+
+pub num-two : (k n : ℕ) → k < 2 → 10 ≤ n → n < 100 → num k n ≡ digits 2 n
+unfolding num
+num-two k n h large small =
+    let w = width-small (n / 10) (omega arith) in
+    let e : max k (width n) ≡ 2 = omega (arith, width-turn n large, w) in
+    rw e
+
 pub num-bare : (k n : ℕ) → k ≤ width n → num k n ≡ digits (width n) n
 unfolding num
 num-bare k n h =

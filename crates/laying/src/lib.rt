@@ -79,7 +79,7 @@ fn put_digits(n: u32, w: usize, out: &mut [u8], at: usize) -> usize
     put_bytes(&row[..w], out, at)
 }
 
-pub fn zero_padded(n: u32, k: usize, out: &mut [u8], at: usize) -> usize
+fn put_padded(n: u32, k: usize, out: &mut [u8], at: usize) -> usize
     requires { ⌜ at + length (text.num k n) ≤ length (now out) ⌝ }
     ensures { λ r. ⌜ Laid (now (out .entry)) (now (out .exit)) at r (text.num k n) ⌝ }
 {
@@ -92,6 +92,36 @@ pub fn zero_padded(n: u32, k: usize, out: &mut [u8], at: usize) -> usize
     }
     let next = put_times(48, k - w, out, at);
     put_digits(n, w, out, next)
+}
+
+// Two digits, which most numbers of a date have, from a row of two.
+fn put_two(n: u32, out: &mut [u8], at: usize) -> usize
+    requires { ⌜ (n < 100) × (at + 2 ≤ length (now out)) ⌝ }
+    ensures { λ r. ⌜ Laid (now (out .entry)) (now (out .exit)) at r (text.digits 2 n) ⌝ }
+{
+    let row = [48 + (n / 10) as u8, 48 + (n % 10) as u8];
+    out[at] = row[0];
+    out[at + 1] = row[1];
+    at + 2
+}
+
+pub fn zero_padded(n: u32, k: usize, out: &mut [u8], at: usize) -> usize
+    requires { ⌜ at + length (text.num k n) ≤ length (now out) ⌝ }
+    ensures { λ r. ⌜ Laid (now (out .entry)) (now (out .exit)) at r (text.num k n) ⌝ }
+{
+    if 2 < k {
+        return put_padded(n, k, out, at);
+    }
+    if 100 <= n {
+        return put_padded(n, k, out, at);
+    }
+    if k == 2 {
+        return put_two(n, out, at);
+    }
+    if n < 10 {
+        return put_byte(48 + n as u8, out, at);
+    }
+    put_two(n, out, at)
 }
 
 // A byte, a minus or a colon, where it is wanted, and a padded number behind it.
