@@ -10,8 +10,6 @@ ghost use Rattle.meaning.specs.Names.{english};
 ghost use Rattle.meaning.specs.Writing.{quantityOf, nameText, ruleText};
 ghost use Rattle.meaning.specs.declared.Checked.the-variants.{Fine};
 use english::format_name;
-use fields::values::place_of;
-use fields::values::quantity_of;
 use laying::put_byte;
 use laying::zero_padded;
 use leaves::years::two_digit_year;
@@ -21,6 +19,8 @@ use meaning::Fields;
 use meaning::NameList;
 use meaning::Quantity;
 use meaning::Rule;
+use values::place_of;
+use values::quantity_of;
 
 fn put_quantity(quantity: Quantity, k: u8, f: Fields, out: &mut [u8], at: usize) -> usize
     requires { ⌜ fieldsCheck f ≡ Fine ⌝ }

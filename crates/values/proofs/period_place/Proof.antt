@@ -1,6 +1,6 @@
 -- The test, as the definition has it.
-use Rattle.fields.proofs.values.period_place.Statement.{statement}
-use Rattle.fields.proofs.values.period_place.Tie as tie
+use Rattle.values.proofs.period_place.Statement.{statement}
+use Rattle.values.proofs.period_place.Tie as tie
 use Rattle.laws.proofs.Tests.{chosen}
 
 returns : tie.Need-returns

@@ -2,8 +2,8 @@
 use Prim.Native.Nat.{ℕ, zero, suc}
 use borrow.Author.Needs.{needs}
 use mathlib.Core.Path.{_≡_, refl}
-use Rattle.fields.proofs.values.in_place_of_zero.Statement.{statement}
-use Rattle.fields.proofs.values.in_place_of_zero.Tie as tie
+use Rattle.values.proofs.in_place_of_zero.Statement.{statement}
+use Rattle.values.proofs.in_place_of_zero.Tie as tie
 use Rattle.meaning.specs.Writing.{inPlaceOfZero}
 
 not-zero : (k n : ℕ) → (n ≡ 0 → ⊥) → n ≡ inPlaceOfZero k n

@@ -4,8 +4,8 @@ use mathlib.Core.Path.{_≡_}
 use Prim.Native.Nat.{_-_}
 use native.Mathlib.Omega.{arith}
 use Rattle.laws.proofs.Fields.{ten-positive}
-use Rattle.fields.proofs.values.fraction.Statement.{statement}
-use Rattle.fields.proofs.values.fraction.Tie as tie
+use Rattle.values.proofs.fraction.Statement.{statement}
+use Rattle.values.proofs.fraction.Tie as tie
 
 cast-whole : tie.Need-cast-whole
 cast-whole c = search needs

@@ -1,8 +1,8 @@
 -- Each arm is its quantity, within the bounds of an allowed record.
 use borrow.Author.Needs.{needs}
 use native.Mathlib.Omega.{arith}
-use Rattle.fields.proofs.values.quantity_of.Statement.{statement}
-use Rattle.fields.proofs.values.quantity_of.Tie as tie
+use Rattle.values.proofs.quantity_of.Statement.{statement}
+use Rattle.values.proofs.quantity_of.Tie as tie
 use Rattle.laws.proofs.Fields.{allowed}
 use Rattle.meaning.specs.Writing.{quantityOf}
 

@@ -1,7 +1,7 @@
 -- The tests, as the definition has them.
 use borrow.Author.Needs.{needs}
-use Rattle.fields.proofs.values.noon_place.Statement.{statement}
-use Rattle.fields.proofs.values.noon_place.Tie as tie
+use Rattle.values.proofs.noon_place.Statement.{statement}
+use Rattle.values.proofs.noon_place.Tie as tie
 use borrow.Author.Tests.{ne-eqb}
 use Rattle.laws.proofs.Tests.{chosen}
 

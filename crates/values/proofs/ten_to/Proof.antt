@@ -3,8 +3,8 @@ use Prim.Native.Nat.{ℕ, _^_}
 use native.Mathlib.Omega.{arith}
 use Rattle.laws.proofs.Tests.{tabulate, tabulated}
 use borrow.Author.Needs.{needs}
-use Rattle.fields.proofs.values.ten_to.Statement.{statement}
-use Rattle.fields.proofs.values.ten_to.Tie as tie
+use Rattle.values.proofs.ten_to.Statement.{statement}
+use Rattle.values.proofs.ten_to.Tie as tie
 
 mul-result : tie.Need-mul-result
 mul-result c = search needs

@@ -2,8 +2,8 @@
 use mir.Syntax.{w32}
 use mir.ValLaws.{toZ-ofZ}
 use borrow.Author.Needs.{needs}
-use Rattle.fields.proofs.values.era_place.Statement.{statement}
-use Rattle.fields.proofs.values.era_place.Tie as tie
+use Rattle.values.proofs.era_place.Statement.{statement}
+use Rattle.values.proofs.era_place.Tie as tie
 
 is-negative-requires : tie.Need-is-negative-requires
 is-negative-requires c κs = search needs

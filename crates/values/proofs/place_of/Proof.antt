@@ -1,8 +1,8 @@
 -- Each arm is its list's place.
 use borrow.Author.Needs.{needs}
 use native.Mathlib.Omega.{arith}
-use Rattle.fields.proofs.values.place_of.Statement.{statement}
-use Rattle.fields.proofs.values.place_of.Tie as tie
+use Rattle.values.proofs.place_of.Statement.{statement}
+use Rattle.values.proofs.place_of.Tie as tie
 use Rattle.laws.proofs.Fields.{allowed}
 use Rattle.meaning.specs.Writing.{placeOf}
 use mir.Syntax.{w32}

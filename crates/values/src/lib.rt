@@ -6,7 +6,7 @@ ghost use Rattle.meaning.specs.Answers.{fieldsCheck};
 ghost use Rattle.meaning.specs.Bytes.{when};
 ghost use Rattle.meaning.specs.Writing as written;
 ghost use Rattle.meaning.specs.declared.Checked.the-variants.{Fine};
-use crate::signed::is_negative;
+use fields::signed::is_negative;
 use meaning::Fields;
 use meaning::NameList;
 use meaning::Quantity;
