@@ -1,21 +1,15 @@
 // Answers to requests of the line protocol: one line in, one line out.
-pub mod reads;
-pub mod refused;
-pub mod splits;
-pub mod verdicts;
-pub mod writes;
-
 ghost use Prim.Native.Nat.{_≤_};
 ghost use lib.ListN.{length};
 ghost use Rattle.io.specs.Counts.{Counts};
-use crate::reads::answer_offset;
-use crate::reads::answer_read;
-use crate::splits::answer_split;
-use crate::verdicts::answer_check;
-use crate::writes::answer_write;
+use check_answers::answer_check;
 use laying::put_bytes;
 use meaning::Pair;
+use read_answers::answer_offset;
+use read_answers::answer_read;
+use split_answers::answer_split;
 use words::word_from;
+use write_answers::answer_write;
 
 // A line with more bytes is no request.
 pub const LONGEST: usize = 20000;
@@ -23,10 +17,8 @@ pub const LONGEST: usize = 20000;
 // What is asked: the first word of a line.
 enum Request {
     Split,
-    Write,
-    WriteDate,
-    Read,
-    ReadDate,
+    Write(Pair),
+    Read(Pair),
     ParseOffset,
     Check,
     Unknown,
@@ -37,16 +29,16 @@ fn request_of(name: &[u8]) -> Request {
         return Request::Split;
     }
     if check::same(name, b"write") {
-        return Request::Write;
+        return Request::Write(Pair::Full);
     }
     if check::same(name, b"write_date") {
-        return Request::WriteDate;
+        return Request::Write(Pair::Date);
     }
     if check::same(name, b"read") {
-        return Request::Read;
+        return Request::Read(Pair::Full);
     }
     if check::same(name, b"read_date") {
-        return Request::ReadDate;
+        return Request::Read(Pair::Date);
     }
     if check::same(name, b"parse_offset") {
         return Request::ParseOffset;
@@ -57,33 +49,43 @@ fn request_of(name: &[u8]) -> Request {
     Request::Unknown
 }
 
+// The answer to a request whose words start at a place, of no bytes where they are not what it asks for.
+fn answer_to(request: Request, line: &[u8], at: usize, out: &mut [u8]) -> usize
+    requires { ⌜ (length (now line) ≤ 20000) × (16384 ≤ length (now out)) ⌝ }
+    ensures { λ r. ⌜ Counts r (now (out .exit)) ⌝ }
+{
+    match request {
+        Request::Split => answer_split(line, at, out),
+        Request::Write(pair) => answer_write(pair, line, at, out),
+        Request::Read(pair) => answer_read(pair, line, at, out),
+        Request::ParseOffset => answer_offset(line, at, out),
+        Request::Check => answer_check(line, at, out),
+        Request::Unknown => 0,
+    }
+}
+
+fn put_bad(out: &mut [u8]) -> usize
+    requires { ⌜ 16384 ≤ length (now out) ⌝ }
+    ensures { λ r. ⌜ Counts r (now (out .exit)) ⌝ }
+{
+    put_bytes(b"bad request", out, 0)
+}
+
 // The answer to a line, both with no line's end, in the output from its start, and how long it is.
 pub fn answer(line: &[u8], out: &mut [u8]) -> usize
     requires { ⌜ 16384 ≤ length (now out) ⌝ }
     ensures { λ r. ⌜ Counts r (now (out .exit)) ⌝ }
 {
     if LONGEST < line.len() {
-        return bad_request(out);
+        return put_bad(out);
     }
     let name = word_from(line, 0);
     let start = name.start;
     let end = name.end;
-    let next = end + 1;
-    match request_of(&line[start..end]) {
-        Request::Split => answer_split(line, next, out),
-        Request::Write => answer_write(Pair::Full, line, next, out),
-        Request::WriteDate => answer_write(Pair::Date, line, next, out),
-        Request::Read => answer_read(Pair::Full, line, next, out),
-        Request::ReadDate => answer_read(Pair::Date, line, next, out),
-        Request::ParseOffset => answer_offset(line, next, out),
-        Request::Check => answer_check(line, next, out),
-        Request::Unknown => bad_request(out),
+    let request = request_of(&line[start..end]);
+    let n = answer_to(request, line, end + 1, out);
+    if n == 0 {
+        return put_bad(out);
     }
-}
-
-pub fn bad_request(out: &mut [u8]) -> usize
-    requires { ⌜ 16384 ≤ length (now out) ⌝ }
-    ensures { λ r. ⌜ Counts r (now (out .exit)) ⌝ }
-{
-    put_bytes(b"bad request", out, 0)
+    n
 }

@@ -3,6 +3,7 @@
 ghost use mathlib.Core.Path.{_≡_};
 ghost use Prim.Native.Nat.{_≤_};
 ghost use lib.ListN.{length};
+use answer_pieces::put_counted;
 use laying::put_byte;
 use laying::put_bytes;
 use libc::STDIN_FILENO;
@@ -12,7 +13,6 @@ use lines::read_behind;
 use meaning::Verdict;
 use refusals::tell;
 use verdict::verdict_on;
-use words::numbers::put_size;
 
 // How many bytes of the row are the first line, or all that it holds: a pattern of so many is refused.
 fn first_line(row: &mut [u8]) -> usize
@@ -34,22 +34,14 @@ fn first_line(row: &mut [u8]) -> usize
     held
 }
 
-fn put_counted(word: &[u8], n: usize, out: &mut [u8]) -> usize
-    requires { ⌜ (length (now word) ≤ 8) × (100 ≤ length (now out)) ⌝ }
-    ensures { λ r. ⌜ r ≤ 28 ⌝ }
-{
-    let next = put_bytes(word, out, 0);
-    put_size(n as u64, out, next)
-}
-
 fn put_verdict(verdict: Verdict, out: &mut [u8]) -> usize
     requires { ⌜ 100 ≤ length (now out) ⌝ }
     ensures { λ r. ⌜ r ≤ 28 ⌝ }
 {
     match verdict {
         Verdict::Yes => put_bytes(b"yes", out, 0),
-        Verdict::No { part, record: _ } => put_counted(b"no ", part, out),
-        Verdict::Refused(why) => put_counted(b"refused ", tell(why).number as usize, out),
+        Verdict::No { part, record: _ } => put_counted(b"no ", part as u64, out),
+        Verdict::Refused(why) => put_counted(b"refused ", tell(why).number as u64, out),
     }
 }
 
