@@ -13,6 +13,7 @@ use meaning::Checked;
 use meaning::Offset;
 use meaning::Pair;
 use meaning::Reading;
+use meaning::Refusal;
 use refusals::Detail;
 use requests::bytes_at;
 use requests::bytes_row;
@@ -65,6 +66,18 @@ fn put_reading(reading: Reading, out: &mut [u8]) -> usize
     put_values(values, out, third)
 }
 
+// A refused reading gives only the refusal: one that holds anything else is shown as it is.
+fn put_refused(reading: Reading, why: Refusal, out: &mut [u8]) -> usize
+    requires { ⌜ 16384 ≤ length (now out) ⌝ }
+    ensures { λ r. ⌜ Counts r (now (out .exit)) ⌝ }
+{
+    let n = put_reading(reading, out);
+    if !check::same(&out[..n], b"read 0 0 0 0 0 0 0 0 0 0 0 0 0 0 0 0 0 0") {
+        return n;
+    }
+    answer_refused(why, out)
+}
+
 pub fn answer_read(pair: Pair, line: &[u8], at: usize, out: &mut [u8]) -> usize
     requires { ⌜ length (now line) ≤ 20000 ⌝ }
     requires { ⌜ 16384 ≤ length (now out) ⌝ }
@@ -84,7 +97,7 @@ pub fn answer_read(pair: Pair, line: &[u8], at: usize, out: &mut [u8]) -> usize
     let checked = reading.checked;
     match checked {
         Checked::Fine => put_reading(reading, out),
-        Checked::Refused(why) => answer_refused(why, out),
+        Checked::Refused(why) => put_refused(reading, why, out),
     }
 }
 

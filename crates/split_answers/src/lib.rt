@@ -9,6 +9,7 @@ use laying::put_bytes;
 use meaning::Checked;
 use meaning::Kind;
 use meaning::Part;
+use meaning::Refusal;
 use meaning::Split;
 use pattern::parse_format_string;
 use requests::bytes_at;
@@ -55,6 +56,17 @@ fn put_parts(split: Split, out: &mut [u8]) -> usize
     next
 }
 
+// A refused split has no part: one that has is shown as it is.
+fn put_refused(split: Split, why: Refusal, out: &mut [u8]) -> usize
+    requires { ⌜ 16384 ≤ length (now out) ⌝ }
+    ensures { λ r. ⌜ Counts r (now (out .exit)) ⌝ }
+{
+    if split.used != 0 {
+        return put_parts(split, out);
+    }
+    answer_refused(why, out)
+}
+
 pub fn answer_split(line: &[u8], at: usize, out: &mut [u8]) -> usize
     requires { ⌜ length (now line) ≤ 20000 ⌝ }
     requires { ⌜ 16384 ≤ length (now out) ⌝ }
@@ -70,6 +82,6 @@ pub fn answer_split(line: &[u8], at: usize, out: &mut [u8]) -> usize
     let checked = split.checked;
     match checked {
         Checked::Fine => put_parts(split, out),
-        Checked::Refused(why) => answer_refused(why, out),
+        Checked::Refused(why) => put_refused(split, why, out),
     }
 }
