@@ -1,4 +1,2 @@
-pub mod Sizing
 pub mod Moves
 pub mod Parts
-pub mod Reaches

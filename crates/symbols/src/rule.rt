@@ -11,9 +11,9 @@ use crate::years::parse_two_digit_year;
 use crate::years::parse_years;
 use crate::zones::parse_zone;
 use meaning::Rule;
+use numerals::extent;
 use parse::cursor::Cursor;
 use parse::cursor::PartRead;
-use parse::extent::extent;
 use parse::steps::pass;
 use parse::steps::take_number;
 

@@ -9,10 +9,10 @@ use meaning::Carried;
 use meaning::Numeral;
 use meaning::ParseUnit;
 use meaning::Trouble;
+use numerals::integer_of;
 use parse::cursor::Cursor;
 use parse::cursor::PartRead;
 use parse::cursor::Taken;
-use parse::numbers::integer_of;
 
 // So many bytes of a year, counted on from one.
 fn take_year(since: u32, k: usize, text: &[u8], cursor: Cursor) -> PartRead

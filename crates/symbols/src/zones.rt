@@ -13,11 +13,11 @@ use meaning::Group;
 use meaning::Numeral;
 use meaning::ParseUnit;
 use meaning::Trouble;
+use numerals::integer_of;
 use parse::cursor::Cursor;
 use parse::cursor::PartRead;
 use parse::cursor::Skipped;
 use parse::cursor::Taken;
-use parse::numbers::integer_of;
 
 pub enum SignRead {
     Stopped { trouble: Trouble, place: usize },

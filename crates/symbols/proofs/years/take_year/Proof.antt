@@ -5,7 +5,7 @@ use lib.ListN.{drop}
 use mir.Syntax.{w64}
 use mir.ValLaws.{toZ-ofZ}
 use native.Mathlib.Omega.{arith}
-use Rattle.parse.proofs.Parts.{widened}
+use Rattle.numerals.proofs.Integers.{widened}
 use Rattle.symbols.proofs.YearParts.{part-year, sum-fits}
 use Rattle.symbols.proofs.years.take_year.Statement.{statement}
 use Rattle.symbols.proofs.years.take_year.Tie as tie

@@ -7,7 +7,7 @@ use mathlib.Core.Path.{_≡_}
 use native.Mathlib.Nat.{add-zero}
 use Rattle.meaning.specs.Bytes.{digitAt}
 use Rattle.meaning.specs.Reading.{colonLength}
-use Rattle.parse.proofs.Reaches.{digit-there}
+use Rattle.numerals.proofs.Reaches.{digit-there}
 use Rattle.symbols.proofs.Zoning.{colon-short}
 use Rattle.symbols.proofs.zones.zone_group.Statement.{statement}
 use Rattle.symbols.proofs.zones.zone_group.Tie as tie

@@ -6,9 +6,9 @@ use lib.ListN.{length, drop}
 use mathlib.Core.Path.{_≡_, refl, sym, _∙_}
 use native.Mathlib.Omega.{arith}
 use Rattle.laws.proofs.Digits.{digit-yes, digit-below, digit-above}
-use Rattle.parse.proofs.Sizing.{sizedFrom, largest-fits, sized-none, sized-some, no-digit, digit-more, digit-too-many, digits-done}
-use Rattle.parse.proofs.numbers.sized.Statement.{statement}
-use Rattle.parse.proofs.numbers.sized.Tie as tie
+use Rattle.numerals.proofs.Sizing.{sizedFrom, largest-fits, sized-none, sized-some, no-digit, digit-more, digit-too-many, digits-done}
+use Rattle.numerals.proofs.sized.Statement.{statement}
+use Rattle.numerals.proofs.sized.Tie as tie
 
 abbrev Inv-loop : tie.InvT-loop
 Inv-loop negative digits most size₀ i₀ size i =

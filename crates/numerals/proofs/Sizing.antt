@@ -17,9 +17,9 @@ use Rattle.meaning.specs.Readers.{takenNumber, takeNumber}
 use Rattle.meaning.specs.declared.Numeral.{Numeral}
 use Rattle.meaning.specs.declared.Numeral.the-variants.{Count, Year}
 use Rattle.meaning.specs.declared.Sign.the-variants.{Plus, Bare}
-use Rattle.parse.specs.Steps.{numberIn, gotNumber}
-use Rattle.parse.specs.declared.numbers.Number.{Number}
-use Rattle.parse.specs.declared.numbers.Number.the-variants.{TooFew, NoNumber, Value}
+use Rattle.numerals.specs.Numbers.{numberIn, gotNumber}
+use Rattle.numerals.specs.declared.Number.{Number}
+use Rattle.numerals.specs.declared.Number.the-variants.{TooFew, NoNumber, Value}
 
 -- the sign, for a kind that is not known
 

@@ -1,9 +1,9 @@
 -- The size, or what it is negated.
 use borrow.Author.Needs.{needs}
 use native.Mathlib.Omega.{arith}
-use Rattle.parse.proofs.Parts.{widened, negated, negated-fits}
-use Rattle.parse.proofs.numbers.integer_of.Statement.{statement}
-use Rattle.parse.proofs.numbers.integer_of.Tie as tie
+use Rattle.numerals.proofs.Integers.{widened, negated, negated-fits}
+use Rattle.numerals.proofs.integer_of.Statement.{statement}
+use Rattle.numerals.proofs.integer_of.Tie as tie
 use mir.Facts.{toZ-ofZ}
 
 cast-n : tie.Need-cast-n

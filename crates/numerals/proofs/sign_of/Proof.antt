@@ -3,9 +3,9 @@ use borrow.Author.Needs.{needs}
 use borrow.Author.Tests.{eq-eqb, ne-eqb}
 use mathlib.Core.Path.{sym}
 use Rattle.meaning.specs.Numerals.{signOf}
-use Rattle.parse.proofs.Sizing.{plus-sign, no-sign}
-use Rattle.parse.proofs.numbers.sign_of.Statement.{statement}
-use Rattle.parse.proofs.numbers.sign_of.Tie as tie
+use Rattle.numerals.proofs.Sizing.{plus-sign, no-sign}
+use Rattle.numerals.proofs.sign_of.Statement.{statement}
+use Rattle.numerals.proofs.sign_of.Tie as tie
 
 returns : tie.Need-returns
 returns c = sym (plus-sign _ _ (c .if1 .taken))

@@ -4,9 +4,9 @@ use denote.Ref.{now}
 use lib.Seq.{length-take-le}
 use mathlib.Core.Path.{sym, _∙_}
 use native.Mathlib.Omega.{arith}
-use Rattle.parse.proofs.Sizing.{number-signed, number-short, number-of-none, whole-number}
-use Rattle.parse.proofs.numbers.read_number.Statement.{statement}
-use Rattle.parse.proofs.numbers.read_number.Tie as tie
+use Rattle.numerals.proofs.Sizing.{number-signed, number-short, number-of-none, whole-number}
+use Rattle.numerals.proofs.read_number.Statement.{statement}
+use Rattle.numerals.proofs.read_number.Tie as tie
 
 returns : tie.Need-returns
 returns c =
