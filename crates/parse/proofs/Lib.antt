@@ -1,4 +1,3 @@
-pub mod Sizing
 pub mod Moves
 pub mod Parts
-pub mod Reaches
+pub mod Within

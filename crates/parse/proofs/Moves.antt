@@ -18,13 +18,14 @@ use Rattle.meaning.specs.Numerals.{Signed, numberOf}
 use Rattle.meaning.specs.Readers.{takenNumber, takeNumber, skip, matchName, letters}
 use Rattle.meaning.specs.declared.Numeral.{Numeral}
 use Rattle.meaning.specs.declared.Trouble.the-variants.{TooFew, NoNumber, NoName}
-use Rattle.parse.specs.Steps.{gotNumber, takenAt, skippedAt, matchedAt}
+use Rattle.numerals.specs.Numbers.{gotNumber}
+use Rattle.parse.specs.Steps.{takenAt, skippedAt, matchedAt}
 use Rattle.parse.specs.declared.cursor.Matched.the-variants as matched
 use Rattle.parse.specs.declared.cursor.Skipped.the-variants as skipped
 use Rattle.parse.specs.declared.cursor.Taken.{Taken}
 use Rattle.parse.specs.declared.cursor.Taken.the-variants as taken
-use Rattle.parse.specs.declared.numbers.Number.{Number}
-use Rattle.parse.specs.declared.numbers.Number.the-variants as number
+use Rattle.numerals.specs.declared.Number.{Number}
+use Rattle.numerals.specs.declared.Number.the-variants as number
 
 -- taking
 

@@ -1,13 +1,9 @@
 -- Laws of what a part gives, from what its one step gave: a step and then a value made of its answer.
 use mathlib.Core.List.{List}
 use mathlib.Core.Path.{_≡_, refl}
-use Prim.Native.Nat.{ℕ, zero, suc, _^_, _<_}
+use Prim.Native.Nat.{ℕ}
 use native.Mathlib.Nat.{add-zero}
-use native.Mathlib.Omega.{arith}
-use lib.IntN.{pos, negℤ, _-ℤ_, +ℤ-idl}
-use mir.Facts.{toZ-pos}
-use mir.Syntax.{w64}
-use mir.Val.{SFits, toZ}
+use lib.IntN.{pos}
 use Rattle.meaning.specs.Numerals.{Signed}
 use Rattle.meaning.specs.Readers.{Got, got, stopped, Reader, _>>=_, done, skip, takeNumber, goOn}
 use Rattle.meaning.specs.Reading.{passed, takenNumber, zeroFor}
@@ -71,14 +67,3 @@ part-number u z k at s =
       made-twice (λ (n : Signed). n .size) (λ (n : ℕ). Value u (pos (zeroFor z n))) (takeNumber Count k s),
     )
     (number-got (λ n. Value u (pos (zeroFor z (n .size)))) at (takeNumber Count k s))
-
--- a number that fits 64 signed bits is itself in them, and so is its negation
-pub widened : (n : ℕ) → n < 2 ^ 63 → toZ w64 n ≡ pos n
-widened n h = toZ-pos w64 (omega arith)
-
-pub negated : (n : ℕ) → pos 0 -ℤ pos n ≡ negℤ (pos n)
-negated n = +ℤ-idl (negℤ (pos n))
-
-pub negated-fits : (n : ℕ) → n < 2 ^ 63 → SFits w64 (negℤ (pos n))
-negated-fits zero h = record { sfits = omega arith }
-negated-fits (suc n) h = record { sfits = omega arith }

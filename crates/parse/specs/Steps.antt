@@ -1,12 +1,9 @@
 -- The answers of the steps of reading, from what the definitions' readers give: places count from the text's start, and a
 -- step that goes on answers the moved cursor.
-use mathlib.Core.Option.{Option, none, some}
 use Prim.Native.Nat.{ℕ, _+_}
 use Rattle.meaning.specs.Numerals.{Signed}
 use Rattle.meaning.specs.Readers.{Got, got, stopped}
 use Rattle.meaning.specs.declared.Carried.{Carried}
-use Rattle.meaning.specs.declared.Trouble.{Trouble}
-use Rattle.meaning.specs.declared.Trouble.the-variants.{TooFew, NoNumber, NoName, NoSign}
 use Rattle.parse.specs.declared.cursor.Matched.{Matched}
 use Rattle.parse.specs.declared.cursor.Matched.the-variants as matched
 use Rattle.parse.specs.declared.cursor.Skipped.{Skipped}
@@ -15,27 +12,8 @@ use Rattle.parse.specs.declared.cursor.PartRead.{PartRead}
 use Rattle.parse.specs.declared.cursor.PartRead.the-variants as part
 use Rattle.parse.specs.declared.cursor.Taken.{Taken}
 use Rattle.parse.specs.declared.cursor.Taken.the-variants as taken
-use Rattle.parse.specs.declared.numbers.Number.{Number}
-use Rattle.parse.specs.declared.numbers.Number.the-variants as number
 
--- a number at the front of a text
-
-abbrev pub numberIn : Option Signed → Number
-numberIn none = number.NoNumber
-numberIn (some n) = number.Value (n .negative) (n .size)
-
--- a number stops for want of bytes or of a number, and for nothing else
-abbrev pub numberStopped : Trouble → Number
-numberStopped TooFew = number.TooFew
-numberStopped NoNumber = number.NoNumber
-numberStopped NoName = number.NoNumber
-numberStopped NoSign = number.NoNumber
-
-abbrev pub gotNumber : Got Signed → Number
-gotNumber (got k n) = number.Value (n .negative) (n .size)
-gotNumber (stopped why i) = numberStopped why
-
--- the same at a cursor
+-- a step at a cursor
 
 abbrev pub takenAt : ℕ → Got Signed → Taken
 takenAt at (got k n) = taken.Value (n .negative) (n .size) (record { at = at + k })

@@ -6,12 +6,12 @@ ghost use lib.ListN.{length, drop};
 ghost use Rattle.meaning.specs.Names.{names, english};
 ghost use Rattle.meaning.specs.Readers as reads;
 ghost use Rattle.parse.specs.Steps as steps;
-use crate::numbers::Number;
-use crate::numbers::read_number;
 use meaning::Carried;
 use meaning::NameList;
 use meaning::Numeral;
 use meaning::Trouble;
+use numerals::Number;
+use numerals::read_number;
 use tables::Found;
 
 pub struct Cursor {

@@ -1,6 +1,4 @@
-// Reading, document 01's column Reads: years, names and zones, what a rule and what a part reads.
+// Reading, document 01's column Reads: what a name carries, what a rule and what a part reads.
 pub mod names;
 pub mod part;
 pub mod rule;
-pub mod years;
-pub mod zones;

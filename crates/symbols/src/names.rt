@@ -4,7 +4,7 @@ ghost use Prim.Native.Nat.{_<_};
 ghost use lib.ListN.{length};
 ghost use Rattle.meaning.specs.Names.{names, english};
 ghost use Rattle.meaning.specs.Reading as reading;
-ghost use Rattle.symbols.specs.Symbols.{namedBy, indexBelow};
+ghost use Rattle.symbols.specs.Matches.{namedBy, indexBelow};
 use meaning::Carried;
 use meaning::NameList;
 use meaning::ParseUnit;

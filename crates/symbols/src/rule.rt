@@ -6,16 +6,16 @@ ghost use Rattle.meaning.specs.Names.{english};
 ghost use Rattle.meaning.specs.Reading.{readRule};
 ghost use Rattle.parse.specs.Steps.{partAt};
 use crate::names::named;
-use crate::years::parse_fixed_year;
-use crate::years::parse_two_digit_year;
-use crate::years::parse_years;
-use crate::zones::parse_zone;
 use meaning::Rule;
+use numerals::extent;
 use parse::cursor::Cursor;
 use parse::cursor::PartRead;
-use parse::extent::extent;
 use parse::steps::pass;
 use parse::steps::take_number;
+use years::parse_fixed_year;
+use years::parse_two_digit_year;
+use years::parse_years;
+use zones::parse_zone;
 
 pub fn parse_rule(rule: Rule, current_year: u32, text: &[u8], cursor: Cursor) -> PartRead
     requires { ⌜ cursor .at ≤ length (now text) ⌝ }

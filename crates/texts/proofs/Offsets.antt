@@ -27,10 +27,10 @@ use Rattle.meaning.specs.declared.Numeral.the-variants.{Count}
 use Rattle.meaning.specs.declared.Offset.the-variants.{Seconds, Refused}
 use Rattle.meaning.specs.declared.Refusal.{Refusal}
 use Rattle.meaning.specs.declared.Refusal.the-variants.{OffsetLength}
-use Rattle.parse.specs.Steps.{numberIn, gotNumber}
-use Rattle.parse.specs.declared.numbers.Number.the-variants.{Value}
-use Rattle.parse.proofs.numbers.Number.{the-type}
-use Rattle.parse.proofs.Sizing.{taken-is}
+use Rattle.numerals.specs.Numbers.{numberIn, gotNumber}
+use Rattle.numerals.specs.declared.Number.the-variants.{Value}
+use Rattle.numerals.proofs.Number.{the-type}
+use Rattle.numerals.proofs.Sizing.{taken-is}
 
 pub two-taken : (at : ℕ) (s : List ℕ) → at + 2 ≤ length s → gotNumber (takeNumber Count 2 (drop at s)) ≡ numberIn (twoAt at s)
 unfolding takeNumber

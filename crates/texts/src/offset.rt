@@ -6,15 +6,15 @@ ghost use lib.ListN.{length, getD};
 ghost use Rattle.meaning.specs.Bytes.{plus};
 ghost use Rattle.meaning.specs.Promises.{ParsesOffset};
 ghost use Rattle.meaning.specs.Whole as whole;
-ghost use Rattle.parse.specs.Steps.{numberIn};
+ghost use Rattle.numerals.specs.Numbers.{numberIn};
 use crate::checks::text_check;
 use meaning::Checked;
 use meaning::Numeral;
 use meaning::Offset;
 use meaning::Refusal;
 use meaning::Trouble;
-use parse::numbers::Number;
-use parse::numbers::read_number;
+use numerals::Number;
+use numerals::read_number;
 
 // Two bytes at a place, as a number.
 fn two_at(text: &[u8], at: usize) -> Number

@@ -15,7 +15,8 @@ use Rattle.meaning.specs.Whole.{walk}
 use Rattle.meaning.specs.Writing.{stepOf, steps}
 use Rattle.meaning.specs.declared.Carried.the-variants.{Nothing, Value}
 use Rattle.meaning.specs.declared.Carried.{Carried}
-use Rattle.symbols.proofs.Within.{part-stays, within-step}
+use Rattle.parse.proofs.Within.{part-stays}
+use Rattle.symbols.proofs.Within.{within-step}
 use Rattle.parts.proofs.Laws.{next, starts-here}
 use Rattle.parts.specs.First.{contentOf}
 use Rattle.walk.proofs.Walks.{walk-step, walk-done}

@@ -3,7 +3,7 @@ use Prim.Native.Nat.{_+_}
 use borrow.Author.Needs.{needs}
 use native.Mathlib.Numerals.{add-one}
 use native.Mathlib.Omega.{arith}
-use Rattle.parse.proofs.Parts.{widened}
+use Rattle.numerals.proofs.Integers.{widened}
 use Rattle.symbols.proofs.names.month_at.Statement.{statement}
 use Rattle.symbols.proofs.names.month_at.Tie as tie
 

@@ -1,0 +1,23 @@
+-- The answers of the number reader, from what the definitions' readers give.
+use mathlib.Core.Option.{Option, none, some}
+use Rattle.meaning.specs.Numerals.{Signed}
+use Rattle.meaning.specs.Readers.{Got, got, stopped}
+use Rattle.meaning.specs.declared.Trouble.{Trouble}
+use Rattle.meaning.specs.declared.Trouble.the-variants.{TooFew, NoNumber, NoName, NoSign}
+use Rattle.numerals.specs.declared.Number.{Number}
+use Rattle.numerals.specs.declared.Number.the-variants as number
+
+abbrev pub numberIn : Option Signed → Number
+numberIn none = number.NoNumber
+numberIn (some n) = number.Value (n .negative) (n .size)
+
+-- a number stops for want of bytes or of a number, and for nothing else
+abbrev pub numberStopped : Trouble → Number
+numberStopped TooFew = number.TooFew
+numberStopped NoNumber = number.NoNumber
+numberStopped NoName = number.NoNumber
+numberStopped NoSign = number.NoNumber
+
+abbrev pub gotNumber : Got Signed → Number
+gotNumber (got k n) = number.Value (n .negative) (n .size)
+gotNumber (stopped why i) = numberStopped why

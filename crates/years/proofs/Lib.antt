@@ -1,0 +1,2 @@
+pub mod YearParts
+pub mod Runs
