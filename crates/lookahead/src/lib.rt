@@ -2,7 +2,7 @@
 ghost use mathlib.Core.Path.{_≡_};
 ghost use Prim.Native.Nat.{_≤_};
 ghost use lib.ListN.{length, drop};
-ghost use Rattle.meaning.specs.Bytes.{isDigit, digitAt};
+ghost use Rattle.meaning.specs.Bytes.{digitAt};
 ghost use Rattle.meaning.specs.Rules.{roleOf};
 ghost use Rattle.meaning.specs.Writing.{runStep, stepOf, steps};
 ghost use Rattle.parts.proofs.Laws.{Next};
@@ -17,19 +17,11 @@ use meaning::Quantity;
 use meaning::Role;
 use meaning::Rule;
 use needs::most_digits;
+use numerals::is_digit;
 use parts::next_part;
 use parts::quoted::bytes_of;
 use rules::role_of;
 use trust::Opening;
-
-fn is_digit(b: u8) -> bool
-    ensures { λ r. ⌜ r ≡ isDigit b ⌝ }
-{
-    if b < b'0' {
-        return false;
-    }
-    b <= b'9'
-}
 
 // How the names of a list begin: only the quarters' with a digit; some are one byte.
 fn opening_of(list: NameList) -> Opening

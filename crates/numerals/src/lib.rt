@@ -1,7 +1,8 @@
-// Numbers in: one number reader with a sign rule, and how many bytes a number takes.
+// Numbers in: the test of a digit, one number reader with a sign rule, and how many bytes a number takes.
 ghost use mathlib.Core.Path.{_≡_};
 ghost use Prim.Native.Nat.{_-_, _^_, _≤_, _<_};
 ghost use lib.ListN.{length, drop};
+ghost use Rattle.meaning.specs.Bytes.{isDigit};
 ghost use Rattle.meaning.specs.Numerals as numerals;
 ghost use Rattle.meaning.specs.Readers.{takeNumber, reach};
 ghost use Rattle.numerals.specs.Numbers.{numberIn, gotNumber};
@@ -13,6 +14,15 @@ pub enum Number {
     TooFew,
     NoNumber,
     Value { negative: bool, size: u32 },
+}
+
+pub fn is_digit(b: u8) -> bool
+    ensures { λ r. ⌜ r ≡ isDigit b ⌝ }
+{
+    if b < b'0' {
+        return false;
+    }
+    b <= b'9'
 }
 
 fn largest(kind: Numeral, negative: bool) -> u64

@@ -14,6 +14,7 @@ use meaning::Numeral;
 use meaning::ParseUnit;
 use meaning::Trouble;
 use numerals::integer_of;
+use numerals::is_digit;
 use parse::cursor::Cursor;
 use parse::cursor::PartRead;
 use parse::cursor::Skipped;
@@ -101,11 +102,7 @@ fn is_digit_at(text: &[u8], place: usize) -> bool
     if text.len() <= place {
         return false;
     }
-    let b = text[place];
-    if b < b'0' {
-        return false;
-    }
-    b <= b'9'
+    is_digit(text[place])
 }
 
 // A group that may be missing is there if its first digit is.

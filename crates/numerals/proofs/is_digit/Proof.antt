@@ -2,8 +2,8 @@
 use borrow.Author.Tests.{le-leb}
 use mathlib.Core.Path.{sym}
 use Rattle.laws.proofs.Digits.{digit-below}
-use Rattle.lookahead.proofs.is_digit.Statement.{statement}
-use Rattle.lookahead.proofs.is_digit.Tie as tie
+use Rattle.numerals.proofs.is_digit.Statement.{statement}
+use Rattle.numerals.proofs.is_digit.Tie as tie
 
 returns : tie.Need-returns
 returns c = sym (digit-below _ (c .if1 .taken))
