@@ -102,7 +102,7 @@ pub fn next_part(pattern: &[u8], at: usize) -> Part
 }
 
 // Refusals 1 and 2.
-fn bytes_check(pattern: &[u8]) -> Checked
+pub fn bytes_check(pattern: &[u8]) -> Checked
     ensures { λ r. ⌜ r ≡ bytesCheck (now (pattern .entry)) ⌝ }
 {
     let n = pattern.len();

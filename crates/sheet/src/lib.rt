@@ -1,0 +1,126 @@
+// The functions for C and Rust. Each returns 0 where it accepts, document 01's number where it refuses, and 100 where a lent
+// row is too small for the answer; then nothing is altered.
+use meaning::Fields;
+use rows::answers::lay_offset;
+use rows::answers::lay_reading;
+use rows::answers::lay_verdict;
+use rows::answers::lay_wrote;
+use rows::splits::lay_split;
+use texts::offset::parse_offset;
+use verdict::verdict_on;
+
+// The full pair's writer. The row: the length and 0, or the refusal's details.
+#[no_mangle]
+pub extern "C" fn sheet_write(
+    pattern: &[u8],
+    year: i32,
+    month: u32,
+    day: u32,
+    doy: u32,
+    week: u32,
+    wday: u32,
+    nanos: u64,
+    offset: i32,
+    out: &mut [u8],
+    answer: &mut [i64],
+) -> u32 {
+    if answer.len() < 2 {
+        return 100;
+    }
+    let f = Fields {
+        year,
+        month,
+        day,
+        doy,
+        week,
+        wday,
+        nanos,
+        offset,
+    };
+    lay_wrote(writer::format(pattern, f, out), answer)
+}
+
+// The Date pair's writer.
+#[no_mangle]
+pub extern "C" fn sheet_write_date(
+    pattern: &[u8],
+    year: i32,
+    month: u32,
+    day: u32,
+    doy: u32,
+    week: u32,
+    wday: u32,
+    nanos: u64,
+    offset: i32,
+    out: &mut [u8],
+    answer: &mut [i64],
+) -> u32 {
+    if answer.len() < 2 {
+        return 100;
+    }
+    let f = Fields {
+        year,
+        month,
+        day,
+        doy,
+        week,
+        wday,
+        nanos,
+        offset,
+    };
+    lay_wrote(date::format(pattern, f, out), answer)
+}
+
+// The full pair's reader. The row: the bytes read, the mask, how many units, and the fifteen values; or the refusal's
+// details and zeros.
+#[no_mangle]
+pub extern "C" fn sheet_read(pattern: &[u8], text: &[u8], year: i32, answer: &mut [i64]) -> u32 {
+    if answer.len() < 18 {
+        return 100;
+    }
+    lay_reading(reader::parse(pattern, text, year), answer)
+}
+
+// The Date pair's reader.
+#[no_mangle]
+pub extern "C" fn sheet_read_date(
+    pattern: &[u8],
+    text: &[u8],
+    year: i32,
+    answer: &mut [i64],
+) -> u32 {
+    if answer.len() < 18 {
+        return 100;
+    }
+    lay_reading(date::parse(pattern, text, year), answer)
+}
+
+// The row: the seconds and 0, or the refusal's details.
+#[no_mangle]
+pub extern "C" fn sheet_parse_offset(text: &[u8], answer: &mut [i64]) -> u32 {
+    if answer.len() < 2 {
+        return 100;
+    }
+    lay_offset(parse_offset(text), answer)
+}
+
+// The row: how many parts and 0, or the refusal's details. The parts: kind, start and length of each of 256.
+#[no_mangle]
+pub extern "C" fn sheet_split(pattern: &[u8], answer: &mut [i64], parts: &mut [i64]) -> u32 {
+    if answer.len() < 2 {
+        return 100;
+    }
+    if parts.len() < 768 {
+        return 100;
+    }
+    lay_split(pattern, answer, parts)
+}
+
+// The row: 1 and zeros; or 0, the part and a record for which it fails; or the refusal's details and zeros.
+#[no_mangle]
+pub extern "C" fn sheet_check(pattern: &[u8], year: i32, answer: &mut [i64]) -> u32 {
+    if answer.len() < 10 {
+        return 100;
+    }
+    lay_verdict(verdict_on(pattern, year), answer)
+}
