@@ -1,8 +1,42 @@
 -- A promise that equates a result with a definition determines it: two results that it allows coincide, and so do two outputs.
+-- Then the promise of each public function; that of the check is `answers-coincide` in `trust`.
+use mathlib.Core.Bool.{Bool}
+use mathlib.Core.List.{List}
 use mathlib.Core.Path.{_≡_, sym, _∙_}
+use Prim.Native.Nat.{ℕ}
+use lib.IntN.{ℤ}
+use Rattle.meaning.specs.Names.{Book}
+use Rattle.meaning.specs.Promises.{Splits, Writes, Reads, ParsesOffset, TellsRead}
+use Rattle.meaning.specs.declared.Fields.{Fields}
+use Rattle.meaning.specs.declared.Offset.{Offset}
+use Rattle.meaning.specs.declared.Pair.{Pair}
+use Rattle.meaning.specs.declared.ParseUnit.{ParseUnit}
+use Rattle.meaning.specs.declared.Reading.{Reading}
+use Rattle.meaning.specs.declared.Split.{Split}
+use Rattle.meaning.specs.declared.Wrote.{Wrote}
 
 pub determined : {A : Type 0} {d r s : A} → r ≡ d → s ≡ d → r ≡ s
 determined e f = e ∙ sym f
 
 pub determined-both : {A B : Type 0} {d r s : A} {o p q : B} → (r ≡ d) × (p ≡ o) → (s ≡ d) × (q ≡ o) → (r ≡ s) × (p ≡ q)
 determined-both e f = (determined (e .0) (f .0), determined (e .1) (f .1))
+
+-- pattern::parse_format_string
+pub splits-coincide : (p : List ℕ) {r s : Split} → Splits p r → Splits p s → r ≡ s
+splits-coincide p = determined
+
+-- writer::format and date::format
+pub writes-coincide : (pair : Pair) (book : Book) (p : List ℕ) (f : Fields) (out : List ℕ) {r s : Wrote} {after after′ : List ℕ} → Writes pair book p f out r after → Writes pair book p f out s after′ → (r ≡ s) × (after ≡ after′)
+writes-coincide pair book p f out = determined-both
+
+-- reader::parse and date::parse
+pub reads-coincide : (pair : Pair) (book : Book) (p s : List ℕ) (now : ℤ) {r t : Reading} → Reads pair book p s now r → Reads pair book p s now t → r ≡ t
+reads-coincide pair book p s now = determined
+
+-- texts::offset::parse_offset
+pub offsets-coincide : (s : List ℕ) {r t : Offset} → ParsesOffset s r → ParsesOffset s t → r ≡ t
+offsets-coincide s = determined
+
+-- reading::was_read
+pub told-coincide : (mask : ℕ) (unit : ParseUnit) {r s : Bool} → TellsRead mask unit r → TellsRead mask unit s → r ≡ s
+told-coincide mask unit = determined

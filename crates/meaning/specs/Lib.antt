@@ -9,3 +9,4 @@ pub mod Reading
 pub mod Answers
 pub mod Whole
 pub mod Trust
+pub mod Promises

@@ -11,7 +11,8 @@ ghost use Prim.Native.Nat.{_+_, _*_, _≤_, _<_};
 ghost use lib.ListN.{length, drop};
 ghost use Rattle.meaning.specs.Answers.{bytesCheck, endsInLoneQuote, patternCheck};
 ghost use Rattle.meaning.specs.Splitting.{contents, parts, noPart};
-ghost use Rattle.meaning.specs.Whole.{split, splitInto};
+ghost use Rattle.meaning.specs.Promises.{Splits};
+ghost use Rattle.meaning.specs.Whole.{splitInto};
 ghost use Rattle.meaning.specs.declared.Checked.the-variants.{Fine};
 ghost use Rattle.pattern.specs.First.{runLength, escapedCount, insideSize, firstContent, partOf};
 
@@ -187,7 +188,7 @@ fn split_parts(pattern: &[u8]) -> Split
 
 // "A split answers up to 256 parts held by value": all parts of a pattern, or refusal 1 or 2 and no part.
 pub fn parse_format_string(pattern: &[u8]) -> Split
-    ensures { λ r. ⌜ r ≡ split (now (pattern .entry)) ⌝ }
+    ensures { λ r. ⌜ Splits (now (pattern .entry)) r ⌝ }
 {
     let checked = bytes_check(pattern);
     match checked {

@@ -2,9 +2,8 @@
 // parts.
 pub mod parts;
 
-ghost use mathlib.Core.Path.{_≡_};
 ghost use Rattle.meaning.specs.Names.{english};
-ghost use Rattle.meaning.specs.Whole.{read};
+ghost use Rattle.meaning.specs.Promises.{Reads};
 use crate::parts::parse_parts;
 use fields::signed::size;
 use meaning::Checked;
@@ -15,7 +14,7 @@ use texts::checks::read_check;
 
 // Reads a text by a pattern of either pair. A refused read gives only the refusal and its detail.
 pub fn parse_with(pair: Pair, pattern: &[u8], text: &[u8], year: i32) -> Reading
-    ensures { λ r. ⌜ r ≡ read pair english (now (pattern .entry)) (now (text .entry)) year ⌝ }
+    ensures { λ r. ⌜ Reads pair english (now (pattern .entry)) (now (text .entry)) year r ⌝ }
 {
     let checked = read_check(pattern, text, year);
     match checked {
@@ -26,7 +25,7 @@ pub fn parse_with(pair: Pair, pattern: &[u8], text: &[u8], year: i32) -> Reading
 
 // The full pair's reader.
 pub fn parse(pattern: &[u8], text: &[u8], year: i32) -> Reading
-    ensures { λ r. ⌜ r ≡ read Pair.Full english (now (pattern .entry)) (now (text .entry)) year ⌝ }
+    ensures { λ r. ⌜ Reads Pair.Full english (now (pattern .entry)) (now (text .entry)) year r ⌝ }
 {
     parse_with(Pair::Full, pattern, text, year)
 }

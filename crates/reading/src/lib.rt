@@ -2,7 +2,8 @@
 // they are. proofs/Units has the laws by which a reader fills it.
 ghost use mathlib.Core.List.{[]};
 ghost use mathlib.Core.Path.{_≡_};
-ghost use Rattle.meaning.specs.Whole.{unitNumber, marked, readingOf};
+ghost use Rattle.meaning.specs.Promises.{TellsRead};
+ghost use Rattle.meaning.specs.Whole.{unitNumber, readingOf};
 use meaning::Checked;
 use meaning::ParseUnit;
 use meaning::Reading;
@@ -32,7 +33,7 @@ pub fn unit_number(unit: ParseUnit) -> usize
 
 // Whether a unit was read, by the mask of a reading.
 pub fn was_read(mask: u16, unit: ParseUnit) -> bool
-    ensures { λ r. ⌜ r ≡ marked mask (unitNumber unit) ⌝ }
+    ensures { λ r. ⌜ TellsRead mask unit r ⌝ }
 {
     let k = unit_number(unit);
     (mask >> k) & 1 == 1

@@ -4,6 +4,7 @@ ghost use Prim.Native.Nat.{_+_, _≤_};
 ghost use lib.Dec.{eqb};
 ghost use lib.ListN.{length, getD};
 ghost use Rattle.meaning.specs.Bytes.{plus};
+ghost use Rattle.meaning.specs.Promises.{ParsesOffset};
 ghost use Rattle.meaning.specs.Whole as whole;
 ghost use Rattle.parse.specs.Steps.{numberIn};
 use crate::checks::text_check;
@@ -77,7 +78,7 @@ fn hour_and_minute(text: &[u8]) -> Offset
 
 // "Z first gives 0 with the rest unread; then length 6".
 pub fn parse_offset(text: &[u8]) -> Offset
-    ensures { λ r. ⌜ r ≡ whole.parseOffset (now (text .entry)) ⌝ }
+    ensures { λ r. ⌜ ParsesOffset (now (text .entry)) r ⌝ }
 {
     if let Checked::Refused(why) = text_check(text) {
         return Offset::Refused(why);

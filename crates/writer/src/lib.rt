@@ -3,6 +3,7 @@ ghost use mathlib.Core.Path.{_≡_};
 ghost use lib.ListN.{length};
 ghost use Rattle.meaning.specs.Answers.{patternCheck, fieldsCheck, roomCheck};
 ghost use Rattle.meaning.specs.Names.{english};
+ghost use Rattle.meaning.specs.Promises.{Writes};
 ghost use Rattle.meaning.specs.Whole as whole;
 ghost use Rattle.meaning.specs.declared.Checked.the-variants.{Fine};
 use fields::checks::fields_check;
@@ -53,7 +54,7 @@ fn write_check(pair: Pair, pattern: &[u8], f: Fields, room: usize) -> Checked
 
 // Writes a record by a pattern of either pair. A refused write alters no byte, an accepted one just those it reports.
 pub fn format_with(pair: Pair, pattern: &[u8], f: Fields, out: &mut [u8]) -> Wrote
-    ensures { λ r. ⌜ (r ≡ whole.write pair english (now (pattern .entry)) f (now (out .entry))) × (now (out .exit) ≡ whole.output pair english (now (pattern .entry)) f (now (out .entry))) ⌝ }
+    ensures { λ r. ⌜ Writes pair english (now (pattern .entry)) f (now (out .entry)) r (now (out .exit)) ⌝ }
 {
     let checked = write_check(pair, pattern, f, out.len());
     match checked {
@@ -64,7 +65,7 @@ pub fn format_with(pair: Pair, pattern: &[u8], f: Fields, out: &mut [u8]) -> Wro
 
 // The full pair's writer.
 pub fn format(pattern: &[u8], f: Fields, out: &mut [u8]) -> Wrote
-    ensures { λ r. ⌜ (r ≡ whole.write Pair.Full english (now (pattern .entry)) f (now (out .entry))) × (now (out .exit) ≡ whole.output Pair.Full english (now (pattern .entry)) f (now (out .entry))) ⌝ }
+    ensures { λ r. ⌜ Writes Pair.Full english (now (pattern .entry)) f (now (out .entry)) r (now (out .exit)) ⌝ }
 {
     format_with(Pair::Full, pattern, f, out)
 }

@@ -62,7 +62,10 @@ returns c =
     let here = steps-next Full p (L .place) part n in
     let s = stepOf Full (contentOf p part) in
     let ss = steps Full (drop (L .place + part .length) p) in
-    let fails : meets (stepNeed s) ss ≡ false = rw (c .before .before .before .before .part-need .ensures) at (sym (c .before .before .meets .ensures) ∙ not-true (c .before .before .meets .result) (c .before .if1 .taken)) in
+    let need = c .before .before .before .before .part-need .ensures in
+    let met = c .before .before .meets .ensures in
+    let answered = not-true (c .before .before .meets .result) (c .before .if1 .taken) in
+    let fails : meets (stepNeed s) ss ≡ false = cc in
     rw (← L .inv .0, here, failing-here (L .i) s ss fails, ← c .before .before .before .before .part-need .ensures, c .witness .ensures)
 
 add-i : tie.Need-add-i Inv-loop μ-loop
@@ -90,7 +93,10 @@ loop-again c =
     let here = steps-next Full p (L .place) part n in
     let s = stepOf Full (contentOf p part) in
     let ss = steps Full (drop (L .place + part .length) p) in
-    let holds : meets (stepNeed s) ss ≡ true = rw (c .before .before .before .part-need .ensures) at (sym (c .before .meets .ensures) ∙ not-false (c .before .meets .result) (c .if1 .left)) in
+    let need = c .before .before .before .part-need .ensures in
+    let met = c .before .meets .ensures in
+    let answered = not-false (c .before .meets .result) (c .if1 .left) in
+    let holds : meets (stepNeed s) ss ≡ true = cc in
     (rw add-one (sym (failing-on (L .i) s ss holds) ∙ rw (← here) (L .inv .0)), omega (arith, n .some, L .inv .1))
 
 returns-2 : tie.Need-returns-2 Inv-loop μ-loop

@@ -1,8 +1,10 @@
 -- The checks, and else the first part that fails: the answer that the law is about.
 use borrow.Author.Needs.{needs}
 use denote.Ref.{now}
+use mathlib.Core.Path.{_≡_}
 use mir.Syntax.{w32}
 use mir.ValLaws.{toZ-ofZ}
+use Rattle.meaning.specs.Trust.{trustCheck}
 use Rattle.trust.proofs.Verdicts.{verdict-says}
 use Rattle.trust.specs.Check.{verdictOf}
 use Rattle.verdict.proofs.verdict_on.Statement.{statement}
@@ -25,7 +27,9 @@ unfolding verdictOf
 returns c =
     let a = c .before .before .before .before .before .args in
     let p = now (a .pattern) in
-    let checked = rw (toZ-ofZ w32 (a .year) (c .before .before .before .before .before .fits .year)) at (c .before .before .before .trust-check .ensures) in
+    let same-year = toZ-ofZ w32 (a .year) (c .before .before .before .before .before .fits .year) in
+    let ensured = c .before .before .before .trust-check .ensures in
+    let checked : c .before .before .before .trust-check .result ≡ trustCheck p (a .year) = cc in
     rw (c .first-failing .ensures) (rw (← checked, c .before .enum-told .given .1) at (verdict-says p (a .year)))
 
 returns-2 : tie.Need-returns-2
@@ -33,7 +37,9 @@ unfolding verdictOf
 returns-2 c =
     let a = c .before .before .before .before .before .args in
     let p = now (a .pattern) in
-    let checked = rw (toZ-ofZ w32 (a .year) (c .before .before .before .before .before .fits .year)) at (c .before .before .before .trust-check .ensures) in
+    let same-year = toZ-ofZ w32 (a .year) (c .before .before .before .before .before .fits .year) in
+    let ensured = c .before .before .before .trust-check .ensures in
+    let checked : c .before .before .before .trust-check .result ≡ trustCheck p (a .year) = cc in
     rw (← checked, c .before .why .given .1) at (verdict-says p (a .year))
 
 pub verdict-on-spec : {M : Type 1} → statement M

@@ -1,0 +1,31 @@
+-- Document 01, "How tight the promises are": what each public function promises of its answer r and, where it is lent an
+-- output, of the output afterwards. That of the check is `Says` in `Trust`.
+use mathlib.Core.Bool.{Bool}
+use mathlib.Core.List.{List}
+use mathlib.Core.Path.{_≡_}
+use Prim.Native.Nat.{ℕ}
+use lib.IntN.{ℤ}
+use Rattle.meaning.specs.Names.{Book}
+use Rattle.meaning.specs.Whole.{split, write, output, read, parseOffset, unitNumber, marked}
+use Rattle.meaning.specs.declared.Fields.{Fields}
+use Rattle.meaning.specs.declared.Offset.{Offset}
+use Rattle.meaning.specs.declared.Pair.{Pair}
+use Rattle.meaning.specs.declared.ParseUnit.{ParseUnit}
+use Rattle.meaning.specs.declared.Reading.{Reading}
+use Rattle.meaning.specs.declared.Split.{Split}
+use Rattle.meaning.specs.declared.Wrote.{Wrote}
+
+abbrev pub Splits : List ℕ → Split → Type 0
+Splits p r = r ≡ split p
+
+abbrev pub Writes : Pair → Book → List ℕ → Fields → List ℕ → Wrote → List ℕ → Type 0
+Writes pair book p f out r after = (r ≡ write pair book p f out) × (after ≡ output pair book p f out)
+
+abbrev pub Reads : Pair → Book → List ℕ → List ℕ → ℤ → Reading → Type 0
+Reads pair book p s now r = r ≡ read pair book p s now
+
+abbrev pub ParsesOffset : List ℕ → Offset → Type 0
+ParsesOffset s r = r ≡ parseOffset s
+
+abbrev pub TellsRead : ℕ → ParseUnit → Bool → Type 0
+TellsRead mask unit r = r ≡ marked mask (unitNumber unit)
