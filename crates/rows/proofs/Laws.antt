@@ -1,55 +1,79 @@
--- Laws of laying a list over another, for rows.
-use mathlib.Core.List.{List, [], _∷_, _++_}
-use mathlib.Core.Path.{_≡_, refl, ap, _∙_}
-use Prim.Native.Nat.{ℕ, zero, suc, _+_, _-_, _≤_, _<_, min}
-use native.Mathlib.Nat.{add-zero, min-le-right, suc-min-suc}
+-- What is held fits 64 signed bits, and what fits them is held as it is.
+use mathlib.Core.Bool.{true, false}
+use mathlib.Core.List.{List, [], _∷_, map, map-id}
+use mathlib.Core.Path.{_≡_, refl, subst, ap, _∙_}
+use Prim.Native.Nat.{ℕ, zero, suc, _-_, _≤_, _<_, _^_, min}
+use native.Mathlib.Nat.{add-zero, min-le-right, min-eq-left}
 use native.Mathlib.Omega.{arith}
-use lib.ListN.{length, getD, set, drop, replicate}
 use lib.IntN.{ℤ, pos, negsuc, negℤ, _-ℤ_, +ℤ-idl}
-use lib.Seq.{sets, drop-cons, drop-length}
 use mir.Syntax.{w64}
-use mir.Val.{SFits}
-use Rattle.rows.specs.Rows.{held}
+use lib.ListN.{replicate}
+use mir.Val.{Val, SFits, toZ, ofZ}
+use mir.ValLaws.{toZ-ofZ}
+use denote.Array.{each}
+use denote.Shadow.{shadow}
+use denote.Signed.{SInt}
+use lib.Seq.{sets}
+use Rattle.meaning.specs.Answers.{details}
+use Rattle.meaning.specs.declared.Refusal.{Refusal}
+use Rattle.refusals.specs.Told.{detailOf, detailsOf}
+use Rattle.refusals.specs.declared.Told.{Told}
+use Rattle.rows.specs.Rows.{held, laid, refused}
 
-module _ {A : Type 0} where
-  pub sets-append : (l : List A) (i : ℕ) (a b : List A) → sets l i (a ++ b) ≡ sets (sets l i a) (i + length a) b
-  sets-append l i [] b = rw add-zero
-  sets-append l i (x ∷ a) b =
-      let e : suc i + length a ≡ i + suc (length a) = omega arith in
-      sets-append (set l i x) (suc i) a b ∙ ap (λ (k : ℕ). sets (sets (set l i x) (suc i) a) k b) e
-
-  pub lay-next : (l : List A) (at : ℕ) (s : List A) (j : ℕ) (d : A) → j < length s
-      → sets (set l (at + j) (getD s j d)) (at + (j + 1)) (drop (j + 1) s) ≡ sets l (at + j) (drop j s)
-  lay-next l at s j d h =
-      let e : at + (j + 1) ≡ suc (at + j) = omega arith in
-      let f : j + 1 ≡ suc j = omega arith in
-      rw (drop-cons s j d h, e, f)
-
-  pub lay-done : (l : List A) (at : ℕ) (s : List A) (j : ℕ) → length s ≤ j → j ≤ length s → sets l (at + j) (drop j s) ≡ l
-  lay-done l at s j h k =
-      let e : j ≡ length s = omega arith in
-      rw (e, drop-length s)
-
-  pub clear-next : (l : List A) (a : A) (to i : ℕ) → i < to
-      → sets (set l i a) (i + 1) (replicate (to - (i + 1)) a) ≡ sets l i (replicate (to - i) a)
-  clear-next l a to i h =
-      let e : i + 1 ≡ suc i = omega arith in
-      let f : to - i ≡ suc (to - (i + 1)) = omega arith in
-      rw (f, e)
-
-  pub clear-done : (l : List A) (a : A) (to i : ℕ) → to ≤ i → sets l i (replicate (to - i) a) ≡ l
-  clear-done l a to i h =
-      let e : to - i ≡ 0 = omega arith in
-      rw e
-
--- what is held fits, and its negation is the held negation
 pub held-fits : (z : ℤ) → SFits w64 (held z)
 unfolding held
 held-fits (pos n) = record { sfits = omega (arith, min-le-right n 9223372036854775807) }
-held-fits (negsuc n) = record { sfits = omega (arith, min-le-right n 9223372036854775806) }
+held-fits (negsuc n) = record { sfits = omega (arith, min-le-right n 9223372036854775807) }
 
-pub held-negated : (n : ℕ) → pos 0 -ℤ held (pos n) ≡ held (negℤ (pos n))
+pub held-same : (z : ℤ) → SFits w64 z → held z ≡ z
 unfolding held
-held-negated zero = refl
-held-negated (suc n) =
-    +ℤ-idl (negℤ (pos (min (suc n) 9223372036854775807))) ∙ ap (λ (k : ℕ). negℤ (pos k)) (suc-min-suc n 9223372036854775806)
+held-same (pos n) h = let k : n < 2 ^ 63 = h .sfits in ap pos (min-eq-left (omega arith))
+held-same (negsuc n) h = let k : n < 2 ^ 63 = h .sfits in ap negsuc (min-eq-left (omega arith))
+
+pub held-bits : (z : ℤ) → toZ w64 (ofZ w64 (held z)) ≡ held z
+held-bits z = toZ-ofZ w64 (held z) (held-fits z)
+
+pub held-zero : held (pos 0) ≡ pos 0
+held-zero = held-same (pos 0) (record { sfits = omega arith })
+
+pub held-zeros : (n : ℕ) → map held (replicate n (pos 0)) ≡ replicate n (pos 0)
+held-zeros zero = refl
+held-zeros (suc n) = rw (held-zero, held-zeros n)
+
+-- the numbers of an array that a struct holds
+held-each : (zs : List ℤ) (us : List Val) → shadow (each ℤ (SInt w64 .own) zs us) → map held zs ≡ zs
+held-each [] us p = refl
+held-each (z ∷ zs) [] p = absurd p
+held-each (z ∷ zs) (u ∷ us) p = rw (held-same z (record { sfits = p .0 .1 }), held-each zs us (p .1))
+
+pub held-array : (zs : List ℤ) (us : List Val) → shadow (each ℤ (SInt w64 .own) (map (λ (z : ℤ). z) zs) us) → map held zs ≡ zs
+held-array zs us p = held-each zs us (subst (λ (ys : List ℤ). shadow (each ℤ (SInt w64 .own) ys us)) (map-id zs) p)
+
+-- below zero
+negated-fits : (n : ℕ) → n ≤ 9223372036854775807 → SFits w64 (pos 0 -ℤ pos n)
+negated-fits zero h = record { sfits = omega arith }
+negated-fits (suc n) h = rw (+ℤ-idl (negsuc n)) (record { sfits = omega arith })
+
+one-below : (n : ℕ) → pos 0 -ℤ pos n -ℤ pos 1 ≡ negsuc n
+one-below zero = refl
+one-below (suc n) = rw (+ℤ-idl (negsuc n), add-zero n)
+
+pub held-negated-fits : (n : ℕ) → SFits w64 (pos 0 -ℤ held (pos n))
+unfolding held
+held-negated-fits n = negated-fits (min n 9223372036854775807) (min-le-right n 9223372036854775807)
+
+pub held-one-below : (n : ℕ) → pos 0 -ℤ held (pos n) -ℤ pos 1 ≡ held (negsuc n)
+unfolding held
+held-one-below n = one-below (min n 9223372036854775807)
+
+-- the details of a refusal and zeros, laid one after the other
+module _ (told : Told) (why : Refusal) (tells : detailsOf told ≡ details why) (entries : ℕ) (old : List ℤ) where
+  pub two-details : told .two ≡ true
+      → sets (sets old 0 (held (detailOf (told .first)) ∷ held (detailOf (told .second)) ∷ [])) 2 (replicate (entries - 2) (pos 0))
+      ≡ laid (refused entries why .row) old
+  two-details two = rw (← tells, two, held-zeros (entries - 2))
+
+  pub one-detail : told .two ≡ false
+      → sets (sets old 0 (held (detailOf (told .first)) ∷ [])) 1 (replicate (entries - 1) (pos 0))
+      ≡ laid (refused entries why .row) old
+  one-detail one = rw (← tells, one, held-zeros (entries - 1))

@@ -1,13 +1,16 @@
-// The rows of refusals and of accepted answers, each with the number that is returned.
+// The answers, each laid over the start of a lent row with the number that is returned.
+ghost use mathlib.Core.List.{_∷_, []};
 ghost use mathlib.Core.Path.{_≡_};
 ghost use Prim.Native.Nat.{_≤_};
+ghost use lib.IntN.{pos};
 ghost use lib.ListN.{length};
 ghost use Rattle.refusals.specs.Told.{detailOf};
-ghost use Rattle.rows.specs.Rows.{held};
-use crate::laying::clear;
-use crate::laying::entry_of;
+ghost use Rattle.rows.specs.Rows.{Given, held, accepted, refused, wroteAnswer, readAnswer, offsetAnswer, verdictAnswer, fieldNumbers};
+use crate::laying::held;
+use crate::laying::held_negated;
+use crate::laying::held_signed;
 use crate::laying::lay;
-use crate::laying::wide;
+use crate::laying::lay_zeros;
 use meaning::Checked;
 use meaning::Fields;
 use meaning::Offset;
@@ -18,113 +21,129 @@ use meaning::Wrote;
 use refusals::Detail;
 use refusals::tell;
 
-fn detail_entry(d: Detail) -> i64
+fn held_detail(d: Detail) -> i64
     ensures { λ r. ⌜ r ≡ held (detailOf d) ⌝ }
 {
-    let n = entry_of(d.size);
     if d.negative {
-        return 0 - n;
+        return held_negated(d.size);
     }
-    n
+    held(d.size)
 }
 
-// The details and zeros, in so many entries; the refusal's number.
-pub fn refuse(why: Refusal, entries: usize, row: &mut [i64]) -> u32
+// The details, then zeros.
+pub fn give_refusal(why: Refusal, entries: usize, row: &mut [i64]) -> u32
     requires { ⌜ (2 ≤ entries) × (entries ≤ length (now row)) ⌝ }
+    ensures { λ r. ⌜ Given (refused entries why) (now (row .entry)) (now (row .exit)) r ⌝ }
 {
     let told = tell(why);
-    let first = detail_entry(told.first);
+    let first = held_detail(told.first);
     if told.two {
-        lay(&[first, detail_entry(told.second)], row, 0);
-        clear(row, 2, entries);
+        lay(&[first, held_detail(told.second)], row, 0);
+        lay_zeros(entries - 2, row, 2);
         return told.number;
     }
     lay(&[first], row, 0);
-    clear(row, 1, entries);
+    lay_zeros(entries - 1, row, 1);
     told.number
 }
 
-pub fn lay_wrote(wrote: Wrote, row: &mut [i64]) -> u32
+// A count, then 0.
+pub fn give_count(n: u64, row: &mut [i64]) -> u32
     requires { ⌜ 2 ≤ length (now row) ⌝ }
+    ensures { λ r. ⌜ Given (accepted (pos n ∷ pos 0 ∷ [])) (now (row .entry)) (now (row .exit)) r ⌝ }
 {
-    match wrote {
-        Wrote::Length(n) => accept(entry_of(n as u64), row),
-        Wrote::Refused(why) => refuse(why, 2, row),
-    }
-}
-
-// A number and 0.
-pub fn accept(n: i64, row: &mut [i64]) -> u32
-    requires { ⌜ 2 ≤ length (now row) ⌝ }
-{
-    lay(&[n, 0], row, 0);
+    lay(&[held(n), 0], row, 0);
     0
 }
 
-fn lay_values(reading: Reading, row: &mut [i64]) -> u32
-    requires { ⌜ 18 ≤ length (now row) ⌝ }
+pub fn give_wrote(wrote: Wrote, row: &mut [i64]) -> u32
+    requires { ⌜ 2 ≤ length (now row) ⌝ }
+    ensures { λ r. ⌜ Given (wroteAnswer wrote) (now (row .entry)) (now (row .exit)) r ⌝ }
 {
-    let taken = entry_of(reading.taken as u64);
-    let mask = reading.mask as i64;
-    let units = reading.units as i64;
+    match wrote {
+        Wrote::Length(n) => give_count(n as u64, row),
+        Wrote::Refused(why) => give_refusal(why, 2, row),
+    }
+}
+
+fn give_values(reading: Reading, row: &mut [i64]) -> u32
+    requires { ⌜ 18 ≤ length (now row) ⌝ }
+    ensures { λ r. ⌜ Given (accepted (pos (reading .taken) ∷ pos (reading .mask) ∷ pos (reading .units) ∷ reading .values)) (now (row .entry)) (now (row .exit)) r ⌝ }
+{
+    let taken = held(reading.taken as u64);
+    let mask = held(reading.mask as u64);
+    let units = held(reading.units as u64);
     let values = reading.values;
     lay(&[taken, mask, units], row, 0);
     lay(&values, row, 3);
     0
 }
 
-pub fn lay_reading(reading: Reading, row: &mut [i64]) -> u32
+pub fn give_reading(reading: Reading, row: &mut [i64]) -> u32
     requires { ⌜ 18 ≤ length (now row) ⌝ }
+    ensures { λ r. ⌜ Given (readAnswer reading) (now (row .entry)) (now (row .exit)) r ⌝ }
 {
     let checked = reading.checked;
     match checked {
-        Checked::Fine => lay_values(reading, row),
-        Checked::Refused(why) => refuse(why, 18, row),
+        Checked::Fine => give_values(reading, row),
+        Checked::Refused(why) => give_refusal(why, 18, row),
     }
 }
 
-pub fn lay_offset(offset: Offset, row: &mut [i64]) -> u32
+fn give_seconds(seconds: i32, row: &mut [i64]) -> u32
     requires { ⌜ 2 ≤ length (now row) ⌝ }
+    ensures { λ r. ⌜ Given (accepted (seconds ∷ pos 0 ∷ [])) (now (row .entry)) (now (row .exit)) r ⌝ }
+{
+    lay(&[held_signed(seconds), 0], row, 0);
+    0
+}
+
+pub fn give_offset(offset: Offset, row: &mut [i64]) -> u32
+    requires { ⌜ 2 ≤ length (now row) ⌝ }
+    ensures { λ r. ⌜ Given (offsetAnswer offset) (now (row .entry)) (now (row .exit)) r ⌝ }
 {
     match offset {
-        Offset::Seconds(seconds) => accept(wide(seconds), row),
-        Offset::Refused(why) => refuse(why, 2, row),
+        Offset::Seconds(seconds) => give_seconds(seconds, row),
+        Offset::Refused(why) => give_refusal(why, 2, row),
     }
 }
 
-fn lay_no(part: usize, f: Fields, row: &mut [i64]) -> u32
+fn give_no(part: usize, f: Fields, row: &mut [i64]) -> u32
     requires { ⌜ 10 ≤ length (now row) ⌝ }
+    ensures { λ r. ⌜ Given (accepted (pos 0 ∷ pos part ∷ fieldNumbers f)) (now (row .entry)) (now (row .exit)) r ⌝ }
 {
     let numbers = [
         0,
-        entry_of(part as u64),
-        wide(f.year),
-        f.month as i64,
-        f.day as i64,
-        f.doy as i64,
-        f.week as i64,
-        f.wday as i64,
-        entry_of(f.nanos),
-        wide(f.offset),
+        held(part as u64),
+        held_signed(f.year),
+        held(f.month as u64),
+        held(f.day as u64),
+        held(f.doy as u64),
+        held(f.week as u64),
+        held(f.wday as u64),
+        held(f.nanos),
+        held_signed(f.offset),
     ];
     lay(&numbers, row, 0);
     0
 }
 
-fn lay_yes(row: &mut [i64]) -> u32
+fn give_yes(row: &mut [i64]) -> u32
     requires { ⌜ 10 ≤ length (now row) ⌝ }
+    ensures { λ r. ⌜ Given (verdictAnswer Verdict.Yes) (now (row .entry)) (now (row .exit)) r ⌝ }
 {
     lay(&[1], row, 0);
-    clear(row, 1, 10);
+    lay_zeros(9, row, 1);
     0
 }
 
-pub fn lay_verdict(verdict: Verdict, row: &mut [i64]) -> u32
+pub fn give_verdict(verdict: Verdict, row: &mut [i64]) -> u32
     requires { ⌜ 10 ≤ length (now row) ⌝ }
+    ensures { λ r. ⌜ Given (verdictAnswer verdict) (now (row .entry)) (now (row .exit)) r ⌝ }
 {
     match verdict {
-        Verdict::Yes => lay_yes(row),
-        Verdict::No { part, record } => lay_no(part, record, row),
-        Verdict::Refused(why) => refuse(why, 10, row),
+        Verdict::Yes => give_yes(row),
+        Verdict::No { part, record } => give_no(part, record, row),
+        Verdict::Refused(why) => give_refusal(why, 10, row),
     }
 }

@@ -1,18 +1,26 @@
-// The parts of a pattern, laid into a lent row by kind, start and length.
-ghost use Prim.Native.Nat.{_+_, _≤_};
-ghost use lib.ListN.{length};
-use crate::answers::accept;
-use crate::answers::refuse;
-use crate::laying::clear;
-use crate::laying::entry_of;
+// The parts of a pattern, laid over the start of a lent row by kind, start and length.
+ghost use mathlib.Core.List.{_∷_, [], _++_, map};
+ghost use mathlib.Core.Path.{_≡_};
+ghost use Prim.Native.Nat.{_+_, _-_, _≤_};
+ghost use lib.ListN.{length, replicate};
+ghost use lib.Seq.{sets};
+ghost use Rattle.meaning.specs.Splitting as splitting;
+ghost use Rattle.meaning.specs.Whole.{split};
+ghost use Rattle.rows.specs.Rows.{Given, held, laid, kindNumber, partNumbers, splitAnswer, splitNumbers};
+use crate::answers::give_count;
+use crate::answers::give_refusal;
+use crate::laying::held;
 use crate::laying::lay;
+use crate::laying::lay_zeros;
 use meaning::Checked;
 use meaning::Kind;
 use meaning::Part;
 use pattern::bytes_check;
 use pattern::next_part;
 
-fn kind_number(kind: Kind) -> i64 {
+fn kind_number(kind: Kind) -> u64
+    ensures { λ r. ⌜ r ≡ kindNumber kind ⌝ }
+{
     match kind {
         Kind::Run => 0,
         Kind::Quotes => 1,
@@ -23,17 +31,19 @@ fn kind_number(kind: Kind) -> i64 {
 
 fn lay_part(part: Part, row: &mut [i64], at: usize)
     requires { ⌜ at + 3 ≤ length (now row) ⌝ }
+    ensures { λ _. ⌜ now (row .exit) ≡ sets (now (row .entry)) at (map held (partNumbers (part ∷ []))) ⌝ }
 {
     let kind = part.kind;
-    let start = entry_of(part.start as u64);
-    let length = entry_of(part.length as u64);
-    lay(&[kind_number(kind), start, length], row, at);
+    let number = held(kind_number(kind));
+    let start = held(part.start as u64);
+    let length = held(part.length as u64);
+    lay(&[number, start, length], row, at);
 }
 
-// The parts, and zeros behind them; how many parts there are.
+// The parts, then zeros; how many parts there are.
 fn lay_parts(pattern: &[u8], row: &mut [i64]) -> usize
-    requires { ⌜ length (now pattern) ≤ 256 ⌝ }
-    requires { ⌜ 768 ≤ length (now row) ⌝ }
+    requires { ⌜ (length (now pattern) ≤ 256) × (768 ≤ length (now row)) ⌝ }
+    ensures { λ r. ⌜ (r ≡ length (splitting.parts (now (pattern .entry)))) × (now (row .exit) ≡ laid (partNumbers (splitting.parts (now (pattern .entry)) ++ replicate (256 - r) splitting.noPart)) (now (row .entry))) ⌝ }
 {
     let mut used = 0;
     let mut at = 0;
@@ -43,15 +53,16 @@ fn lay_parts(pattern: &[u8], row: &mut [i64]) -> usize
         used += 1;
         at += part.length;
     }
-    clear(row, 3 * used, 768);
+    lay_zeros(768 - 3 * used, row, 3 * used);
     used
 }
 
-pub fn lay_split(pattern: &[u8], answer: &mut [i64], parts: &mut [i64]) -> u32
+pub fn give_split(pattern: &[u8], answer: &mut [i64], parts: &mut [i64]) -> u32
     requires { ⌜ (2 ≤ length (now answer)) × (768 ≤ length (now parts)) ⌝ }
+    ensures { λ r. ⌜ Given (splitAnswer (split (now (pattern .entry)))) (now (answer .entry)) (now (answer .exit)) r × (now (parts .exit) ≡ laid (splitNumbers (split (now (pattern .entry)))) (now (parts .entry))) ⌝ }
 {
     match bytes_check(pattern) {
-        Checked::Fine => accept(entry_of(lay_parts(pattern, parts) as u64), answer),
-        Checked::Refused(why) => refuse(why, 2, answer),
+        Checked::Fine => give_count(lay_parts(pattern, parts) as u64, answer),
+        Checked::Refused(why) => give_refusal(why, 2, answer),
     }
 }

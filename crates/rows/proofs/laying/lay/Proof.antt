@@ -10,11 +10,9 @@ use native.Mathlib.Omega.{arith}
 use mir.Syntax.{w64}
 use mir.ValLaws.{toZ-ofZ}
 use borrow.Author.Needs.{needs}
-use Rattle.rows.proofs.Laws.{lay-next, lay-done}
+use Rattle.laws.proofs.Laid.{lay-next, lay-done}
 use Rattle.rows.proofs.laying.lay.Statement.{statement}
 use Rattle.rows.proofs.laying.lay.Tie as tie
-use Rattle.rows.proofs.laying.lay.Reads as reads
-use Rattle.rows.proofs.laying.lay.Lts as lts
 
 abbrev Inv-loop : tie.InvT-loop
 Inv-loop numbers row₀ at j₀ row j = (sets row (at + j) (drop j numbers) ≡ sets row₀ at numbers) × (j ≤ length numbers) × (length row ≡ length row₀)
@@ -22,39 +20,30 @@ Inv-loop numbers row₀ at j₀ row j = (sets row (at + j) (drop j numbers) ≡ 
 abbrev μ-loop : tie.MeasureT-loop
 μ-loop numbers row₀ at j₀ row j = length numbers - j
 
--- src/laying.rt:15:5
 loop-holds : tie.Need-loop-holds Inv-loop μ-loop
 loop-holds c = (rw add-zero, omega arith, refl)
 
--- src/laying.rt:16:23
 mul-row : tie.Need-mul-row Inv-loop μ-loop
 mul-row c = search needs
 
--- src/laying.rt:16:23
 shared-slice-copy-out-row : tie.Need-shared-slice-copy-out-row Inv-loop μ-loop
 shared-slice-copy-out-row c = search needs
 
--- src/laying.rt:16:13
 add-t9 : tie.Need-add-t9 Inv-loop μ-loop
 add-t9 c = search needs
 
--- src/laying.rt:16:9
 mul-t10 : tie.Need-mul-t10 Inv-loop μ-loop
 mul-t10 c = search needs
 
--- src/laying.rt:16:9
 slice-set-from-row : tie.Need-slice-set-from-row Inv-loop μ-loop
 slice-set-from-row c = search needs
 
--- src/laying.rt:17:9
 add-j : tie.Need-add-j Inv-loop μ-loop
 add-j c = search needs
 
--- src/laying.rt:15:5
 loop-less : tie.Need-loop-less Inv-loop μ-loop
 loop-less c = search needs
 
--- src/laying.rt:15:5
 loop-again : tie.Need-loop-again Inv-loop μ-loop
 loop-again c =
     let L = c .before .before .loop in
@@ -63,11 +52,9 @@ loop-again c =
     rw (toZ-ofZ w64 z (record { sfits = c .row .given }))
     (lay-next (L .row) (a .at) (now (a .numbers)) (L .j) (pos 0) (c .before .loop-test .taken) ∙ L .inv .0, omega arith, length-set (L .row) (a .at + L .j) z ∙ L .inv .2)
 
--- src/laying.rt:10:1
 same-length : tie.Need-same-length Inv-loop μ-loop
 same-length c = c .before .loop .inv .2
 
--- src/laying.rt:10:1
 returns : tie.Need-returns Inv-loop μ-loop
 returns c =
     let L = c .before .loop in

@@ -1,46 +1,36 @@
--- The parts.
-use Prim.Native.Nat.{_-_, _≤_}
-use mathlib.Core.Path.{_≡_}
+-- At each turn what lies in the row and what is still to be laid are all the parts.
+use mathlib.Core.Path.{_∙_}
+use Prim.Native.Nat.{_-_}
 use native.Mathlib.Omega.{arith}
-use lib.ListN.{length}
 use borrow.Author.Needs.{needs}
 use denote.Ref.{now}
+use lib.ListN.{length}
 use Rattle.pattern.proofs.Laws.{next}
+use Rattle.rows.proofs.Parts.{Laying, laying-start, laying-turn, laying-end}
 use Rattle.rows.proofs.splits.lay_parts.Statement.{statement}
 use Rattle.rows.proofs.splits.lay_parts.Tie as tie
-use Rattle.rows.proofs.splits.lay_parts.Reads as reads
-use Rattle.rows.proofs.splits.lay_parts.Lts as lts
-use Rattle.pattern.proofs.next_part.Reads as next-part-reads
-use Rattle.rows.proofs.laying.clear.Reads as clear-reads
-use Rattle.rows.proofs.splits.lay_part.Reads as lay-part-reads
 
 abbrev Inv-loop : tie.InvT-loop
-Inv-loop pattern row₀ used₀ at₀ row used at = (at ≤ length pattern) × (used ≤ at) × (length row ≡ length row₀)
+Inv-loop pattern row₀ used₀ at₀ row used at = Laying pattern row₀ row used at
 
 abbrev μ-loop : tie.MeasureT-loop
 μ-loop pattern row₀ used₀ at₀ row used at = length pattern - at
 
--- src/splits.rt:40:5
 loop-holds : tie.Need-loop-holds Inv-loop μ-loop
-loop-holds c = search needs
+loop-holds c = laying-start (now (c .before .args .pattern)) (now (c .before .args .row))
 
--- src/splits.rt:41:13
 next-part-requires : tie.Need-next-part-requires Inv-loop μ-loop
 next-part-requires c κs = search needs
 
--- src/splits.rt:42:29
 mul-lay-part : tie.Need-mul-lay-part Inv-loop μ-loop
 mul-lay-part c = search needs
 
--- src/splits.rt:42:9
 lay-part-requires : tie.Need-lay-part-requires Inv-loop μ-loop
 lay-part-requires c κs = search needs
 
--- src/splits.rt:43:9
 add-used : tie.Need-add-used Inv-loop μ-loop
 add-used c = search needs
 
--- src/splits.rt:44:9
 add-at : tie.Need-add-at Inv-loop μ-loop
 add-at c =
     let l = c .before .before .before .before .before in
@@ -48,7 +38,6 @@ add-at c =
     let n = next (now (l .before .before .before .args .pattern)) (l .before .loop .at) (found .result) (omega arith) (found .ensures) in
     omega arith
 
--- src/splits.rt:40:5
 loop-less : tie.Need-loop-less Inv-loop μ-loop
 loop-less c =
     let l = c .before .before .before .before .before in
@@ -56,29 +45,33 @@ loop-less c =
     let n = next (now (l .before .before .before .args .pattern)) (l .before .loop .at) (found .result) (omega arith) (found .ensures) in
     omega arith
 
--- src/splits.rt:40:5
 loop-again : tie.Need-loop-again Inv-loop μ-loop
 loop-again c =
     let l = c .before .before .before .before .before in
     let found = c .before .before .before .before .next-part in
     let n = next (now (l .before .before .before .args .pattern)) (l .before .loop .at) (found .result) (omega arith) (found .ensures) in
-    (omega arith, omega arith, omega (arith, c .before .before .lay-part .kept .1 .0))
+    rw (c .before .before .lay-part .ensures) (laying-turn (l .before .loop .inv) n)
 
--- src/splits.rt:46:16
-mul-clear : tie.Need-mul-clear Inv-loop μ-loop
-mul-clear c = search needs
+mul-lay-zeros : tie.Need-mul-lay-zeros Inv-loop μ-loop
+mul-lay-zeros c = search needs
 
--- src/splits.rt:46:5
-clear-requires : tie.Need-clear-requires Inv-loop μ-loop
-clear-requires c κs = search needs
+sub-lay-zeros : tie.Need-sub-lay-zeros Inv-loop μ-loop
+sub-lay-zeros c = search needs
 
--- src/splits.rt:34:1
+mul-lay-zeros-2 : tie.Need-mul-lay-zeros-2 Inv-loop μ-loop
+mul-lay-zeros-2 c = search needs
+
+lay-zeros-requires : tie.Need-lay-zeros-requires Inv-loop μ-loop
+lay-zeros-requires c κs = search needs
+
 same-length : tie.Need-same-length Inv-loop μ-loop
-same-length c = search needs
+same-length c = omega (arith, c .before .lay-zeros .kept .1 .0)
 
--- src/splits.rt:34:1
 returns : tie.Need-returns Inv-loop μ-loop
-returns c = search needs
+returns c =
+    let l = c .before .before .before .before in
+    let end = laying-end (omega arith) (c .before .before .before .loop-test .left) (l .loop .inv) in
+    (end .0, c .before .lay-zeros .ensures ∙ end .1)
 
 pub lay-parts-spec : {M : Type 1} → statement M
 lay-parts-spec =
@@ -94,7 +87,9 @@ lay-parts-spec =
     add-at
     loop-less
     loop-again
-    mul-clear
-    clear-requires
+    mul-lay-zeros
+    sub-lay-zeros
+    mul-lay-zeros-2
+    lay-zeros-requires
     same-length
     returns)
