@@ -1,11 +1,11 @@
 -- What is held fits 64 signed bits, and what fits them is held as it is.
 use mathlib.Core.Bool.{true, false}
 use mathlib.Core.List.{List, [], _∷_, map, map-id}
-use mathlib.Core.Path.{_≡_, refl, subst, ap, _∙_}
+use mathlib.Core.Path.{_≡_, refl, subst, ap}
 use Prim.Native.Nat.{ℕ, zero, suc, _-_, _≤_, _<_, _^_, min}
 use native.Mathlib.Nat.{add-zero, min-le-right, min-eq-left}
 use native.Mathlib.Omega.{arith}
-use lib.IntN.{ℤ, pos, negsuc, negℤ, _-ℤ_, +ℤ-idl}
+use lib.IntN.{ℤ, pos, negsuc, _-ℤ_, +ℤ-idl}
 use mir.Syntax.{w64}
 use lib.ListN.{replicate}
 use mir.Val.{Val, SFits, toZ, ofZ}

@@ -1,10 +1,10 @@
 -- The loop that lays the parts of a pattern: what holds at each turn, how it starts, one turn, and the row at its end.
 use mathlib.Core.List.{List, [], _∷_, _++_, map}
-use mathlib.Core.Path.{_≡_, refl, sym, ap, _∙_}
-use Prim.Native.Nat.{ℕ, zero, suc, _+_, _*_, _-_, _≤_, _<_}
+use mathlib.Core.Path.{_≡_, refl, _∙_}
+use Prim.Native.Nat.{ℕ, zero, suc, _+_, _*_, _-_, _≤_}
 use native.Mathlib.Omega.{arith}
 use lib.IntN.{ℤ, pos}
-use lib.ListN.{length, drop, replicate, length-map, drop-of-length-le}
+use lib.ListN.{length, drop, replicate, drop-of-length-le}
 use lib.Seq.{sets, length-sets}
 use Rattle.laws.proofs.Laid.{sets-append}
 use Rattle.meaning.specs.Answers.{bytesCheck}
@@ -15,7 +15,6 @@ use Rattle.meaning.specs.declared.Part.{Part}
 use Rattle.meaning.specs.declared.Refusal.{Refusal}
 use Rattle.pattern.proofs.Laws.{Next}
 use Rattle.rows.specs.Rows.{held, laid, accepted, refused, splitAnswer, splitNumbers, partNumbers}
-use Rattle.rows.proofs.Laws.{held-zeros}
 
 abbrev pub numbers : List Part → List ℤ
 numbers ps = map held (partNumbers ps)

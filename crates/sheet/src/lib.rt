@@ -1,11 +1,13 @@
 // The functions for C and Rust. Each returns 0 where it accepts, document 01's number where it refuses, and 100 where a lent
 // row is too small for the answer; then nothing is altered.
+ghost use Rattle.sheet.specs.Sheet.{SheetWrites, SheetReads, SheetParsesOffset, SheetSplits, SheetChecks};
 use meaning::Fields;
-use rows::answers::lay_offset;
-use rows::answers::lay_reading;
-use rows::answers::lay_verdict;
-use rows::answers::lay_wrote;
-use rows::splits::lay_split;
+use meaning::Pair;
+use rows::answers::give_offset;
+use rows::answers::give_reading;
+use rows::answers::give_verdict;
+use rows::answers::give_wrote;
+use rows::splits::give_split;
 use texts::offset::parse_offset;
 use verdict::verdict_on;
 
@@ -23,7 +25,9 @@ pub extern "C" fn sheet_write(
     offset: i32,
     out: &mut [u8],
     answer: &mut [i64],
-) -> u32 {
+) -> u32
+    ensures { λ r. ⌜ SheetWrites Pair.Full (now (pattern .entry)) (record { year = year; month = month; day = day; doy = doy; week = week; wday = wday; nanos = nanos; offset = offset }) (now (out .entry)) (now (answer .entry)) r (now (out .exit)) (now (answer .exit)) ⌝ }
+{
     if answer.len() < 2 {
         return 100;
     }
@@ -37,7 +41,7 @@ pub extern "C" fn sheet_write(
         nanos,
         offset,
     };
-    lay_wrote(writer::format(pattern, f, out), answer)
+    give_wrote(writer::format(pattern, f, out), answer)
 }
 
 // The Date pair's writer.
@@ -54,7 +58,9 @@ pub extern "C" fn sheet_write_date(
     offset: i32,
     out: &mut [u8],
     answer: &mut [i64],
-) -> u32 {
+) -> u32
+    ensures { λ r. ⌜ SheetWrites Pair.Date (now (pattern .entry)) (record { year = year; month = month; day = day; doy = doy; week = week; wday = wday; nanos = nanos; offset = offset }) (now (out .entry)) (now (answer .entry)) r (now (out .exit)) (now (answer .exit)) ⌝ }
+{
     if answer.len() < 2 {
         return 100;
     }
@@ -68,59 +74,64 @@ pub extern "C" fn sheet_write_date(
         nanos,
         offset,
     };
-    lay_wrote(date::format(pattern, f, out), answer)
+    give_wrote(date::format(pattern, f, out), answer)
 }
 
 // The full pair's reader. The row: the bytes read, the mask, how many units, and the fifteen values; or the refusal's
 // details and zeros.
 #[no_mangle]
-pub extern "C" fn sheet_read(pattern: &[u8], text: &[u8], year: i32, answer: &mut [i64]) -> u32 {
+pub extern "C" fn sheet_read(pattern: &[u8], text: &[u8], year: i32, answer: &mut [i64]) -> u32
+    ensures { λ r. ⌜ SheetReads Pair.Full (now (pattern .entry)) (now (text .entry)) year (now (answer .entry)) r (now (answer .exit)) ⌝ }
+{
     if answer.len() < 18 {
         return 100;
     }
-    lay_reading(reader::parse(pattern, text, year), answer)
+    give_reading(reader::parse(pattern, text, year), answer)
 }
 
 // The Date pair's reader.
 #[no_mangle]
-pub extern "C" fn sheet_read_date(
-    pattern: &[u8],
-    text: &[u8],
-    year: i32,
-    answer: &mut [i64],
-) -> u32 {
+pub extern "C" fn sheet_read_date(pattern: &[u8], text: &[u8], year: i32, answer: &mut [i64]) -> u32
+    ensures { λ r. ⌜ SheetReads Pair.Date (now (pattern .entry)) (now (text .entry)) year (now (answer .entry)) r (now (answer .exit)) ⌝ }
+{
     if answer.len() < 18 {
         return 100;
     }
-    lay_reading(date::parse(pattern, text, year), answer)
+    give_reading(date::parse(pattern, text, year), answer)
 }
 
 // The row: the seconds and 0, or the refusal's details.
 #[no_mangle]
-pub extern "C" fn sheet_parse_offset(text: &[u8], answer: &mut [i64]) -> u32 {
+pub extern "C" fn sheet_parse_offset(text: &[u8], answer: &mut [i64]) -> u32
+    ensures { λ r. ⌜ SheetParsesOffset (now (text .entry)) (now (answer .entry)) r (now (answer .exit)) ⌝ }
+{
     if answer.len() < 2 {
         return 100;
     }
-    lay_offset(parse_offset(text), answer)
+    give_offset(parse_offset(text), answer)
 }
 
 // The row: how many parts and 0, or the refusal's details. The parts: kind, start and length of each of 256.
 #[no_mangle]
-pub extern "C" fn sheet_split(pattern: &[u8], answer: &mut [i64], parts: &mut [i64]) -> u32 {
+pub extern "C" fn sheet_split(pattern: &[u8], answer: &mut [i64], parts: &mut [i64]) -> u32
+    ensures { λ r. ⌜ SheetSplits (now (pattern .entry)) (now (answer .entry)) (now (parts .entry)) r (now (answer .exit)) (now (parts .exit)) ⌝ }
+{
     if answer.len() < 2 {
         return 100;
     }
     if parts.len() < 768 {
         return 100;
     }
-    lay_split(pattern, answer, parts)
+    give_split(pattern, answer, parts)
 }
 
 // The row: 1 and zeros; or 0, the part and a record for which it fails; or the refusal's details and zeros.
 #[no_mangle]
-pub extern "C" fn sheet_check(pattern: &[u8], year: i32, answer: &mut [i64]) -> u32 {
+pub extern "C" fn sheet_check(pattern: &[u8], year: i32, answer: &mut [i64]) -> u32
+    ensures { λ r. ⌜ SheetChecks (now (pattern .entry)) year (now (answer .entry)) r (now (answer .exit)) ⌝ }
+{
     if answer.len() < 10 {
         return 100;
     }
-    lay_verdict(verdict_on(pattern, year), answer)
+    give_verdict(verdict_on(pattern, year), answer)
 }
