@@ -14,8 +14,8 @@ use crate::splits::answer_split;
 use crate::verdicts::answer_check;
 use crate::writes::answer_write;
 use leaves::numbers::put_bytes;
-use lines::words::word_from;
 use meaning::Pair;
+use words::word_from;
 
 // A line with more bytes is no request.
 pub const LONGEST: usize = 20000;

@@ -9,8 +9,6 @@ use fields::signed::is_negative;
 use fields::signed::size;
 use fields::signed::size_of;
 use leaves::numbers::put_bytes;
-use lines::numbers::put_number;
-use lines::numbers::put_size;
 use meaning::Checked;
 use meaning::Offset;
 use meaning::Pair;
@@ -20,6 +18,8 @@ use requests::bytes_at;
 use requests::bytes_row;
 use requests::signed_at;
 use texts::offset::parse_offset;
+use words::numbers::put_number;
+use words::numbers::put_size;
 
 fn read(pair: Pair, pattern: &[u8], text: &[u8], year: i32) -> Reading {
     match pair {

@@ -4,11 +4,11 @@ ghost use lib.ListN.{length};
 ghost use Rattle.io.specs.Counts.{Counts};
 use leaves::numbers::put_byte;
 use leaves::numbers::put_bytes;
-use lines::numbers::put_number;
-use lines::numbers::put_size;
 use meaning::Refusal;
 use refusals::Detail;
 use refusals::tell;
+use words::numbers::put_number;
+use words::numbers::put_size;
 
 pub fn put_detail(d: Detail, out: &mut [u8], at: usize) -> usize
     requires { ⌜ at + 22 ≤ length (now out) ⌝ }

@@ -6,7 +6,6 @@ use crate::bad_request;
 use crate::refused::answer_refused;
 use leaves::numbers::put_byte;
 use leaves::numbers::put_bytes;
-use lines::numbers::put_size;
 use meaning::Checked;
 use meaning::Kind;
 use meaning::Part;
@@ -14,6 +13,7 @@ use meaning::Split;
 use pattern::parse_format_string;
 use requests::bytes_at;
 use requests::bytes_row;
+use words::numbers::put_size;
 
 fn put_kind(kind: Kind, out: &mut [u8], at: usize) -> usize
     requires { ⌜ at + 6 ≤ length (now out) ⌝ }

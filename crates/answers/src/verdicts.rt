@@ -8,7 +8,6 @@ use crate::refused::put_detail;
 use fields::signed::is_negative;
 use fields::signed::size;
 use leaves::numbers::put_bytes;
-use lines::numbers::put_size;
 use meaning::Fields;
 use meaning::Verdict;
 use refusals::Detail;
@@ -16,6 +15,7 @@ use requests::bytes_at;
 use requests::bytes_row;
 use requests::signed_at;
 use verdict::verdict_on;
+use words::numbers::put_size;
 
 fn put_count(n: u64, out: &mut [u8], at: usize) -> usize
     requires { ⌜ at + 22 ≤ length (now out) ⌝ }

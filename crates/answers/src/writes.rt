@@ -6,10 +6,9 @@ ghost use Rattle.io.specs.Counts.{Counts};
 ghost use Rattle.answers.specs.Marks.{markAt, Filled, FirstAltered, lengthOf};
 use crate::bad_request;
 use crate::refused::answer_refused;
+use hex::put_hex;
 use leaves::numbers::put_byte;
 use leaves::numbers::put_bytes;
-use lines::hex::put_hex;
-use lines::numbers::put_size;
 use meaning::Fields;
 use meaning::Pair;
 use meaning::Wrote;
@@ -17,6 +16,7 @@ use requests::bytes_at;
 use requests::bytes_row;
 use requests::count_at;
 use requests::fields_at;
+use words::numbers::put_size;
 
 // The byte that fills a place of the output: none of a text, and another one than its neighbours'.
 fn mark(place: usize) -> u8

@@ -5,9 +5,9 @@ ghost use lib.ListN.{length};
 use answers::answer;
 use libc::STDIN_FILENO;
 use libc::STDOUT_FILENO;
-use lines::input::line_end;
-use lines::input::move_down;
-use lines::input::read_behind;
+use lines::line_end;
+use lines::move_down;
+use lines::read_behind;
 
 // What a read leaves: so many bytes of a line that has not ended, or the end of the input.
 struct Rest {

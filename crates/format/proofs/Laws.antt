@@ -11,9 +11,9 @@ use Rattle.meaning.specs.Writing.{literal, endsInQuote, stepOf, stepText, texts
 use Rattle.meaning.specs.declared.Fields.{Fields}
 use Rattle.meaning.specs.declared.Pair.{Pair}
 use Rattle.meaning.specs.declared.Part.{Part}
-use Rattle.pattern.proofs.Laws.{Next}
-use Rattle.pattern.proofs.Walks.{steps-next, steps-done}
-use Rattle.pattern.specs.First.{unescaped, contentOf}
+use Rattle.parts.proofs.Laws.{Next}
+use Rattle.parts.proofs.Walks.{steps-next, steps-done}
+use Rattle.parts.specs.First.{unescaped, contentOf}
 
 pub open-step : (book : Book) (f : Fields) (s : List ℕ) → stepText book f (literal (unescaped s) (endsInQuote (unescaped s))) ≡ openText s
 unfolding stepText openText

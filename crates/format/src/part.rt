@@ -9,8 +9,8 @@ ghost use Rattle.meaning.specs.Rules.{roleOf};
 ghost use Rattle.meaning.specs.Whole.{text};
 ghost use Rattle.meaning.specs.Writing.{runStep, stepOf, stepText};
 ghost use Rattle.meaning.specs.declared.Checked.the-variants.{Fine};
-ghost use Rattle.pattern.proofs.Laws.{Next};
-ghost use Rattle.pattern.specs.First.{contentOf};
+ghost use Rattle.parts.proofs.Laws.{Next};
+ghost use Rattle.parts.specs.First.{contentOf};
 use crate::rule::format_rule;
 use leaves::literals::put_open;
 use leaves::literals::put_unescaped;
@@ -20,7 +20,7 @@ use meaning::Kind;
 use meaning::Pair;
 use meaning::Part;
 use meaning::Role;
-use pattern::next_part;
+use parts::next_part;
 use rules::role_of;
 
 fn put_run(pair: Pair, b: u8, count: usize, f: Fields, out: &mut [u8], at: usize) -> usize

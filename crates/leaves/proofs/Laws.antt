@@ -7,8 +7,8 @@ use lib.Dec.{eqb}
 use lib.ListN.{length, getD, take}
 use borrow.Author.Tests.{eqb-true}
 use Rattle.meaning.specs.Bytes.{quote}
-use Rattle.pattern.proofs.Inside.{Lost}
-use Rattle.pattern.specs.First.{unescaped}
+use Rattle.parts.proofs.Inside.{Lost}
+use Rattle.parts.specs.First.{unescaped}
 use Rattle.leaves.specs.Literals.{openText}
 
 pub open-lost : (s : List ℕ) → Lost s → eqb (getD s (length s - 1) 0) quote ≡ true → openText s ≡ unescaped (take (length s - 2) s)

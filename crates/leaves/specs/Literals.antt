@@ -4,7 +4,7 @@ use Prim.Native.Nat.{ℕ, _-_}
 use lib.ListN.{length, take}
 use Rattle.meaning.specs.Bytes.{when}
 use Rattle.meaning.specs.Writing.{endsInQuote}
-use Rattle.pattern.specs.First.{unescaped}
+use Rattle.parts.specs.First.{unescaped}
 
 -- its inside, less an escaped quote at its end
 unfoldable pub openText : List ℕ → List ℕ

@@ -2,11 +2,11 @@
 ghost use Prim.Native.Nat.{_+_, _≤_};
 ghost use lib.ListN.{length};
 ghost use Rattle.laws.specs.Laid.{Laid};
-ghost use Rattle.pattern.proofs.Inside.{Lost};
-ghost use Rattle.pattern.specs.First.{unescaped};
+ghost use Rattle.parts.proofs.Inside.{Lost};
+ghost use Rattle.parts.specs.First.{unescaped};
 ghost use Rattle.leaves.specs.Literals.{openText};
-use pattern::quoted::bytes_of;
-use pattern::quoted::ends_in_quote;
+use parts::quoted::bytes_of;
+use parts::quoted::ends_in_quote;
 
 pub fn put_unescaped(src: &[u8], out: &mut [u8], at: usize) -> usize
     requires { ⌜ at + length (unescaped (now src)) ≤ length (now out) ⌝ }

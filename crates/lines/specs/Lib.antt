@@ -1,3 +1,1 @@
-pub mod Words
-pub mod Hex
-pub mod Decimal
+pub mod Lines

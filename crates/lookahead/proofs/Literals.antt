@@ -8,8 +8,8 @@ use borrow.Author.Tests.{le-ltb}
 use lib.Dec.{eqb}
 use lib.ListN.{length, getD, drop, replicate, drop-of-length-le}
 use Rattle.meaning.specs.Bytes.{when, isDigit, digitAt, quote}
-use Rattle.pattern.proofs.Inside.{unescaped-turn}
-use Rattle.pattern.specs.First.{unescaped}
+use Rattle.parts.proofs.Inside.{unescaped-turn}
+use Rattle.parts.specs.First.{unescaped}
 use Rattle.lookahead.specs.Insides.{insideSecond}
 
 -- a run of equal bytes

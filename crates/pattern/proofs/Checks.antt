@@ -13,7 +13,7 @@ use Rattle.meaning.specs.Answers.{within, byteCheck, bytesCheck}
 use Rattle.meaning.specs.declared.Checked.the-variants.{Fine, Refused}
 use Rattle.meaning.specs.declared.Refusal.{Refusal}
 use Rattle.meaning.specs.declared.Refusal.the-variants.{PatternTooLong, PatternByte}
-use Rattle.pattern.proofs.Scans.{from-here}
+use Rattle.parts.proofs.Scans.{from-here}
 
 pub within-yes : (low high b : ℕ) → low ≤ b → b ≤ high → within low high b ≡ true
 within-yes low high b h k = rw (le-leb low b h, le-leb b high k)

@@ -1,10 +1,3 @@
-pub mod Elements
-pub mod First
-pub mod Scans
-pub mod Inside
-pub mod Laws
-pub mod Walks
-pub mod Answers
 pub mod Splits
 pub mod Checks
 pub mod LoneQuote

@@ -18,11 +18,11 @@ use Rattle.meaning.specs.declared.Checked.the-variants.{Fine, Refused}
 use Rattle.meaning.specs.declared.Part.{Part}
 use Rattle.meaning.specs.declared.Refusal.{Refusal}
 use Rattle.meaning.specs.declared.Refusal.the-variants.{LoneQuote}
-use Rattle.pattern.specs.First.{insideOf, firstContent, partOf}
+use Rattle.parts.specs.First.{insideOf, firstContent, partOf}
 use Rattle.pattern.proofs.Checks.{fine-short}
-use Rattle.pattern.proofs.First.{inside-length, by-first, contents-first}
-use Rattle.pattern.proofs.Laws.{next}
-use Rattle.pattern.proofs.Scans.{from-here}
+use Rattle.parts.proofs.First.{inside-length, by-first, contents-first}
+use Rattle.parts.proofs.Laws.{next}
+use Rattle.parts.proofs.Scans.{from-here}
 
 unclosed-holds : (w : List ℕ) (cs : List Content) → 0 < insideLength w → endsInLoneQuote (unclosed w ∷ cs) ≡ false
 unfolding endsInLoneQuote

@@ -7,12 +7,12 @@ use leaves::numbers::put_byte;
 use leaves::numbers::put_bytes;
 use libc::STDIN_FILENO;
 use libc::STDOUT_FILENO;
-use lines::input::line_end;
-use lines::input::read_behind;
-use lines::numbers::put_size;
+use lines::line_end;
+use lines::read_behind;
 use meaning::Verdict;
 use refusals::tell;
 use verdict::verdict_on;
+use words::numbers::put_size;
 
 // How many bytes of the row are the first line, or all that it holds: a pattern of so many is refused.
 fn first_line(row: &mut [u8]) -> usize

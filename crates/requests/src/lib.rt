@@ -7,12 +7,12 @@ ghost use lib.ListN.{length};
 ghost use Rattle.io.specs.Counts.{Counts};
 ghost use Rattle.meaning.specs.Bytes.{when};
 ghost use Rattle.meaning.specs.Numerals.{integer};
-use lines::hex::Decoded;
-use lines::hex::decode;
-use lines::numbers::Number;
-use lines::numbers::number_of;
-use lines::words::word_from;
+use hex::Decoded;
+use hex::decode;
 use meaning::Fields;
+use words::numbers::Number;
+use words::numbers::number_of;
+use words::word_from;
 
 pub struct NumberAt {
     pub negative: bool,

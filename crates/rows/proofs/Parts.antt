@@ -13,7 +13,7 @@ use Rattle.meaning.specs.Whole.{split}
 use Rattle.meaning.specs.declared.Checked.the-variants.{Fine, Refused}
 use Rattle.meaning.specs.declared.Part.{Part}
 use Rattle.meaning.specs.declared.Refusal.{Refusal}
-use Rattle.pattern.proofs.Laws.{Next}
+use Rattle.parts.proofs.Laws.{Next}
 use Rattle.rows.specs.Rows.{held, laid, accepted, refused, splitAnswer, splitNumbers, partNumbers}
 
 abbrev pub numbers : List Part → List ℤ

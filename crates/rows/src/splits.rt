@@ -15,8 +15,8 @@ use crate::laying::lay_zeros;
 use meaning::Checked;
 use meaning::Kind;
 use meaning::Part;
+use parts::next_part;
 use pattern::bytes_check;
-use pattern::next_part;
 
 fn kind_number(kind: Kind) -> u64
     ensures { λ r. ⌜ r ≡ kindNumber kind ⌝ }

@@ -7,8 +7,8 @@ ghost use Rattle.meaning.specs.Reading.{readStep};
 ghost use Rattle.meaning.specs.Rules.{roleOf};
 ghost use Rattle.meaning.specs.Writing.{runStep, stepOf};
 ghost use Rattle.parse.specs.Steps.{partAt};
-ghost use Rattle.pattern.proofs.Laws.{Next};
-ghost use Rattle.pattern.specs.First.{contentOf};
+ghost use Rattle.parts.proofs.Laws.{Next};
+ghost use Rattle.parts.specs.First.{contentOf};
 use crate::rule::parse_rule;
 use meaning::Kind;
 use meaning::Pair;
@@ -17,7 +17,7 @@ use meaning::Role;
 use parse::cursor::Cursor;
 use parse::cursor::PartRead;
 use parse::steps::pass;
-use pattern::quoted::unescaped_length;
+use parts::quoted::unescaped_length;
 use rules::role_of;
 
 fn parse_run(

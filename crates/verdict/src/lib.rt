@@ -8,14 +8,14 @@ ghost use Rattle.meaning.specs.Writing.{steps};
 ghost use Rattle.trust.specs.Check as trust;
 use fields::checks::current_year_check;
 use fields::checks::or_else;
-use lookahead::ahead::digit_first;
-use lookahead::ahead::digit_second;
-use lookahead::needs::part_need;
+use lookahead::digit_first;
+use lookahead::digit_second;
 use meaning::Checked;
 use meaning::Fields;
 use meaning::Pair;
 use meaning::Verdict;
-use pattern::next_part;
+use needs::part_need;
+use parts::next_part;
 use pattern::pattern_check;
 use trust::Need;
 

@@ -10,9 +10,9 @@ use denote.Ref.{now}
 use Rattle.meaning.specs.Answers.{endsInLoneQuote}
 use Rattle.meaning.specs.Bytes.{quote}
 use Rattle.meaning.specs.Splitting.{contents}
-use Rattle.pattern.proofs.Laws.{next}
+use Rattle.parts.proofs.Laws.{next}
 use Rattle.pattern.proofs.LoneQuote.{lone-turn, lone-end, no-lone}
-use Rattle.pattern.proofs.Scans.{past-end}
+use Rattle.parts.proofs.Scans.{past-end}
 use Rattle.pattern.proofs.ends_in_lone_quote.Statement.{statement}
 use Rattle.pattern.proofs.ends_in_lone_quote.Tie as tie
 

@@ -6,7 +6,7 @@ use lib.ListN.{take, drop, length-take, length-drop}
 use borrow.Author.Needs.{needs}
 use denote.Ref.{now}
 use Rattle.io.proofs.Counting.{counts}
-use Rattle.lines.proofs.HexDigits.{decoded-small}
+use Rattle.hex.proofs.HexDigits.{decoded-small}
 use Rattle.requests.proofs.bytes_at.Statement.{statement}
 use Rattle.requests.proofs.bytes_at.Tie as tie
 

@@ -3,7 +3,7 @@ use native.Mathlib.Omega.{arith}
 use borrow.Author.Needs.{needs}
 use denote.Ref.{now}
 use Rattle.io.proofs.Counting.{counts}
-use Rattle.lines.proofs.HexDigits.{hex-length}
+use Rattle.hex.proofs.HexDigits.{hex-length}
 use Rattle.answers.proofs.writes.put_text.Statement.{statement}
 use Rattle.answers.proofs.writes.put_text.Tie as tie
 

@@ -3,7 +3,7 @@ use borrow.Author.Needs.{needs}
 use denote.Ref.{now}
 use Prim.Native.Nat.{_+_, _-_}
 use lib.ListN.{length, length-replicate}
-use Rattle.pattern.proofs.Walks.{rest-all}
+use Rattle.parts.proofs.Walks.{rest-all}
 use mathlib.Core.Path.{_≡_}
 use native.Mathlib.Omega.{arith}
 use Rattle.format.proofs.part.format_part.Statement.{statement}

@@ -11,7 +11,7 @@ use Rattle.format.proofs.part.format_parts.Tie as tie
 use Rattle.laws.proofs.Laid.{sets-append}
 use Rattle.meaning.specs.Names.{english}
 use Rattle.meaning.specs.Whole.{text}
-use Rattle.pattern.proofs.Laws.{next, starts-here}
+use Rattle.parts.proofs.Laws.{next, starts-here}
 
 abbrev Inv-loop : tie.InvT-loop
 Inv-loop pair pattern f out₀ at₀ place₀ out at place =

@@ -9,8 +9,8 @@ use native.Mathlib.Numerals.{add-one}
 use native.Mathlib.Omega.{arith}
 use Rattle.leaves.proofs.literals.put_unescaped.Statement.{statement}
 use Rattle.leaves.proofs.literals.put_unescaped.Tie as tie
-use Rattle.pattern.proofs.Inside.{unescaped-turn, one-or-two}
-use Rattle.pattern.specs.First.{unescaped}
+use Rattle.parts.proofs.Inside.{unescaped-turn, one-or-two}
+use Rattle.parts.specs.First.{unescaped}
 
 abbrev Inv-loop : tie.InvT-loop
 Inv-loop src out₀ at next₀ i₀ out next i =

@@ -5,7 +5,7 @@ use native.Mathlib.Omega.{arith}
 use borrow.Author.Needs.{needs}
 use denote.Ref.{now}
 use lib.ListN.{length}
-use Rattle.pattern.proofs.Laws.{next}
+use Rattle.parts.proofs.Laws.{next}
 use Rattle.rows.proofs.Parts.{Laying, laying-start, laying-turn, laying-end}
 use Rattle.rows.proofs.splits.lay_parts.Statement.{statement}
 use Rattle.rows.proofs.splits.lay_parts.Tie as tie

@@ -7,7 +7,7 @@ use mathlib.Core.Path.{_≡_}
 use native.Mathlib.Omega.{arith}
 use Rattle.meaning.specs.Reading.{readStep}
 use Rattle.meaning.specs.Writing.{stepOf}
-use Rattle.pattern.proofs.Walks.{rest-all}
+use Rattle.parts.proofs.Walks.{rest-all}
 use Rattle.symbols.proofs.part.parse_part.Statement.{statement}
 use Rattle.symbols.proofs.part.parse_part.Tie as tie
 

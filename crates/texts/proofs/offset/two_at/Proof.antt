@@ -2,7 +2,7 @@
 use borrow.Author.Needs.{needs}
 use denote.Ref.{now}
 use mathlib.Core.Path.{_∙_}
-use Rattle.pattern.proofs.Walks.{rest-all}
+use Rattle.parts.proofs.Walks.{rest-all}
 use Rattle.texts.proofs.Offsets.{two-taken}
 use Rattle.texts.proofs.offset.two_at.Statement.{statement}
 use Rattle.texts.proofs.offset.two_at.Tie as tie

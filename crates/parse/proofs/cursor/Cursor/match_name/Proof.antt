@@ -8,7 +8,7 @@ use Rattle.constants.proofs.Answers.{found-name, found-within}
 use Rattle.meaning.specs.Names.{names, english}
 use Rattle.meaning.specs.Readers.{matchName}
 use Rattle.parse.proofs.Moves.{matched-name, matched-nothing}
-use Rattle.pattern.proofs.Walks.{rest-all}
+use Rattle.parts.proofs.Walks.{rest-all}
 use Rattle.parse.proofs.cursor.Cursor.match_name.Statement.{statement}
 use Rattle.parse.proofs.cursor.Cursor.match_name.Tie as tie
 

@@ -5,7 +5,7 @@ use lib.ListN.{drop, length-drop}
 use mathlib.Core.Path.{sym, _∙_}
 use native.Mathlib.Omega.{arith}
 use Rattle.parse.proofs.Moves.{taken-by, taken-within}
-use Rattle.pattern.proofs.Walks.{rest-all}
+use Rattle.parts.proofs.Walks.{rest-all}
 use Rattle.parse.proofs.cursor.Cursor.take.Statement.{statement}
 use Rattle.parse.proofs.cursor.Cursor.take.Tie as tie
 
