@@ -1,8 +1,8 @@
 -- Document 01's answers as numbers: what a function returns, and the numbers that it lays over the start of a lent row.
-use mathlib.Core.List.{List, [], _∷_, _++_, map}
+use mathlib.Core.List.{List, [], _∷_, _++_}
 use mathlib.Core.Path.{_≡_}
-use Prim.Native.Nat.{ℕ, _-_, min}
-use lib.IntN.{ℤ, pos, negsuc}
+use Prim.Native.Nat.{ℕ, _-_}
+use lib.IntN.{ℤ, pos}
 use lib.ListN.{length, replicate}
 use lib.Seq.{sets}
 use Rattle.meaning.specs.Answers as answers
@@ -89,14 +89,9 @@ numbersBy (Refused why) ps = []
 abbrev pub splitNumbers : Split → List ℤ
 splitNumbers s = numbersBy (s .checked) (s .parts)
 
--- a number as 64 signed bits hold it: what is beyond them, which no count of lent bytes is, is cut to the last on its side
-unfoldable pub held : ℤ → ℤ
-held (pos n) = pos (min n 9223372036854775807)
-held (negsuc n) = negsuc (min n 9223372036854775807)
-
--- the numbers lie over the start of the old row, and the rest is as it was
+-- numbers lie over the start of the old row, and the rest is as it was
 abbrev pub laid : List ℤ → List ℤ → List ℤ
-laid row old = sets old 0 (map held row)
+laid row old = sets old 0 row
 
 -- an answer is given: r is returned, and the row afterwards
 pub record Given (answer : Answer) (old new : List ℤ) (r : ℕ) : Type 0 where

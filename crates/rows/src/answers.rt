@@ -2,15 +2,15 @@
 ghost use mathlib.Core.List.{_∷_, []};
 ghost use mathlib.Core.Path.{_≡_};
 ghost use Prim.Native.Nat.{_≤_};
-ghost use lib.IntN.{pos};
+ghost use lib.IntN.{pos, natAbs};
 ghost use lib.ListN.{length};
 ghost use Rattle.refusals.specs.Told.{detailOf};
-ghost use Rattle.rows.specs.Rows.{Given, held, accepted, refused, wroteAnswer, readAnswer, offsetAnswer, verdictAnswer, fieldNumbers};
-use crate::laying::held;
-use crate::laying::held_negated;
-use crate::laying::held_signed;
+ghost use Rattle.rows.specs.Fits.{Count, WhyFits, WroteFits, ReadFits, OffsetFits, VerdictFits};
+ghost use Rattle.rows.specs.Rows.{Given, accepted, refused, wroteAnswer, readAnswer, offsetAnswer, verdictAnswer, fieldNumbers};
+use crate::laying::entry;
 use crate::laying::lay;
 use crate::laying::lay_zeros;
+use crate::laying::signed_entry;
 use meaning::Checked;
 use meaning::Fields;
 use meaning::Offset;
@@ -21,24 +21,25 @@ use meaning::Wrote;
 use refusals::Detail;
 use refusals::tell;
 
-fn held_detail(d: Detail) -> i64
-    ensures { λ r. ⌜ r ≡ held (detailOf d) ⌝ }
+fn detail_entry(d: Detail) -> i64
+    requires { ⌜ Count (natAbs (detailOf d)) ⌝ }
+    ensures { λ r. ⌜ r ≡ detailOf d ⌝ }
 {
     if d.negative {
-        return held_negated(d.size);
+        return 0 - entry(d.size);
     }
-    held(d.size)
+    entry(d.size)
 }
 
 // The details, then zeros.
 pub fn give_refusal(why: Refusal, entries: usize, row: &mut [i64]) -> u32
-    requires { ⌜ (2 ≤ entries) × (entries ≤ length (now row)) ⌝ }
+    requires { ⌜ (2 ≤ entries) × (entries ≤ length (now row)) × WhyFits why ⌝ }
     ensures { λ r. ⌜ Given (refused entries why) (now (row .entry)) (now (row .exit)) r ⌝ }
 {
     let told = tell(why);
-    let first = held_detail(told.first);
+    let first = detail_entry(told.first);
     if told.two {
-        lay(&[first, held_detail(told.second)], row, 0);
+        lay(&[first, detail_entry(told.second)], row, 0);
         lay_zeros(entries - 2, row, 2);
         return told.number;
     }
@@ -49,15 +50,15 @@ pub fn give_refusal(why: Refusal, entries: usize, row: &mut [i64]) -> u32
 
 // A count, then 0.
 pub fn give_count(n: u64, row: &mut [i64]) -> u32
-    requires { ⌜ 2 ≤ length (now row) ⌝ }
+    requires { ⌜ (2 ≤ length (now row)) × Count n ⌝ }
     ensures { λ r. ⌜ Given (accepted (pos n ∷ pos 0 ∷ [])) (now (row .entry)) (now (row .exit)) r ⌝ }
 {
-    lay(&[held(n), 0], row, 0);
+    lay(&[entry(n), 0], row, 0);
     0
 }
 
 pub fn give_wrote(wrote: Wrote, row: &mut [i64]) -> u32
-    requires { ⌜ 2 ≤ length (now row) ⌝ }
+    requires { ⌜ (2 ≤ length (now row)) × WroteFits wrote ⌝ }
     ensures { λ r. ⌜ Given (wroteAnswer wrote) (now (row .entry)) (now (row .exit)) r ⌝ }
 {
     match wrote {
@@ -67,12 +68,12 @@ pub fn give_wrote(wrote: Wrote, row: &mut [i64]) -> u32
 }
 
 fn give_values(reading: Reading, row: &mut [i64]) -> u32
-    requires { ⌜ 18 ≤ length (now row) ⌝ }
+    requires { ⌜ (18 ≤ length (now row)) × Count (reading .taken) ⌝ }
     ensures { λ r. ⌜ Given (accepted (pos (reading .taken) ∷ pos (reading .mask) ∷ pos (reading .units) ∷ reading .values)) (now (row .entry)) (now (row .exit)) r ⌝ }
 {
-    let taken = held(reading.taken as u64);
-    let mask = held(reading.mask as u64);
-    let units = held(reading.units as u64);
+    let taken = entry(reading.taken as u64);
+    let mask = entry(reading.mask as u64);
+    let units = entry(reading.units as u64);
     let values = reading.values;
     lay(&[taken, mask, units], row, 0);
     lay(&values, row, 3);
@@ -80,7 +81,7 @@ fn give_values(reading: Reading, row: &mut [i64]) -> u32
 }
 
 pub fn give_reading(reading: Reading, row: &mut [i64]) -> u32
-    requires { ⌜ 18 ≤ length (now row) ⌝ }
+    requires { ⌜ (18 ≤ length (now row)) × ReadFits reading ⌝ }
     ensures { λ r. ⌜ Given (readAnswer reading) (now (row .entry)) (now (row .exit)) r ⌝ }
 {
     let checked = reading.checked;
@@ -94,12 +95,12 @@ fn give_seconds(seconds: i32, row: &mut [i64]) -> u32
     requires { ⌜ 2 ≤ length (now row) ⌝ }
     ensures { λ r. ⌜ Given (accepted (seconds ∷ pos 0 ∷ [])) (now (row .entry)) (now (row .exit)) r ⌝ }
 {
-    lay(&[held_signed(seconds), 0], row, 0);
+    lay(&[signed_entry(seconds), 0], row, 0);
     0
 }
 
 pub fn give_offset(offset: Offset, row: &mut [i64]) -> u32
-    requires { ⌜ 2 ≤ length (now row) ⌝ }
+    requires { ⌜ (2 ≤ length (now row)) × OffsetFits offset ⌝ }
     ensures { λ r. ⌜ Given (offsetAnswer offset) (now (row .entry)) (now (row .exit)) r ⌝ }
 {
     match offset {
@@ -109,20 +110,20 @@ pub fn give_offset(offset: Offset, row: &mut [i64]) -> u32
 }
 
 fn give_no(part: usize, f: Fields, row: &mut [i64]) -> u32
-    requires { ⌜ 10 ≤ length (now row) ⌝ }
+    requires { ⌜ (10 ≤ length (now row)) × Count part × Count (f .nanos) ⌝ }
     ensures { λ r. ⌜ Given (accepted (pos 0 ∷ pos part ∷ fieldNumbers f)) (now (row .entry)) (now (row .exit)) r ⌝ }
 {
     let numbers = [
         0,
-        held(part as u64),
-        held_signed(f.year),
-        held(f.month as u64),
-        held(f.day as u64),
-        held(f.doy as u64),
-        held(f.week as u64),
-        held(f.wday as u64),
-        held(f.nanos),
-        held_signed(f.offset),
+        entry(part as u64),
+        signed_entry(f.year),
+        entry(f.month as u64),
+        entry(f.day as u64),
+        entry(f.doy as u64),
+        entry(f.week as u64),
+        entry(f.wday as u64),
+        entry(f.nanos),
+        signed_entry(f.offset),
     ];
     lay(&numbers, row, 0);
     0
@@ -138,7 +139,7 @@ fn give_yes(row: &mut [i64]) -> u32
 }
 
 pub fn give_verdict(verdict: Verdict, row: &mut [i64]) -> u32
-    requires { ⌜ 10 ≤ length (now row) ⌝ }
+    requires { ⌜ (10 ≤ length (now row)) × VerdictFits verdict ⌝ }
     ensures { λ r. ⌜ Given (verdictAnswer verdict) (now (row .entry)) (now (row .exit)) r ⌝ }
 {
     match verdict {

@@ -1,10 +1,10 @@
 // Numbers laid into a lent row.
 ghost use mathlib.Core.Path.{_≡_};
 ghost use Prim.Native.Nat.{_+_, _≤_};
-ghost use lib.IntN.{pos, negℤ};
+ghost use lib.IntN.{pos};
 ghost use lib.ListN.{length, replicate};
 ghost use lib.Seq.{sets};
-ghost use Rattle.rows.specs.Rows.{held};
+ghost use Rattle.rows.specs.Fits.{Count};
 
 pub fn lay(numbers: &[i64], row: &mut [i64], at: usize)
     requires { ⌜ at + length (now numbers) ≤ length (now row) ⌝ }
@@ -28,26 +28,15 @@ pub fn lay_zeros(times: usize, row: &mut [i64], at: usize)
     }
 }
 
-pub fn held(n: u64) -> i64
-    ensures { λ r. ⌜ r ≡ held (pos n) ⌝ }
+pub fn entry(n: u64) -> i64
+    requires { ⌜ Count n ⌝ }
+    ensures { λ r. ⌜ r ≡ pos n ⌝ }
 {
-    if n <= 9223372036854775807 {
-        return n as i64;
-    }
-    9223372036854775807
+    n as i64
 }
 
-pub fn held_negated(n: u64) -> i64
-    ensures { λ r. ⌜ r ≡ held (negℤ (pos n)) ⌝ }
-{
-    if n == 0 {
-        return 0;
-    }
-    0 - held(n - 1) - 1
-}
-
-pub fn held_signed(z: i32) -> i64
-    ensures { λ r. ⌜ r ≡ held z ⌝ }
+pub fn signed_entry(z: i32) -> i64
+    ensures { λ r. ⌜ r ≡ z ⌝ }
 {
     z as i64
 }

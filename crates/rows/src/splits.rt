@@ -1,15 +1,16 @@
 // The parts of a pattern, laid over the start of a lent row by kind, start and length.
-ghost use mathlib.Core.List.{_∷_, [], _++_, map};
+ghost use mathlib.Core.List.{_∷_, [], _++_};
 ghost use mathlib.Core.Path.{_≡_};
 ghost use Prim.Native.Nat.{_+_, _-_, _≤_};
 ghost use lib.ListN.{length, replicate};
 ghost use lib.Seq.{sets};
 ghost use Rattle.meaning.specs.Splitting as splitting;
 ghost use Rattle.meaning.specs.Whole.{split};
-ghost use Rattle.rows.specs.Rows.{Given, held, laid, kindNumber, partNumbers, splitAnswer, splitNumbers};
+ghost use Rattle.rows.specs.Fits.{Count};
+ghost use Rattle.rows.specs.Rows.{Given, laid, kindNumber, partNumbers, splitAnswer, splitNumbers};
 use crate::answers::give_count;
 use crate::answers::give_refusal;
-use crate::laying::held;
+use crate::laying::entry;
 use crate::laying::lay;
 use crate::laying::lay_zeros;
 use meaning::Checked;
@@ -30,20 +31,20 @@ fn kind_number(kind: Kind) -> u64
 }
 
 fn lay_part(part: Part, row: &mut [i64], at: usize)
-    requires { ⌜ at + 3 ≤ length (now row) ⌝ }
-    ensures { λ _. ⌜ now (row .exit) ≡ sets (now (row .entry)) at (map held (partNumbers (part ∷ []))) ⌝ }
+    requires { ⌜ (at + 3 ≤ length (now row)) × Count (part .start) × Count (part .length) ⌝ }
+    ensures { λ _. ⌜ now (row .exit) ≡ sets (now (row .entry)) at (partNumbers (part ∷ [])) ⌝ }
 {
     let kind = part.kind;
-    let number = held(kind_number(kind));
-    let start = held(part.start as u64);
-    let length = held(part.length as u64);
+    let number = entry(kind_number(kind));
+    let start = entry(part.start as u64);
+    let length = entry(part.length as u64);
     lay(&[number, start, length], row, at);
 }
 
 // The parts, then zeros; how many parts there are.
 fn lay_parts(pattern: &[u8], row: &mut [i64]) -> usize
     requires { ⌜ (length (now pattern) ≤ 256) × (768 ≤ length (now row)) ⌝ }
-    ensures { λ r. ⌜ (r ≡ length (splitting.parts (now (pattern .entry)))) × (now (row .exit) ≡ laid (partNumbers (splitting.parts (now (pattern .entry)) ++ replicate (256 - r) splitting.noPart)) (now (row .entry))) ⌝ }
+    ensures { λ r. ⌜ (r ≤ 256) × (r ≡ length (splitting.parts (now (pattern .entry)))) × (now (row .exit) ≡ laid (partNumbers (splitting.parts (now (pattern .entry)) ++ replicate (256 - r) splitting.noPart)) (now (row .entry))) ⌝ }
 {
     let mut used = 0;
     let mut at = 0;

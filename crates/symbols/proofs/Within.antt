@@ -1,4 +1,4 @@
--- No reader takes more than there is: each step, one after the other, a rule, a part. So a cursor that moves on stays in its text.
+-- No reader takes more than there is, and none stops behind it: each step, one after the other, a rule, a part. So a cursor that moves on stays in its text.
 use mathlib.Core.Bool.{Bool}
 use mathlib.Core.List.{List, [], _∷_}
 use mathlib.Core.Option.{Option, none, some}
@@ -9,7 +9,7 @@ use native.Mathlib.Omega.{arith}
 use borrow.Author.Tests.{ltb-false}
 use lib.Dec.{eqb, ltb}
 use lib.ListN.{length, take, drop, length-take, length-drop}
-use Rattle.constants.proofs.Answers.{found-within}
+use Rattle.constants.proofs.Answers.{found-within, found-nothing}
 use Rattle.laws.proofs.Tests.{when-is}
 use Rattle.meaning.specs.Bytes.{both, digitAt, plus, minus}
 use Rattle.meaning.specs.Names.{Book, names}
@@ -23,6 +23,7 @@ use Rattle.meaning.specs.declared.Group.the-variants.{Never, NotZero, Always}
 use Rattle.meaning.specs.declared.Numeral.{Numeral}
 use Rattle.meaning.specs.declared.Rule.{Rule}
 use Rattle.meaning.specs.declared.Rule.the-variants.{Number, SkippedNumber, LetterQuarter, SkippedName, MatchedName, Letters, Years, FixedYear, TwoDigitYear, Zone}
+use Rattle.meaning.specs.declared.Trouble.the-variants.{NoName}
 use Rattle.parse.specs.Steps.{skippedAt, partAt}
 use Rattle.symbols.specs.Symbols.{countedAt, signAt}
 use Rattle.parse.specs.declared.cursor.Cursor.{Cursor}
@@ -34,33 +35,33 @@ use Rattle.symbols.specs.declared.zones.SignRead.the-variants as sign
 
 abbrev pub Within : {A : Type 0} → ℕ → Got A → Type 0
 Within room (got n a) = n ≤ room
-Within room (stopped why i) = Unit
+Within room (stopped why i) = i ≤ room
 
 -- one reader after the other
 
 within-behind : {A : Type 0} (n : ℕ) (s : List ℕ) (g : Got A) → n ≤ length s → Within (length (drop n s)) g → Within (length s) (behind n g)
 within-behind n s (got m a) h k = omega (arith, length-drop n s)
-within-behind n s (stopped why i) h k = tt
+within-behind n s (stopped why i) h k = omega (arith, length-drop n s)
 
 pub within-on : {A B : Type 0} (g : Got A) (next : A → Reader B) (s : List ℕ) → Within (length s) g
     → ((a : A) (t : List ℕ) → Within (length t) (next a t)) → Within (length s) (goOn g next s)
 within-on (got n a) next s h k = within-behind n s (next a (drop n s)) h (k a (drop n s))
-within-on (stopped why i) next s h k = tt
+within-on (stopped why i) next s h k = h
 
 -- the steps
 
 pub within-skip : (k : ℕ) (s : List ℕ) → Within (length s) (skip k s)
 unfolding skip
-within-skip k s = when-is (λ (g : Got Unit). Within (length s) g) (ltb (length s) k) (λ _. tt) (λ e. ltb-false (length s) k e)
+within-skip k s = when-is (λ (g : Got Unit). Within (length s) g) (ltb (length s) k) (λ _. omega arith) (λ e. ltb-false (length s) k e)
 
 within-taken : (k : ℕ) (n : Option Signed) (room : ℕ) → k ≤ room → Within room (takenNumber k n)
-within-taken k none room h = tt
+within-taken k none room h = omega arith
 within-taken k (some n) room h = h
 
 pub within-take : (kind : Numeral) (k : ℕ) (s : List ℕ) → Within (length s) (takeNumber kind k s)
 unfolding takeNumber
 within-take kind k s =
-    when-is (λ (g : Got Signed). Within (length s) g) (ltb (length s) k) (λ _. tt)
+    when-is (λ (g : Got Signed). Within (length s) g) (ltb (length s) k) (λ _. omega arith)
     (λ e. within-taken k (numberOf kind (take k s)) (length s) (ltb-false (length s) k e))
 
 pub within-count : (k : ℕ) (s : List ℕ) → Within (length s) (takeCount k s)
@@ -69,26 +70,33 @@ within-count k s = within-on (takeNumber _ k s) _ s (within-take _ k s) (λ n t.
 within-year : (k : ℕ) (s : List ℕ) → Within (length s) (takeYear k s)
 within-year k s = within-on (takeNumber _ k s) _ s (within-take _ k s) (λ n t. omega arith)
 
-known-within : (g : Got ℕ) (room : ℕ) → ((i n : ℕ) → g ≡ got n i → n ≤ room) → Within room g
-known-within (got n i) room h = h i n refl
-known-within (stopped why i) room h = tt
+known-within : (l : List (List ℕ)) (s : List ℕ) (g : Got ℕ) → matchName l s ≡ g → Within (length s) g
+known-within l s (got n i) e = found-within l s e .1
+known-within l s (stopped why i) e =
+    let none : matchName l s ≡ stopped NoName 0 = found-nothing l s (rw e) in
+    let start : i ≡ 0 = cc in
+    omega arith
 
 within-match : (l : List (List ℕ)) (s : List ℕ) → Within (length s) (matchName l s)
-within-match l s = known-within (matchName l s) (length s) (λ i n e. found-within l s e .1)
+within-match l s = known-within l s (matchName l s) refl
+
+wider : {A : Type 0} (g : Got A) (room more : ℕ) → room ≤ more → Within room g → Within more g
+wider (got n a) room more h k = omega arith
+wider (stopped why i) room more h k = omega arith
 
 within-letters : (k : ℕ) (l : List (List ℕ)) (s : List ℕ) → Within (length s) (letters k l s)
 unfolding letters matchName
 within-letters k l s =
-    when-is (λ (g : Got ℕ). Within (length s) g) (ltb (length s) k) (λ _. tt)
-    (λ _. known-within (matchName l (take k s)) (length s) (λ i n e. omega (arith, found-within l (take k s) e .1, length-take k s)))
+    when-is (λ (g : Got ℕ). Within (length s) g) (ltb (length s) k) (λ _. omega arith)
+    (λ _. wider (matchName l (take k s)) (length (take k s)) (length s) (omega (arith, length-take k s)) (within-match l (take k s)))
 
 pub within-sign : (z : Bool) (s : List ℕ) → Within (length s) (zoneSign z s)
 unfolding zoneSign
-within-sign z [] = tt
+within-sign z [] = omega arith
 within-sign z (b ∷ s) =
     when-is (λ (g : Got ZoneSign). Within (suc (length s)) g) (both z (eqb b (code "Z"))) (λ _. omega arith)
     (λ _. when-is (λ (g : Got ZoneSign). Within (suc (length s)) g) (eqb b plus) (λ _. omega arith)
-    (λ _. when-is (λ (g : Got ZoneSign). Within (suc (length s)) g) (eqb b minus) (λ _. omega arith) (λ _. tt)))
+    (λ _. when-is (λ (g : Got ZoneSign). Within (suc (length s)) g) (eqb b minus) (λ _. omega arith) (λ _. omega arith)))
 
 within-skip-count : (c : Bool) (s : List ℕ) → Within (length s) (takeGroup c s)
 within-skip-count c s = within-on (skip (colonLength c) s) _ s (within-skip (colonLength c) s) (λ _ t. within-count 2 t)

@@ -1,10 +1,12 @@
 -- The answer of the check, where there is room for it.
 use denote.Ref.{now}
+use native.Mathlib.Omega.{arith}
 use mir.Syntax.{w32}
 use mir.ValLaws.{toZ-ofZ}
 use Rattle.rows.specs.Rows.{verdictAnswer}
 use Rattle.trust.proofs.Verdicts.{verdict-says}
 use Rattle.trust.specs.Check.{verdictOf}
+use Rattle.sheet.proofs.Fits.{verdict-fits}
 use Rattle.sheet.proofs.Rooms.{room, no-room}
 use borrow.Author.Needs.{needs}
 use Rattle.sheet.proofs.sheet_check.Statement.{statement}
@@ -24,7 +26,11 @@ verdict-on-requires : tie.Need-verdict-on-requires
 verdict-on-requires c κs = search needs
 
 give-verdict-requires : tie.Need-give-verdict-requires
-give-verdict-requires c κs = search needs
+give-verdict-requires c κs =
+    let s = c .before .before .before .before in
+    let v = c .before .verdict-on in
+    let says = rw (toZ-ofZ w32 (s .args .year) (s .fits .year)) at (v .ensures) in
+    (search needs, verdict-fits (now (s .args .pattern)) (s .args .year) (v .result) (omega (arith, s .good .0 .1)) (s .fits .year) says)
 
 same-length : tie.Need-same-length
 same-length c = search needs

@@ -1,7 +1,9 @@
 -- The answer of parse_offset, where there is room for it.
 use denote.Ref.{now}
+use native.Mathlib.Omega.{arith}
 use Rattle.meaning.specs.Whole.{parseOffset}
 use Rattle.rows.specs.Rows.{offsetAnswer}
+use Rattle.sheet.proofs.Fits.{offset-fits}
 use Rattle.sheet.proofs.Rooms.{room, no-room}
 use borrow.Author.Needs.{needs}
 use Rattle.sheet.proofs.sheet_parse_offset.Statement.{statement}
@@ -16,7 +18,9 @@ parse-offset-requires : tie.Need-parse-offset-requires
 parse-offset-requires c κs = search needs
 
 give-offset-requires : tie.Need-give-offset-requires
-give-offset-requires c κs = search needs
+give-offset-requires c κs =
+    let s = c .before .before .before .before in
+    (search needs, rw (c .before .parse-offset .ensures) (offset-fits (now (s .args .text)) (omega (arith, s .good .0 .1))))
 
 same-length : tie.Need-same-length
 same-length c = search needs

@@ -1,11 +1,13 @@
 -- The answer of the reader, where there is room for it.
 use denote.Ref.{now}
+use native.Mathlib.Omega.{arith}
 use mir.Syntax.{w32}
 use mir.ValLaws.{toZ-ofZ}
 use Rattle.meaning.specs.Names.{english}
 use Rattle.meaning.specs.Whole.{read}
 use Rattle.meaning.specs.declared.Pair.the-variants.{Date}
 use Rattle.rows.specs.Rows.{readAnswer}
+use Rattle.sheet.proofs.Fits.{read-fits}
 use Rattle.sheet.proofs.Rooms.{room, no-room}
 use borrow.Author.Needs.{needs}
 use Rattle.sheet.proofs.sheet_read_date.Statement.{statement}
@@ -20,7 +22,10 @@ parse-requires : tie.Need-parse-requires
 parse-requires c κs = search needs
 
 give-reading-requires : tie.Need-give-reading-requires
-give-reading-requires c κs = search needs
+give-reading-requires c κs =
+    let s = c .before .before .before .before .before in
+    let reads = rw (toZ-ofZ w32 (s .args .year) (s .fits .year)) at (c .before .parse .ensures) in
+    (search needs, rw reads (read-fits Date (now (s .args .pattern)) (now (s .args .text)) (s .args .year) (omega (arith, s .good .0 .1)) (omega (arith, s .good .1 .0 .1)) (s .fits .year)))
 
 same-length : tie.Need-same-length
 same-length c = search needs

@@ -3,8 +3,12 @@ use borrow.Author.Tests.{le-leb, lt-leb}
 use denote.Ref.{now}
 use lib.ListN.{length}
 use mathlib.Core.Path.{refl}
+use native.Mathlib.Omega.{arith}
 use mir.Syntax.{w32}
 use mir.ValLaws.{toZ-ofZ}
+use Rattle.meaning.specs.declared.Fields.{Fields}
+use Rattle.meaning.specs.declared.Pair.the-variants.{Full}
+use Rattle.sheet.proofs.Fits.{write-fits}
 use borrow.Author.Needs.{needs}
 use Rattle.sheet.proofs.sheet_write.Statement.{statement}
 use Rattle.sheet.proofs.sheet_write.Tie as tie
@@ -18,7 +22,12 @@ format-requires : tie.Need-format-requires
 format-requires c κs = search needs
 
 give-wrote-requires : tie.Need-give-wrote-requires
-give-wrote-requires c κs = search needs
+give-wrote-requires c κs =
+    let s = c .before .before .before .before .before .before .before .before in
+    let a = s .args in
+    let f : Fields = record { year = a .year; month = a .month; day = a .day; doy = a .doy; week = a .week; wday = a .wday; nanos = a .nanos; offset = a .offset } in
+    let wrote = rw (toZ-ofZ w32 (a .year) (s .fits .year), toZ-ofZ w32 (a .offset) (s .fits .offset)) at (c .before .before .before .format .ensures) in
+    (search needs, rw (wrote .0) (write-fits Full (now (a .pattern)) f (now (a .out)) (omega (arith, s .good .0 .1)) (omega (arith, s .good .1 .1 .1 .1 .1 .1 .1 .1 .1 .0 .1))))
 
 same-length : tie.Need-same-length
 same-length c = search needs

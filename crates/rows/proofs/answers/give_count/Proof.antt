@@ -1,13 +1,12 @@
--- The row is the count, as it is held, and 0.
+-- The row is the count and 0.
 use mathlib.Core.Path.{refl, _∙_}
-use lib.IntN.{pos}
-use Rattle.rows.proofs.Laws.{held-bits, held-zero}
+use Rattle.rows.proofs.Laws.{stored}
 use borrow.Author.Needs.{needs}
 use Rattle.rows.proofs.answers.give_count.Statement.{statement}
 use Rattle.rows.proofs.answers.give_count.Tie as tie
 
-held-requires : tie.Need-held-requires
-held-requires c κs = search needs
+entry-requires : tie.Need-entry-requires
+entry-requires c κs = search needs
 
 slice-aggregate-lay : tie.Need-slice-aggregate-lay
 slice-aggregate-lay c = search needs
@@ -20,12 +19,9 @@ same-length c = search needs
 
 returns : tie.Need-returns
 returns c =
-    let n = c .before .before .before .before .before .args .n in
-    record {
-      number = refl;
-      row = c .before .lay .ensures ∙ rw (c .before .before .before .before .held .ensures, held-bits (pos n), held-zero);
-    }
+    let entry = c .before .before .before .before .entry in
+    record { number = refl; row = c .before .lay .ensures ∙ rw (stored (entry .result) (entry .ok), entry .ensures) }
 
 pub give-count-spec : {M : Type 1} → statement M
 give-count-spec =
-    tie.close (tie.spec held-requires slice-aggregate-lay lay-requires same-length returns)
+    tie.close (tie.spec entry-requires slice-aggregate-lay lay-requires same-length returns)

@@ -1,6 +1,6 @@
 -- Each kind of answer has its own way to be given.
-use mir.Facts.{toZ-ofZ}
 use mir.Syntax.{w32}
+use mir.ValLaws.{toZ-ofZ}
 use borrow.Author.Needs.{needs}
 use Rattle.rows.proofs.answers.give_offset.Statement.{statement}
 use Rattle.rows.proofs.answers.give_offset.Tie as tie
@@ -15,7 +15,7 @@ enum-known-offset-2 : tie.Need-enum-known-offset-2
 enum-known-offset-2 c = search needs
 
 give-refusal-requires : tie.Need-give-refusal-requires
-give-refusal-requires c κs = search needs
+give-refusal-requires c κs = (search needs, search needs, rw (c .before .before .offset2 .given .1) at (c .before .before .before .before .pre .1))
 
 same-length : tie.Need-same-length
 same-length c = search needs
@@ -23,7 +23,7 @@ same-length c = search needs
 returns : tie.Need-returns
 returns c =
     let z = c .before .before .before .before .offset .given .0 .0 in
-    let bits = toZ-ofZ {w = w32} {z = z} (record { sfits = c .before .before .before .known-told .given .0 .1 }) in
+    let bits = toZ-ofZ w32 z (record { sfits = c .before .before .before .known-told .given .0 .1 }) in
     rw (c .before .before .before .before .offset .given .1) (rw bits at (c .before .give-seconds .ensures))
 
 same-length-2 : tie.Need-same-length-2

@@ -13,7 +13,7 @@ enum-known-checked : tie.Need-enum-known-checked
 enum-known-checked c = search needs
 
 give-refusal-requires : tie.Need-give-refusal-requires
-give-refusal-requires c κs = search needs
+give-refusal-requires c κs = (search needs, search needs, rw (c .before .before .checked .given .1) at (c .before .before .before .before .pre .1 .1))
 
 same-length : tie.Need-same-length
 same-length c = search needs

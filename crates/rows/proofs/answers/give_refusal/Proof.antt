@@ -1,8 +1,8 @@
 -- Zeros lie behind the two details, or behind the one.
 use mathlib.Core.Path.{_∙_}
 use denote.Ref.{now}
-use Rattle.refusals.specs.Told.{detailOf}
-use Rattle.rows.proofs.Laws.{held-bits, two-details, one-detail}
+use Rattle.rows.proofs.Laws.{stored}
+use Rattle.rows.proofs.Laws.{first-fits, second-fits, two-details, one-detail}
 use borrow.Author.Needs.{needs}
 use Rattle.rows.proofs.answers.give_refusal.Statement.{statement}
 use Rattle.rows.proofs.answers.give_refusal.Tie as tie
@@ -10,11 +10,13 @@ use Rattle.rows.proofs.answers.give_refusal.Tie as tie
 tell-requires : tie.Need-tell-requires
 tell-requires c κs = search needs
 
-held-detail-requires : tie.Need-held-detail-requires
-held-detail-requires c κs = search needs
+detail-entry-requires : tie.Need-detail-entry-requires
+detail-entry-requires c κs = first-fits (c .tell .result) (c .before .args .why) (c .tell .ensures .1) (c .before .pre .2)
 
-held-detail-requires-2 : tie.Need-held-detail-requires-2
-held-detail-requires-2 c κs = search needs
+detail-entry-requires-2 : tie.Need-detail-entry-requires-2
+detail-entry-requires-2 c κs =
+    let tell = c .before .before .tell in
+    second-fits (tell .result) (c .before .before .before .args .why) (tell .ensures .1) (c .before .before .before .pre .2) (c .if1 .taken)
 
 slice-aggregate-lay : tie.Need-slice-aggregate-lay
 slice-aggregate-lay c = search needs
@@ -34,14 +36,15 @@ same-length c = search needs
 returns : tie.Need-returns
 returns c =
     let a = c .before .before .before .before .before .before .before .before .before .before .before .args in
-    let told = c .before .before .before .before .before .before .before .before .before .before .tell .result in
-    let tells = c .before .before .before .before .before .before .before .before .before .before .tell .ensures in
+    let tell = c .before .before .before .before .before .before .before .before .before .before .tell in
+    let first = c .before .before .before .before .before .before .before .before .before .detail-entry in
+    let second = c .before .before .before .before .before .before .before .detail-entry2 in
     record {
-      number = tells .0;
+      number = tell .ensures .0;
       row =
           c .before .lay-zeros .ensures
-          ∙ rw (c .before .before .before .before .lay .ensures, c .before .before .before .before .before .before .before .before .before .held-detail .ensures, c .before .before .before .before .before .before .before .held-detail2 .ensures, held-bits (detailOf (told .first)), held-bits (detailOf (told .second)))
-          (two-details told (a .why) (tells .1) (a .entries) (now (a .row)) (c .before .before .before .before .before .before .before .before .if1 .taken));
+          ∙ rw (c .before .before .before .before .lay .ensures, stored (first .result) (first .ok), first .ensures, stored (second .result) (second .ok), second .ensures)
+          (two-details (tell .result) (a .why) (tell .ensures .1) (a .entries) (now (a .row)) (c .before .before .before .before .before .before .before .before .if1 .taken));
     }
 
 slice-aggregate-lay-2 : tie.Need-slice-aggregate-lay-2
@@ -62,14 +65,14 @@ same-length-2 c = search needs
 returns-2 : tie.Need-returns-2
 returns-2 c =
     let a = c .before .before .before .before .before .before .before .before .before .before .args in
-    let told = c .before .before .before .before .before .before .before .before .before .tell .result in
-    let tells = c .before .before .before .before .before .before .before .before .before .tell .ensures in
+    let tell = c .before .before .before .before .before .before .before .before .before .tell in
+    let first = c .before .before .before .before .before .before .before .before .detail-entry in
     record {
-      number = tells .0;
+      number = tell .ensures .0;
       row =
           c .before .lay-zeros2 .ensures
-          ∙ rw (c .before .before .before .before .lay2 .ensures, c .before .before .before .before .before .before .before .before .held-detail .ensures, held-bits (detailOf (told .first)))
-          (one-detail told (a .why) (tells .1) (a .entries) (now (a .row)) (c .before .before .before .before .before .before .before .if1 .left));
+          ∙ rw (c .before .before .before .before .lay2 .ensures, stored (first .result) (first .ok), first .ensures)
+          (one-detail (tell .result) (a .why) (tell .ensures .1) (a .entries) (now (a .row)) (c .before .before .before .before .before .before .before .if1 .left));
     }
 
 pub give-refusal-spec : {M : Type 1} → statement M
@@ -77,8 +80,8 @@ give-refusal-spec =
     tie.close
     (tie.spec
     tell-requires
-    held-detail-requires
-    held-detail-requires-2
+    detail-entry-requires
+    detail-entry-requires-2
     slice-aggregate-lay
     lay-requires
     sub-lay-zeros

@@ -1,29 +1,26 @@
--- The counts, as they are held, and the values, each of which fits.
+-- The three counts, and the values behind them.
 use mathlib.Core.Path.{_≡_, refl, _∙_}
-use mathlib.Core.List.{map}
-use lib.IntN.{pos}
 use native.Mathlib.Omega.{arith}
 use lib.ListN.{length}
-use Rattle.rows.specs.Rows.{held}
-use Rattle.rows.proofs.Laws.{held-bits, held-array}
+use Rattle.rows.proofs.Laws.{stored}
 use borrow.Author.Needs.{needs}
 use Rattle.rows.proofs.answers.give_values.Statement.{statement}
 use Rattle.rows.proofs.answers.give_values.Tie as tie
 
-held-requires : tie.Need-held-requires
-held-requires c κs = search needs
+entry-requires : tie.Need-entry-requires
+entry-requires c κs = search needs
 
-cast-held : tie.Need-cast-held
-cast-held c = search needs
+cast-entry : tie.Need-cast-entry
+cast-entry c = search needs
 
-held-requires-2 : tie.Need-held-requires-2
-held-requires-2 c κs = search needs
+entry-requires-2 : tie.Need-entry-requires-2
+entry-requires-2 c κs = search needs
 
-cast-held-2 : tie.Need-cast-held-2
-cast-held-2 c = search needs
+cast-entry-2 : tie.Need-cast-entry-2
+cast-entry-2 c = search needs
 
-held-requires-3 : tie.Need-held-requires-3
-held-requires-3 c κs = search needs
+entry-requires-3 : tie.Need-entry-requires-3
+entry-requires-3 c κs = search needs
 
 slice-aggregate-lay : tie.Need-slice-aggregate-lay
 slice-aggregate-lay c = search needs
@@ -45,24 +42,23 @@ same-length c = search needs
 
 returns : tie.Need-returns
 returns c =
-    let a = c .before .before .before .before .before .before .before .before .before .before .before .before .before .before .args .reading in
-    let same : map held (a .values) ≡ a .values = search (needs, held-array) in
+    let taken = c .before .before .before .before .before .before .before .before .before .before .before .before .before .entry in
+    let mask = c .before .before .before .before .before .before .before .before .before .before .before .entry2 in
+    let units = c .before .before .before .before .before .before .before .before .before .entry3 in
     record {
       number = refl;
-      row =
-          c .before .lay2 .ensures
-          ∙ rw (c .before .before .before .before .before .lay .ensures, c .before .before .before .before .before .before .before .before .before .before .before .before .before .held .ensures, c .before .before .before .before .before .before .before .before .before .before .before .held2 .ensures, c .before .before .before .before .before .before .before .before .before .held3 .ensures, held-bits (pos (a .taken)), held-bits (pos (a .mask)), held-bits (pos (a .units)), same);
+      row = c .before .lay2 .ensures ∙ rw (c .before .before .before .before .before .lay .ensures, stored (taken .result) (taken .ok), taken .ensures, stored (mask .result) (mask .ok), mask .ensures, stored (units .result) (units .ok), units .ensures);
     }
 
 pub give-values-spec : {M : Type 1} → statement M
 give-values-spec =
     tie.close
     (tie.spec
-    held-requires
-    cast-held
-    held-requires-2
-    cast-held-2
-    held-requires-3
+    entry-requires
+    cast-entry
+    entry-requires-2
+    cast-entry-2
+    entry-requires-3
     slice-aggregate-lay
     lay-requires
     slice-aggregate-lay-2

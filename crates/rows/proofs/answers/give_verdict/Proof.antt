@@ -13,13 +13,13 @@ enum-known-verdict : tie.Need-enum-known-verdict
 enum-known-verdict c = search needs
 
 give-no-requires : tie.Need-give-no-requires
-give-no-requires c κs = search needs
+give-no-requires c κs = let fits = rw (c .before .before .verdict .given .1) at (c .before .before .before .before .pre .1) in (search needs, fits .0, fits .1)
 
 enum-known-verdict-2 : tie.Need-enum-known-verdict-2
 enum-known-verdict-2 c = search needs
 
 give-refusal-requires : tie.Need-give-refusal-requires
-give-refusal-requires c κs = search needs
+give-refusal-requires c κs = (search needs, search needs, rw (c .before .before .verdict2 .given .1) at (c .before .before .before .before .pre .1))
 
 same-length : tie.Need-same-length
 same-length c = search needs

@@ -7,13 +7,13 @@ enum-known-wrote : tie.Need-enum-known-wrote
 enum-known-wrote c = search needs
 
 give-count-requires : tie.Need-give-count-requires
-give-count-requires c κs = search needs
+give-count-requires c κs = (search needs, rw (c .before .before .wrote .given .1) at (c .before .before .before .before .pre .1))
 
 enum-known-wrote-2 : tie.Need-enum-known-wrote-2
 enum-known-wrote-2 c = search needs
 
 give-refusal-requires : tie.Need-give-refusal-requires
-give-refusal-requires c κs = search needs
+give-refusal-requires c κs = (search needs, search needs, rw (c .before .before .wrote2 .given .1) at (c .before .before .before .before .pre .1))
 
 same-length : tie.Need-same-length
 same-length c = search needs

@@ -1,6 +1,5 @@
--- 1 and zeros are held as they are.
+-- The row is 1 and zeros.
 use mathlib.Core.Path.{refl, _∙_}
-use Rattle.rows.specs.Rows.{held}
 use borrow.Author.Needs.{needs}
 use Rattle.rows.proofs.answers.give_yes.Statement.{statement}
 use Rattle.rows.proofs.answers.give_yes.Tie as tie
@@ -18,7 +17,6 @@ same-length : tie.Need-same-length
 same-length c = search needs
 
 returns : tie.Need-returns
-unfolding held
 returns c = record { number = refl; row = c .before .lay-zeros .ensures ∙ rw (c .before .before .before .before .lay .ensures) }
 
 pub give-yes-spec : {M : Type 1} → statement M

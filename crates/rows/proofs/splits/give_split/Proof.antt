@@ -4,6 +4,7 @@ use native.Mathlib.Omega.{arith}
 use borrow.Author.Needs.{needs}
 use denote.Ref.{now}
 use Rattle.pattern.proofs.Checks.{fine-short}
+use Rattle.rows.proofs.Fits.{bytes-fit}
 use Rattle.rows.proofs.Parts.{split-fine, split-refused}
 use Rattle.rows.proofs.splits.give_split.Statement.{statement}
 use Rattle.rows.proofs.splits.give_split.Tie as tie
@@ -20,13 +21,17 @@ lay-parts-requires c κs =
     (fine-short (now (s .before .before .args .pattern)) (sym (s .bytes-check .ensures) ∙ c .before .enum-told .given .1), omega arith)
 
 give-count-requires : tie.Need-give-count-requires
-give-count-requires c κs = search needs
+give-count-requires c κs = (search needs, omega (arith, c .before .before .lay-parts .ensures .0))
 
 enum-known-why : tie.Need-enum-known-why
 enum-known-why c = search needs
 
 give-refusal-requires : tie.Need-give-refusal-requires
-give-refusal-requires c κs = search needs
+give-refusal-requires c κs =
+    let s = c .before .before .before .before in
+    let p = now (s .before .before .args .pattern) in
+    let fits = rw (← s .bytes-check .ensures, c .before .before .why .given .1) at (bytes-fit p (omega (arith, s .before .before .good .0 .1))) in
+    (search needs, search needs, fits)
 
 same-length : tie.Need-same-length
 same-length c = search needs
@@ -39,7 +44,7 @@ returns c =
     let s = c .before .before .before .before .before .before .before .before in
     let fine = split-fine (now (s .before .before .args .pattern)) (sym (s .bytes-check .ensures) ∙ c .before .before .before .before .before .before .enum-told .given .1) in
     let parts = c .before .before .before .before .lay-parts .ensures in
-    (rw (fine .0, ← parts .0) (c .before .give-count .ensures), rw (fine .1, ← parts .0) (parts .1))
+    (rw (fine .0, ← parts .1) (c .before .give-count .ensures), rw (fine .1, ← parts .1) (parts .2))
 
 same-length-3 : tie.Need-same-length-3
 same-length-3 c = search needs

@@ -1,10 +1,11 @@
 -- At each turn what lies in the row and what is still to be laid are all the parts.
-use mathlib.Core.Path.{_∙_}
+use mathlib.Core.Path.{_≡_, ap, _∙_}
 use Prim.Native.Nat.{_-_}
 use native.Mathlib.Omega.{arith}
 use borrow.Author.Needs.{needs}
 use denote.Ref.{now}
 use lib.ListN.{length}
+use Rattle.meaning.specs.declared.Part.{Part}
 use Rattle.parts.proofs.Laws.{next}
 use Rattle.rows.proofs.Parts.{Laying, laying-start, laying-turn, laying-end}
 use Rattle.rows.proofs.splits.lay_parts.Statement.{statement}
@@ -26,7 +27,12 @@ mul-lay-part : tie.Need-mul-lay-part Inv-loop μ-loop
 mul-lay-part c = search needs
 
 lay-part-requires : tie.Need-lay-part-requires Inv-loop μ-loop
-lay-part-requires c κs = search needs
+lay-part-requires c κs =
+    let l = c .before .before in
+    let found = c .before .next-part in
+    let n = next (now (l .before .before .before .args .pattern)) (l .before .loop .at) (found .result) (omega arith) (found .ensures) in
+    let start : found .result .start ≡ l .before .loop .at = ap (λ (part : Part). part .start) (found .ensures) in
+    (search needs, omega arith, omega arith)
 
 add-used : tie.Need-add-used Inv-loop μ-loop
 add-used c = search needs
@@ -71,7 +77,7 @@ returns : tie.Need-returns Inv-loop μ-loop
 returns c =
     let l = c .before .before .before .before in
     let end = laying-end (omega arith) (c .before .before .before .loop-test .left) (l .loop .inv) in
-    (end .0, c .before .lay-zeros .ensures ∙ end .1)
+    (end .0, end .1, c .before .lay-zeros .ensures ∙ end .2)
 
 pub lay-parts-spec : {M : Type 1} → statement M
 lay-parts-spec =
