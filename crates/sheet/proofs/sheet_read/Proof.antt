@@ -1,42 +1,20 @@
--- The answer of the reader, where there is room for it.
-use denote.Ref.{now}
-use native.Mathlib.Omega.{arith}
+-- The reader of its pair, once the bits of the year are taken away.
 use mir.Syntax.{w32}
 use mir.ValLaws.{toZ-ofZ}
-use Rattle.meaning.specs.Names.{english}
-use Rattle.meaning.specs.Whole.{read}
-use Rattle.meaning.specs.declared.Pair.the-variants.{Full}
-use Rattle.rows.specs.Rows.{readAnswer}
-use Rattle.sheet.proofs.Fits.{read-fits}
-use Rattle.sheet.proofs.Rooms.{room, no-room}
 use borrow.Author.Needs.{needs}
 use Rattle.sheet.proofs.sheet_read.Statement.{statement}
 use Rattle.sheet.proofs.sheet_read.Tie as tie
 
-returns : tie.Need-returns
-returns c =
-    let a = c .before .before .before .args in
-    no-room 18 (now (a .answer)) (readAnswer (read Full english (now (a .pattern)) (now (a .text)) (a .year))) (c .if1 .taken)
-
-parse-requires : tie.Need-parse-requires
-parse-requires c κs = search needs
-
-give-reading-requires : tie.Need-give-reading-requires
-give-reading-requires c κs =
-    let s = c .before .before .before .before .before in
-    let reads = rw (toZ-ofZ w32 (s .args .year) (s .fits .year)) at (c .before .parse .ensures) in
-    (search needs, rw reads (read-fits Full (now (s .args .pattern)) (now (s .args .text)) (s .args .year) (omega (arith, s .good .0 .1)) (omega (arith, s .good .1 .0 .1)) (s .fits .year)))
+read-requires : tie.Need-read-requires
+read-requires c κs = search needs
 
 same-length : tie.Need-same-length
 same-length c = search needs
 
-returns-2 : tie.Need-returns-2
-returns-2 c =
-    let s = c .before .before .before .before .before .before .before in
-    let reads = rw (toZ-ofZ w32 (s .args .year) (s .fits .year)) at (c .before .before .before .parse .ensures) in
-    room 18 (now (s .args .answer)) (readAnswer (read Full english (now (s .args .pattern)) (now (s .args .text)) (s .args .year))) (c .before .before .before .before .if1 .left)
-    (rw (← reads) (c .before .give-reading .ensures))
+returns : tie.Need-returns
+returns c =
+    let s = c .before .before .before .before .before in
+    rw (toZ-ofZ w32 (s .args .year) (s .fits .year)) at (c .before .read .ensures)
 
 pub sheet-read-spec : {M : Type 1} → statement M
-sheet-read-spec =
-    tie.close (tie.spec returns parse-requires give-reading-requires same-length returns-2)
+sheet-read-spec = tie.close (tie.spec read-requires same-length returns)
