@@ -13,22 +13,22 @@ use texts::offset::parse_offset;
 use verdict::verdict_on;
 use writer::format_with;
 
-fn write(pair: Pair, pattern: &[u8], f: Fields, out: &mut [u8], answer: &mut [i64]) -> u32
-    ensures { λ r. ⌜ SheetWrites pair (now (pattern .entry)) f (now (out .entry)) (now (answer .entry)) r (now (out .exit)) (now (answer .exit)) ⌝ }
+fn write(pair: Pair, pattern: &[u8], f: Fields, out: &mut [u8], row: &mut [i64]) -> u32
+    ensures { λ r. ⌜ SheetWrites pair (now (pattern .entry)) f (now (out .entry)) (now (row .entry)) r (now (out .exit)) (now (row .exit)) ⌝ }
 {
-    if answer.len() < 2 {
+    if row.len() < 2 {
         return 100;
     }
-    give_wrote(format_with(pair, pattern, f, out), answer)
+    give_wrote(format_with(pair, pattern, f, out), row)
 }
 
-fn read(pair: Pair, pattern: &[u8], text: &[u8], year: i32, answer: &mut [i64]) -> u32
-    ensures { λ r. ⌜ SheetReads pair (now (pattern .entry)) (now (text .entry)) year (now (answer .entry)) r (now (answer .exit)) ⌝ }
+fn read(pair: Pair, pattern: &[u8], text: &[u8], year: i32, row: &mut [i64]) -> u32
+    ensures { λ r. ⌜ SheetReads pair (now (pattern .entry)) (now (text .entry)) year (now (row .entry)) r (now (row .exit)) ⌝ }
 {
-    if answer.len() < 18 {
+    if row.len() < 18 {
         return 100;
     }
-    give_reading(parse_with(pair, pattern, text, year), answer)
+    give_reading(parse_with(pair, pattern, text, year), row)
 }
 
 // The full pair's writer. The row: the length and 0, or the refusal's details.
@@ -125,10 +125,7 @@ pub extern "C" fn sheet_parse_offset(text: &[u8], answer: &mut [i64]) -> u32
 pub extern "C" fn sheet_split(pattern: &[u8], answer: &mut [i64], parts: &mut [i64]) -> u32
     ensures { λ r. ⌜ SheetSplits (now (pattern .entry)) (now (answer .entry)) (now (parts .entry)) r (now (answer .exit)) (now (parts .exit)) ⌝ }
 {
-    if answer.len() < 2 {
-        return 100;
-    }
-    if parts.len() < 768 {
+    if answer.len() < 2 || parts.len() < 768 {
         return 100;
     }
     give_split(pattern, answer, parts)
