@@ -43,7 +43,7 @@ module _ (old row : List ℕ) (from count : ℕ) (fits : from + count ≤ length
         unread =
             drop-set-lt (from + (i + 1)) row i (getD row (from + i) 0) k
             ∙ rw (e, ← drop-drop 1 (from + i) row, ← drop-drop 1 (from + i) old) (ap (drop 1) (m .unread));
-        held = rw (byte-read i less (m .unread)) ((rw (z, y) at (lay-next row 0 (moved old from count) i some)) ∙ m .held);
+        held = rw (byte-read i less (m .unread)) ((rw (z, y) at (lay-next row 0 (moved old from count) i 0 some)) ∙ m .held);
       }
 
   pub moving-ends : (i : ℕ) → Moving old row from count i → count ≤ i → row ≡ sets old 0 (moved old from count)

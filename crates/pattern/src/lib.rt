@@ -15,7 +15,7 @@ ghost use Rattle.meaning.specs.Whole.{splitInto};
 ghost use Rattle.meaning.specs.declared.Checked.the-variants.{Fine};
 
 // Refusals 1 and 2.
-fn bytes_check(pattern: &[u8]) -> Checked
+pub fn bytes_check(pattern: &[u8]) -> Checked
     ensures { λ r. ⌜ r ≡ bytesCheck (now (pattern .entry)) ⌝ }
 {
     let n = pattern.len();

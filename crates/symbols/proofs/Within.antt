@@ -1,4 +1,4 @@
--- No reader takes more than there is: a year, a name, a rule, a part.
+-- No reader takes more than there is, and none stops behind it: a year, a name, a rule, a part.
 use mathlib.Core.List.{List}
 use mathlib.Core.Path.{_≡_, refl}
 use Prim.Native.Nat.{ℕ, _-_, _≤_}
@@ -13,25 +13,33 @@ use Rattle.meaning.specs.Writing.{Step, literal, field}
 use Rattle.meaning.specs.declared.Carried.{Carried}
 use Rattle.meaning.specs.declared.Rule.{Rule}
 use Rattle.meaning.specs.declared.Rule.the-variants.{Number, SkippedNumber, LetterQuarter, SkippedName, MatchedName, Letters, Years, FixedYear, TwoDigitYear, Zone}
+use Rattle.meaning.specs.declared.Trouble.the-variants.{NoName}
 use Rattle.parse.proofs.Within.{Within, within-on, within-skip, within-take, within-count}
-use Rattle.tables.proofs.Answers.{found-within}
+use Rattle.tables.proofs.Answers.{found-within, found-nothing}
 use Rattle.zones.proofs.Within.{within-sign, within-zone}
 
 within-year : (k : ℕ) (s : List ℕ) → Within (length s) (takeYear k s)
 within-year k s = within-on (takeNumber _ k s) _ s (within-take _ k s) (λ n t. omega arith)
 
-known-within : (g : Got ℕ) (room : ℕ) → ((i n : ℕ) → g ≡ got n i → n ≤ room) → Within room g
-known-within (got n i) room h = h i n refl
-known-within (stopped why i) room h = tt
+known-within : (l : List (List ℕ)) (s : List ℕ) (g : Got ℕ) → matchName l s ≡ g → Within (length s) g
+known-within l s (got n i) e = found-within l s e .1
+known-within l s (stopped why i) e =
+    let none : matchName l s ≡ stopped NoName 0 = found-nothing l s (rw e) in
+    let start : i ≡ 0 = cc in
+    omega arith
 
 within-match : (l : List (List ℕ)) (s : List ℕ) → Within (length s) (matchName l s)
-within-match l s = known-within (matchName l s) (length s) (λ i n e. found-within l s e .1)
+within-match l s = known-within l s (matchName l s) refl
+
+wider : {A : Type 0} (g : Got A) (room more : ℕ) → room ≤ more → Within room g → Within more g
+wider (got n a) room more h k = omega arith
+wider (stopped why i) room more h k = omega arith
 
 within-letters : (k : ℕ) (l : List (List ℕ)) (s : List ℕ) → Within (length s) (letters k l s)
 unfolding letters matchName
 within-letters k l s =
-    when-is (λ (g : Got ℕ). Within (length s) g) (ltb (length s) k) (λ _. tt)
-    (λ _. known-within (matchName l (take k s)) (length s) (λ i n e. omega (arith, found-within l (take k s) e .1, length-take k s)))
+    when-is (λ (g : Got ℕ). Within (length s) g) (ltb (length s) k) (λ _. omega arith)
+    (λ _. wider (matchName l (take k s)) (length (take k s)) (length s) (omega (arith, length-take k s)) (within-match l (take k s)))
 
 -- a rule, a part
 

@@ -1,4 +1,4 @@
--- No step of a zone takes more than there is. So a cursor that moves on stays in its text.
+-- No step of a zone takes more than there is, and none stops behind it. So a cursor that moves on stays in its text.
 use mathlib.Core.Bool.{Bool}
 use mathlib.Core.List.{List, [], _∷_}
 use mathlib.Core.Path.{_≡_}
@@ -22,11 +22,11 @@ use Rattle.zones.specs.declared.SignRead.the-variants as sign
 
 pub within-sign : (z : Bool) (s : List ℕ) → Within (length s) (zoneSign z s)
 unfolding zoneSign
-within-sign z [] = tt
+within-sign z [] = omega arith
 within-sign z (b ∷ s) =
     when-is (λ (g : Got ZoneSign). Within (suc (length s)) g) (both z (eqb b (code "Z"))) (λ _. omega arith)
     (λ _. when-is (λ (g : Got ZoneSign). Within (suc (length s)) g) (eqb b plus) (λ _. omega arith)
-    (λ _. when-is (λ (g : Got ZoneSign). Within (suc (length s)) g) (eqb b minus) (λ _. omega arith) (λ _. tt)))
+    (λ _. when-is (λ (g : Got ZoneSign). Within (suc (length s)) g) (eqb b minus) (λ _. omega arith) (λ _. omega arith)))
 
 within-skip-count : (c : Bool) (s : List ℕ) → Within (length s) (takeGroup c s)
 within-skip-count c s = within-on (skip (colonLength c) s) _ s (within-skip (colonLength c) s) (λ _ t. within-count 2 t)

@@ -38,7 +38,7 @@ loop-again : tie.Need-loop-again Inv-loop μ-loop
 loop-again c =
     let L = c .before .before .loop in
     let a = c .before .before .before .args in
-    (lay-next (L .out) (a .at) (now (a .src)) (L .j) (c .before .loop-test .taken) ∙ L .inv .0, omega arith, simp length-set (L .inv .2))
+    (lay-next (L .out) (a .at) (now (a .src)) (L .j) 0 (c .before .loop-test .taken) ∙ L .inv .0, omega arith, simp length-set (L .inv .2))
 
 add-result : tie.Need-add-result Inv-loop μ-loop
 add-result c = omega arith

@@ -57,7 +57,7 @@ loop-again c =
       search needs,
       simp length-set (l .loop .inv .1),
       at,
-      rw (← at .byte (l .loop .j) (omega arith)) (lay-next _ _ _ (l .loop .j) (omega arith) ∙ l .loop .inv .3),
+      rw (← at .byte (l .loop .j) (omega arith)) (lay-next _ _ _ (l .loop .j) 0 (omega arith) ∙ l .loop .inv .3),
     )
 
 add-result : tie.Need-add-result Inv-loop μ-loop

@@ -1,0 +1,45 @@
+-- What is asked of an answer so that 64 signed bits hold its numbers. All answers to what can be lent have it.
+use mathlib.Core.List.{List, [], _∷_}
+use Prim.Native.Nat.{ℕ, _<_, _^_}
+use lib.IntN.{ℤ, natAbs}
+use Rattle.meaning.specs.Answers.{details}
+use Rattle.meaning.specs.declared.Checked.{Checked}
+use Rattle.meaning.specs.declared.Checked.the-variants.{Fine, Refused}
+use Rattle.meaning.specs.declared.Offset.{Offset}
+use Rattle.meaning.specs.declared.Offset.the-variants as offset
+use Rattle.meaning.specs.declared.Reading.{Reading}
+use Rattle.meaning.specs.declared.Refusal.{Refusal}
+use Rattle.meaning.specs.declared.Verdict.{Verdict}
+use Rattle.meaning.specs.declared.Verdict.the-variants as verdict
+use Rattle.meaning.specs.declared.Wrote.{Wrote}
+use Rattle.meaning.specs.declared.Wrote.the-variants as wrote
+
+abbrev pub Count : ℕ → Type 0
+Count n = n < 2 ^ 63
+
+abbrev pub AllFit : List ℤ → Type 0
+AllFit [] = Unit
+AllFit (z ∷ zs) = Count (natAbs z) × AllFit zs
+
+abbrev pub WhyFits : Refusal → Type 0
+WhyFits why = AllFit (details why)
+
+abbrev pub CheckedFits : Checked → Type 0
+CheckedFits Fine = Unit
+CheckedFits (Refused why) = WhyFits why
+
+abbrev pub WroteFits : Wrote → Type 0
+WroteFits (wrote.Length n) = Count n
+WroteFits (wrote.Refused why) = WhyFits why
+
+abbrev pub ReadFits : Reading → Type 0
+ReadFits r = Count (r .taken) × CheckedFits (r .checked)
+
+abbrev pub OffsetFits : Offset → Type 0
+OffsetFits (offset.Seconds z) = Unit
+OffsetFits (offset.Refused why) = WhyFits why
+
+abbrev pub VerdictFits : Verdict → Type 0
+VerdictFits verdict.Yes = Unit
+VerdictFits (verdict.No part f) = Count part × Count (f .nanos)
+VerdictFits (verdict.Refused why) = WhyFits why

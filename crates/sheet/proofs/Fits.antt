@@ -1,0 +1,222 @@
+-- The answers to what can be lent fit a row: each slice has fewer than 2 ^ 63 bytes, and the current year has 32 bits.
+use mathlib.Core.Bool.{Bool}
+use mathlib.Core.List.{List, [], _∷_}
+use mathlib.Core.Option.{Option, none, some}
+use mathlib.Core.Path.{_≡_, refl}
+use Prim.Native.Char.{code}
+use Prim.Native.Nat.{ℕ, zero, suc, _+_, _*_, _≤_}
+use native.Mathlib.Omega.{arith}
+use lib.Dec.{eqb, leb}
+use lib.IntN.{ℤ, pos, negsuc, negℤ, natAbs}
+use lib.ListN.{length, getD, drop, length-drop, length-map}
+use mir.Syntax.{w32}
+use mir.Val.{SFits}
+use Rattle.laws.proofs.Checks.{write-fine}
+use Rattle.laws.proofs.Fields.{allowed}
+use Rattle.laws.proofs.Sizes as sizes
+use Rattle.laws.proofs.Tests.{when-is}
+use Rattle.meaning.specs.Answers.{_else_, refuseUnless, within, byteCheck, bytesCheck, endsInLoneQuote, patternCheck, fieldsCheck, roomCheck, textCheck, currentYearCheck, details}
+use Rattle.meaning.specs.Bytes.{when, plus}
+use Rattle.meaning.specs.Names.{Book, english}
+use Rattle.meaning.specs.Numerals.{Signed}
+use Rattle.meaning.specs.Readers.{Got, got, stopped}
+use Rattle.meaning.specs.Reading.{readStep}
+use Rattle.meaning.specs.Splitting.{contents, lengthOf}
+use Rattle.meaning.specs.Trust.{Says, trustCheck}
+use Rattle.meaning.specs.Whole.{text, writeCheck, wroteBy, write, Walk, walked, refusedAt, walk, readBy, readCheck, read, offsetBy, seconds, hourAndMinute, twoAt, parseOffset}
+use Rattle.meaning.specs.Writing.{Step, stepOf, steps, isNegative}
+use Rattle.meaning.specs.declared.Carried.{Carried}
+use Rattle.meaning.specs.declared.Checked.{Checked}
+use Rattle.meaning.specs.declared.Checked.the-variants.{Fine, Refused}
+use Rattle.meaning.specs.declared.Fields.{Fields}
+use Rattle.meaning.specs.declared.Offset.{Offset}
+use Rattle.meaning.specs.declared.Offset.the-variants as offset
+use Rattle.meaning.specs.declared.Pair.{Pair}
+use Rattle.meaning.specs.declared.Pair.the-variants.{Full}
+use Rattle.meaning.specs.declared.Refusal.the-variants.{LoneQuote, FieldRange, NoRoom, TextTooLong, TextByte, InPart, OffsetLength, OffsetRange, CurrentYear}
+use Rattle.meaning.specs.declared.Verdict.{Verdict}
+use Rattle.meaning.specs.declared.Verdict.the-variants as verdict
+use Rattle.parts.proofs.First.{contents-first, first-sized}
+use Rattle.parts.specs.First.{firstContent}
+use Rattle.rows.proofs.Fits.{else-fits, unless-fits, byte-fits, bytes-fit}
+use Rattle.rows.specs.Fits.{Count, CheckedFits, WroteFits, ReadFits, OffsetFits, VerdictFits}
+use Rattle.symbols.proofs.Within.{Within, within-step}
+
+-- the checks
+
+pattern-fits : (p : List ℕ) → Count (length p) → CheckedFits (patternCheck p)
+unfolding patternCheck details
+pattern-fits p h =
+    else-fits (bytesCheck p) (when (endsInLoneQuote (contents p)) (Refused (LoneQuote _)) Fine) (bytes-fit p h)
+    (λ _. when-is CheckedFits (endsInLoneQuote (contents p)) (λ _. (omega arith, tt)) (λ _. tt))
+
+-- a check whose refusal fits, as a type that shows the check
+record Fitting (checked : Checked) : Type 0 where
+  fits : CheckedFits checked
+
+field-fits : (t : Bool) (n : ℕ) (next : Checked) → Count n → Fitting next → Fitting (refuseUnless t (FieldRange n) else next)
+unfolding details
+field-fits t n next h k =
+    record { fits = else-fits (refuseUnless t (FieldRange n)) next (unless-fits t (FieldRange n) (h, tt)) (λ _. k .fits) }
+
+last-fits : (t : Bool) (n : ℕ) → Count n → Fitting (refuseUnless t (FieldRange n))
+unfolding details
+last-fits t n h = record { fits = unless-fits t (FieldRange n) (h, tt) }
+
+fitting-fields : (f : Fields) → Fitting (fieldsCheck f)
+unfolding fieldsCheck
+fitting-fields f =
+    field-fits (within 1 5879611 (natAbs (f .year))) 1 _ (omega arith)
+    (field-fits (within 1 12 (f .month)) 2 _ (omega arith)
+    (field-fits (within 1 31 (f .day)) 3 _ (omega arith)
+    (field-fits (within 1 366 (f .doy)) 4 _ (omega arith)
+    (field-fits (within 1 53 (f .week)) 5 _ (omega arith)
+    (field-fits (within 0 6 (f .wday)) 6 _ (omega arith)
+    (field-fits (within 0 86399999999999 (f .nanos)) 7 _ (omega arith) (last-fits (within 0 86399 (natAbs (f .offset))) 8 (omega arith))))))))
+
+fields-fit : (f : Fields) → CheckedFits (fieldsCheck f)
+fields-fit f = fitting-fields f .fits
+
+year-small : (now : ℤ) → SFits w32 now → Count (natAbs now)
+year-small (pos n) h = omega (arith, h .sfits)
+year-small (negsuc n) h = omega (arith, h .sfits)
+
+year-fits : (now : ℤ) → SFits w32 now → CheckedFits (currentYearCheck now)
+unfolding currentYearCheck details
+year-fits now h =
+    when-is CheckedFits (isNegative now) (λ _. (year-small now h, tt)) (λ _. unless-fits (within 1 9999 (natAbs now)) (CurrentYear now) (year-small now h, tt))
+
+text-fits : (s : List ℕ) → Count (length s) → CheckedFits (textCheck s)
+unfolding textCheck details
+text-fits s h =
+    else-fits (refuseUnless (leb (length s) 2048) (TextTooLong (length s))) (byteCheck TextByte 0 127 0 s)
+    (unless-fits (leb (length s) 2048) (TextTooLong (length s)) (h, tt))
+    (λ _. byte-fits TextByte 0 127 0 s (λ j k. (omega arith, tt)))
+
+-- writing
+
+write-check-fits : (pair : Pair) (p : List ℕ) (f : Fields) (room : ℕ) → Count (length p) → CheckedFits (writeCheck pair english p f room)
+unfolding writeCheck details
+write-check-fits pair p f room h =
+    let n = length (text pair english p f) in
+    else-fits (patternCheck p) (fieldsCheck f else roomCheck room n) (pattern-fits p h)
+    (λ fine. else-fits (fieldsCheck f) (roomCheck room n) (fields-fit f)
+    (λ fields. unless-fits (leb n room) (NoRoom n) (omega (arith, sizes.text-fits pair p f fine fields), tt)))
+
+wrote-fits : (checked : Checked) (t : List ℕ) → CheckedFits checked → (checked ≡ Fine → Count (length t)) → WroteFits (wroteBy checked t)
+wrote-fits Fine t h k = k refl
+wrote-fits (Refused why) t h k = h
+
+pub write-fits : (pair : Pair) (p : List ℕ) (f : Fields) (out : List ℕ) → Count (length p) → Count (length out)
+    → WroteFits (write pair english p f out)
+unfolding write
+write-fits pair p f out h k =
+    wrote-fits (writeCheck pair english p f (length out)) (text pair english p f) (write-check-fits pair p f (length out) h)
+    (λ e. omega (arith, write-fine pair english p f (length out) e .fits))
+
+-- parts: no more than bytes
+
+few-more : (most : ℕ) → ((p : List ℕ) → length p ≤ most → length (contents p) ≤ length p)
+    → (p : List ℕ) → length p ≤ suc most → length (contents p) ≤ length p
+unfolding contents
+few-more most few [] h = omega arith
+few-more most few (b ∷ p) h =
+    let n = lengthOf (firstContent (b ∷ p)) in
+    let sized = first-sized (b ∷ p) (omega arith) in
+    let behind = length-drop n (b ∷ p) in
+    rw (contents-first (b ∷ p) (omega arith)) (omega (arith, sized .0, sized .1, few (drop n (b ∷ p)) (omega (arith, sized .0))))
+
+few-none : (p : List ℕ) → length p ≤ 0 → length (contents p) ≤ length p
+unfolding contents
+few-none [] h = omega arith
+few-none (b ∷ p) h = absurd (omega arith)
+
+few-contents : (most : ℕ) → (p : List ℕ) → length p ≤ most → length (contents p) ≤ length p
+few-contents zero = few-none
+few-contents (suc most) = few-more most (few-contents most)
+
+few-steps : (pair : Pair) (p : List ℕ) → length (steps pair p) ≤ length p
+unfolding steps
+few-steps pair p = rw (length-map (contents p) (stepOf pair)) (few-contents (length p) p (omega arith))
+
+-- reading
+
+abbrev WalkFits : Walk → Type 0
+WalkFits (walked taken gave) = Count taken
+WalkFits (refusedAt checked) = CheckedFits checked
+
+module _ (book : Book) (now : ℕ) where
+  -- by what a part gave
+  part-fits : (i at room : ℕ) (g : Got Carried) (next : ℕ → Carried → Walk) → Count i → Count (at + room) → Within room g
+      → ((n : ℕ) (c : Carried) → n ≤ room → WalkFits (next n c))
+      → WalkFits (elim g as (λ x. Walk) [ got n c ↦ next n c | stopped why place ↦ refusedAt (Refused (InPart why i (at + place))) ])
+  unfolding details
+  part-fits i at room (got n c) next h k w on = on n c w
+  part-fits i at room (stopped why place) next h k w on = (h, (omega arith, tt))
+
+  walk-fits : (i at : ℕ) (ss : List Step) (s : List ℕ) (gave : List Carried) → Count (i + length ss) → Count (at + length s)
+      → WalkFits (walk book now i at ss s gave)
+  unfolding walk
+  walk-fits i at [] s gave h k = omega arith
+  walk-fits i at (step ∷ ss) s gave h k =
+      part-fits i at (length s) (readStep book now step s) (λ n c. walk book now (suc i) (at + n) ss (drop n s) (c ∷ gave))
+      (omega arith) k (within-step book now step s)
+      (λ n c l. walk-fits (suc i) (at + n) ss (drop n s) (c ∷ gave) (omega arith) (omega (arith, length-drop n s)))
+
+read-by-fits : (checked : Checked) (w : Walk) → CheckedFits checked → WalkFits w → ReadFits (readBy checked w)
+read-by-fits Fine (walked taken gave) h k = (k, tt)
+read-by-fits Fine (refusedAt checked) h k = (omega arith, k)
+read-by-fits (Refused why) w h k = (omega arith, h)
+
+pub read-fits : (pair : Pair) (p s : List ℕ) (now : ℤ) → Count (length p) → Count (length s) → SFits w32 now
+    → ReadFits (read pair english p s now)
+unfolding read readCheck
+read-fits pair p s now h k y =
+    let checks = else-fits (patternCheck p) (currentYearCheck now else textCheck s) (pattern-fits p h)
+    (λ _. else-fits (currentYearCheck now) (textCheck s) (year-fits now y) (λ _. text-fits s k)) in
+    read-by-fits (readCheck p s now) (walk english (natAbs now) 0 0 (steps pair p) s []) checks
+    (walk-fits english (natAbs now) 0 0 (steps pair p) s [] (omega (arith, few-steps pair p)) (omega arith))
+
+-- parse_offset
+
+offset-by-fits : (checked : Checked) (o : Offset) → CheckedFits checked → OffsetFits o → OffsetFits (offsetBy checked o)
+offset-by-fits Fine o h k = k
+offset-by-fits (Refused why) o h k = h
+
+seconds-fit : (ahead : Bool) (hour minute : ℕ) → OffsetFits (seconds ahead hour minute)
+unfolding details
+seconds-fit ahead hour minute =
+    let time = pos (hour * 3600 + minute * 60) in
+    let hours = refuseUnless (leb hour 23) (OffsetRange 1) in
+    let minutes = refuseUnless (leb minute 59) (OffsetRange 2) in
+    offset-by-fits (hours else minutes) (offset.Seconds (when ahead time (negℤ time)))
+    (else-fits hours minutes (unless-fits (leb hour 23) (OffsetRange 1) (omega arith, tt)) (λ _. unless-fits (leb minute 59) (OffsetRange 2) (omega arith, tt)))
+    tt
+
+time-fits : (ahead : Bool) (hour minute : Option Signed) → OffsetFits (hourAndMinute ahead hour minute)
+unfolding details
+time-fits ahead none minute = (omega arith, (omega arith, tt))
+time-fits ahead (some hour) none = (omega arith, (omega arith, tt))
+time-fits ahead (some hour) (some minute) = seconds-fit ahead (hour .size) (minute .size)
+
+pub offset-fits : (s : List ℕ) → Count (length s) → OffsetFits (parseOffset s)
+unfolding parseOffset details
+offset-fits s h =
+    let utc = eqb (getD s 0 0) (code "Z") in
+    let six = refuseUnless (eqb (length s) 6) (OffsetLength (length s)) in
+    let time = hourAndMinute (eqb (getD s 0 0) plus) (twoAt 1 s) (twoAt 4 s) in
+    offset-by-fits (textCheck s) (when utc (offset.Seconds (pos 0)) (offsetBy six time)) (text-fits s h)
+    (when-is OffsetFits utc (λ _. tt)
+    (λ _. offset-by-fits six time (unless-fits (eqb (length s) 6) (OffsetLength (length s)) (h, tt))
+    (time-fits (eqb (getD s 0 0) plus) (twoAt 1 s) (twoAt 4 s))))
+
+-- the check
+
+pub verdict-fits : (p : List ℕ) (now : ℤ) (v : Verdict) → Count (length p) → SFits w32 now → Says english p now v → VerdictFits v
+unfolding Says trustCheck
+verdict-fits p now verdict.Yes h y s = tt
+verdict-fits p now (verdict.No part f) h y s =
+    (omega (arith, s .1 .there, few-steps Full p), omega (arith, allowed f (s .1 .allowed) .nanos))
+verdict-fits p now (verdict.Refused why) h y s =
+    let checks = else-fits (patternCheck p) (currentYearCheck now) (pattern-fits p h) (λ _. year-fits now y) in
+    rw s at checks

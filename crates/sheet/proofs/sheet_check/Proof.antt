@@ -1,0 +1,50 @@
+-- The answer of the check, where there is room for it.
+use denote.Ref.{now}
+use native.Mathlib.Omega.{arith}
+use mir.Syntax.{w32}
+use mir.ValLaws.{toZ-ofZ}
+use Rattle.rows.specs.Rows.{verdictAnswer}
+use Rattle.trust.proofs.Verdicts.{verdict-says}
+use Rattle.trust.specs.Check.{verdictOf}
+use Rattle.sheet.proofs.Fits.{verdict-fits}
+use Rattle.sheet.proofs.Rooms.{room, no-room}
+use borrow.Author.Needs.{needs}
+use Rattle.sheet.proofs.sheet_check.Statement.{statement}
+use Rattle.sheet.proofs.sheet_check.Tie as tie
+
+returns : tie.Need-returns
+returns c =
+    let a = c .before .before .args in
+    let p = now (a .pattern) in
+    record {
+      verdict = verdictOf p (a .year);
+      says = verdict-says p (a .year);
+      given = no-room 10 (now (a .answer)) (verdictAnswer (verdictOf p (a .year))) (c .if1 .taken);
+    }
+
+verdict-on-requires : tie.Need-verdict-on-requires
+verdict-on-requires c κs = search needs
+
+give-verdict-requires : tie.Need-give-verdict-requires
+give-verdict-requires c κs =
+    let s = c .before .before .before .before in
+    let v = c .before .verdict-on in
+    let says = rw (toZ-ofZ w32 (s .args .year) (s .fits .year)) at (v .ensures) in
+    (search needs, verdict-fits (now (s .args .pattern)) (s .args .year) (v .result) (omega (arith, s .good .0 .1)) (s .fits .year) says)
+
+same-length : tie.Need-same-length
+same-length c = search needs
+
+returns-2 : tie.Need-returns-2
+returns-2 c =
+    let s = c .before .before .before .before .before .before in
+    let v = c .before .before .before .verdict-on in
+    record {
+      verdict = v .result;
+      says = rw (toZ-ofZ w32 (s .args .year) (s .fits .year)) at (v .ensures);
+      given = room 10 (now (s .args .answer)) (verdictAnswer (v .result)) (c .before .before .before .before .if1 .left) (c .before .give-verdict .ensures);
+    }
+
+pub sheet-check-spec : {M : Type 1} → statement M
+sheet-check-spec =
+    tie.close (tie.spec returns verdict-on-requires give-verdict-requires same-length returns-2)

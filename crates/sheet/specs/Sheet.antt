@@ -1,0 +1,47 @@
+-- What each function for C and Rust promises of the number r that it returns and of the lent rows afterwards. Where a lent row
+-- is too small for the answer, r is 100 and nothing is altered.
+use mathlib.Core.Bool.{Bool}
+use mathlib.Core.List.{List, []}
+use mathlib.Core.Path.{_≡_}
+use Prim.Native.Nat.{ℕ}
+use lib.Dec.{leb}
+use lib.IntN.{ℤ}
+use lib.ListN.{length}
+use Rattle.meaning.specs.Bytes.{when, both}
+use Rattle.meaning.specs.Names.{english}
+use Rattle.meaning.specs.Trust.{Says}
+use Rattle.meaning.specs.Whole.{split, write, output, read, parseOffset}
+use Rattle.meaning.specs.declared.Fields.{Fields}
+use Rattle.meaning.specs.declared.Pair.{Pair}
+use Rattle.meaning.specs.declared.Verdict.{Verdict}
+use Rattle.rows.specs.Rows.{Answer, Given, laid, wroteAnswer, readAnswer, offsetAnswer, verdictAnswer, splitAnswer, splitNumbers}
+
+-- whether a row has so many entries
+abbrev pub has : {A : Type 0} → ℕ → List A → Bool
+has n row = leb n (length row)
+
+-- an answer where there is room for it
+abbrev pub ifRoom : Bool → Answer → Answer
+ifRoom room answer = when room answer (record { number = 100; row = [] })
+
+abbrev pub SheetWrites : Pair → List ℕ → Fields → List ℕ → List ℤ → ℕ → List ℕ → List ℤ → Type 0
+SheetWrites pair p f out row r outAfter rowAfter =
+    Given (ifRoom (has 2 row) (wroteAnswer (write pair english p f out))) row rowAfter r
+    × (outAfter ≡ when (has 2 row) (output pair english p f out) out)
+
+abbrev pub SheetReads : Pair → List ℕ → List ℕ → ℤ → List ℤ → ℕ → List ℤ → Type 0
+SheetReads pair p s now row r rowAfter = Given (ifRoom (has 18 row) (readAnswer (read pair english p s now))) row rowAfter r
+
+abbrev pub SheetParsesOffset : List ℕ → List ℤ → ℕ → List ℤ → Type 0
+SheetParsesOffset s row r rowAfter = Given (ifRoom (has 2 row) (offsetAnswer (parseOffset s))) row rowAfter r
+
+abbrev pub SheetSplits : List ℕ → List ℤ → List ℤ → ℕ → List ℤ → List ℤ → Type 0
+SheetSplits p row parts r rowAfter partsAfter =
+    Given (ifRoom (both (has 2 row) (has 768 parts)) (splitAnswer (split p))) row rowAfter r
+    × (partsAfter ≡ laid (when (both (has 2 row) (has 768 parts)) (splitNumbers (split p)) []) parts)
+
+-- an answer that `Says` allows, which leaves open the failing record
+pub record SheetChecks (p : List ℕ) (now : ℤ) (row : List ℤ) (r : ℕ) (rowAfter : List ℤ) : Type 0 where
+  pub verdict : Verdict
+  pub says : Says english p now verdict
+  pub given : Given (ifRoom (has 10 row) (verdictAnswer verdict)) row rowAfter r

@@ -1,0 +1,143 @@
+// The functions for C and Rust. Each returns 0 where it accepts and document 01's number where it refuses, and lays its answer
+// over the start of a lent row. Where a lent row is too small for the answer it returns 100 and alters nothing.
+ghost use Rattle.sheet.specs.Sheet.{SheetWrites, SheetReads, SheetParsesOffset, SheetSplits, SheetChecks};
+use meaning::Fields;
+use meaning::Pair;
+use reader::parse_with;
+use rows::answers::give_offset;
+use rows::answers::give_reading;
+use rows::answers::give_verdict;
+use rows::answers::give_wrote;
+use rows::splits::give_split;
+use texts::offset::parse_offset;
+use verdict::verdict_on;
+use writer::format_with;
+
+fn write(pair: Pair, pattern: &[u8], f: Fields, out: &mut [u8], row: &mut [i64]) -> u32
+    ensures { λ r. ⌜ SheetWrites pair (now (pattern .entry)) f (now (out .entry)) (now (row .entry)) r (now (out .exit)) (now (row .exit)) ⌝ }
+{
+    if row.len() < 2 {
+        return 100;
+    }
+    give_wrote(format_with(pair, pattern, f, out), row)
+}
+
+fn read(pair: Pair, pattern: &[u8], text: &[u8], year: i32, row: &mut [i64]) -> u32
+    ensures { λ r. ⌜ SheetReads pair (now (pattern .entry)) (now (text .entry)) year (now (row .entry)) r (now (row .exit)) ⌝ }
+{
+    if row.len() < 18 {
+        return 100;
+    }
+    give_reading(parse_with(pair, pattern, text, year), row)
+}
+
+// The full pair's writer. The row: the length and 0, or the refusal's details.
+#[no_mangle]
+pub extern "C" fn sheet_write(
+    pattern: &[u8],
+    year: i32,
+    month: u32,
+    day: u32,
+    doy: u32,
+    week: u32,
+    wday: u32,
+    nanos: u64,
+    offset: i32,
+    out: &mut [u8],
+    answer: &mut [i64],
+) -> u32
+    ensures { λ r. ⌜ SheetWrites Pair.Full (now (pattern .entry)) (record { year = year; month = month; day = day; doy = doy; week = week; wday = wday; nanos = nanos; offset = offset }) (now (out .entry)) (now (answer .entry)) r (now (out .exit)) (now (answer .exit)) ⌝ }
+{
+    let f = Fields {
+        year,
+        month,
+        day,
+        doy,
+        week,
+        wday,
+        nanos,
+        offset,
+    };
+    write(Pair::Full, pattern, f, out, answer)
+}
+
+// The Date pair's writer.
+#[no_mangle]
+pub extern "C" fn sheet_write_date(
+    pattern: &[u8],
+    year: i32,
+    month: u32,
+    day: u32,
+    doy: u32,
+    week: u32,
+    wday: u32,
+    nanos: u64,
+    offset: i32,
+    out: &mut [u8],
+    answer: &mut [i64],
+) -> u32
+    ensures { λ r. ⌜ SheetWrites Pair.Date (now (pattern .entry)) (record { year = year; month = month; day = day; doy = doy; week = week; wday = wday; nanos = nanos; offset = offset }) (now (out .entry)) (now (answer .entry)) r (now (out .exit)) (now (answer .exit)) ⌝ }
+{
+    let f = Fields {
+        year,
+        month,
+        day,
+        doy,
+        week,
+        wday,
+        nanos,
+        offset,
+    };
+    write(Pair::Date, pattern, f, out, answer)
+}
+
+// The full pair's reader. The row: the bytes read, the mask, how many units, and the fifteen values; or the refusal's
+// details and zeros, 18 numbers in all.
+#[no_mangle]
+pub extern "C" fn sheet_read(pattern: &[u8], text: &[u8], year: i32, answer: &mut [i64]) -> u32
+    ensures { λ r. ⌜ SheetReads Pair.Full (now (pattern .entry)) (now (text .entry)) year (now (answer .entry)) r (now (answer .exit)) ⌝ }
+{
+    read(Pair::Full, pattern, text, year, answer)
+}
+
+// The Date pair's reader.
+#[no_mangle]
+pub extern "C" fn sheet_read_date(pattern: &[u8], text: &[u8], year: i32, answer: &mut [i64]) -> u32
+    ensures { λ r. ⌜ SheetReads Pair.Date (now (pattern .entry)) (now (text .entry)) year (now (answer .entry)) r (now (answer .exit)) ⌝ }
+{
+    read(Pair::Date, pattern, text, year, answer)
+}
+
+// The row: the seconds and 0, or the refusal's details.
+#[no_mangle]
+pub extern "C" fn sheet_parse_offset(text: &[u8], answer: &mut [i64]) -> u32
+    ensures { λ r. ⌜ SheetParsesOffset (now (text .entry)) (now (answer .entry)) r (now (answer .exit)) ⌝ }
+{
+    if answer.len() < 2 {
+        return 100;
+    }
+    give_offset(parse_offset(text), answer)
+}
+
+// The row: how many parts and 0, or the refusal's details. The parts: kind, start and length of each of 256; untouched where
+// the pattern is refused.
+#[no_mangle]
+pub extern "C" fn sheet_split(pattern: &[u8], answer: &mut [i64], parts: &mut [i64]) -> u32
+    ensures { λ r. ⌜ SheetSplits (now (pattern .entry)) (now (answer .entry)) (now (parts .entry)) r (now (answer .exit)) (now (parts .exit)) ⌝ }
+{
+    if answer.len() < 2 || parts.len() < 768 {
+        return 100;
+    }
+    give_split(pattern, answer, parts)
+}
+
+// The row: 1 and zeros; or 0, the part and a record for which it fails; or the refusal's details and zeros, 10 numbers in all.
+#[no_mangle]
+pub extern "C" fn sheet_check(pattern: &[u8], year: i32, answer: &mut [i64]) -> u32
+    ensures { λ r. ⌜ SheetChecks (now (pattern .entry)) year (now (answer .entry)) r (now (answer .exit)) ⌝ }
+{
+    if answer.len() < 10 {
+        return 100;
+    }
+    give_verdict(verdict_on(pattern, year), answer)
+}
