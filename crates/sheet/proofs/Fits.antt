@@ -40,7 +40,8 @@ use Rattle.parts.proofs.First.{contents-first, first-sized}
 use Rattle.parts.specs.First.{firstContent}
 use Rattle.rows.proofs.Fits.{else-fits, unless-fits, byte-fits, bytes-fit}
 use Rattle.rows.specs.Fits.{Count, CheckedFits, WroteFits, ReadFits, OffsetFits, VerdictFits}
-use Rattle.symbols.proofs.Within.{Within, within-step}
+use Rattle.parse.proofs.Within.{Within}
+use Rattle.symbols.proofs.Within.{within-step}
 
 -- the checks
 
