@@ -1,0 +1,75 @@
+/* Writes a record by a pattern, reads it back, checks a pattern and shows a refusal. */
+#include "sheet.h"
+
+#include <inttypes.h>
+#include <stdbool.h>
+#include <stdio.h>
+#include <string.h>
+
+#define CURRENT_YEAR 2025
+
+static const uint8_t *bytes(const char *text) {
+    return (const uint8_t *)text;
+}
+
+/* Wednesday, 3 December 2025, 07:05:09.00012 at +05:30. */
+static uint32_t write_sample(const char *pattern, char *out, size_t out_len, int64_t *answer) {
+    return sheet_write(bytes(pattern), strlen(pattern), 2025, 12, 3, 337, 49, 3, UINT64_C(25509000120000), 19800,
+                       (uint8_t *)out, out_len, answer, SHEET_WRITE_ANSWER);
+}
+
+static bool was_read(const int64_t *answer, int unit) {
+    return ((answer[1] >> unit) & 1) == 1;
+}
+
+static void show_value(const char *name, const int64_t *answer, int unit) {
+    if (was_read(answer, unit))
+        printf("  %s %" PRId64 "\n", name, answer[SHEET_READ_VALUES + unit]);
+    else
+        printf("  no %s\n", name);
+}
+
+static void write_and_read_back(const char *pattern) {
+    char text[SHEET_LONGEST_TEXT];
+    int64_t wrote[SHEET_WRITE_ANSWER];
+    int64_t read[SHEET_READ_ANSWER];
+    if (write_sample(pattern, text, sizeof text, wrote) != SHEET_ACCEPTED)
+        return;
+    printf("%s writes %.*s\n", pattern, (int)wrote[0], text);
+    if (sheet_read(bytes(pattern), strlen(pattern), bytes(text), (size_t)wrote[0], CURRENT_YEAR, read, SHEET_READ_ANSWER) !=
+        SHEET_ACCEPTED)
+        return;
+    printf("%s reads %" PRId64 " bytes and %" PRId64 " units:\n", pattern, read[0], read[2]);
+    show_value("year", read, SHEET_YEAR);
+    show_value("month", read, SHEET_MONTH);
+    show_value("day", read, SHEET_DAY_OF_MONTH);
+    show_value("hour", read, SHEET_HOUR);
+}
+
+static void check(const char *pattern) {
+    int64_t answer[SHEET_CHECK_ANSWER];
+    uint32_t number = sheet_check(bytes(pattern), strlen(pattern), CURRENT_YEAR, answer, SHEET_CHECK_ANSWER);
+    if (number != SHEET_ACCEPTED)
+        printf("%s is refused: %" PRIu32 "\n", pattern, number);
+    else if (answer[0] == 1)
+        printf("%s can be trusted\n", pattern);
+    else
+        printf("%s can't be trusted: part %" PRId64 " does not come back for month %" PRId64 "\n", pattern, answer[1],
+               answer[3]);
+}
+
+static void show_a_refusal(const char *pattern) {
+    char text[4];
+    int64_t answer[SHEET_WRITE_ANSWER];
+    if (write_sample(pattern, text, sizeof text, answer) == SHEET_NO_ROOM)
+        printf("%s has no room in %zu bytes: it needs %" PRId64 "\n", pattern, sizeof text, answer[0]);
+}
+
+int main(void) {
+    write_and_read_back("yyyy/MM/dd");
+    check("d/M");
+    check("d/MM");
+    check("d'");
+    show_a_refusal("yyyy/MM/dd");
+    return 0;
+}

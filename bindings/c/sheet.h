@@ -1,0 +1,131 @@
+/* sheet.h: dates, times and zone offsets by patterns such as yyyy/MM/dd, for C and C++.
+ *
+ * What is lent. A pattern or a text is bytes with their number and needs no zero byte at its end. Text goes to `out`, numbers
+ * go to the rows `answer` and `parts`. No pointer may be null, not even with the length 0, and what a function may alter must
+ * overlap nothing else that it is lent. Nothing is kept after the return, and no memory is asked for.
+ *
+ * What is returned. SHEET_ACCEPTED; or the number of a refusal, 1 to 14; or SHEET_ROW_TOO_SMALL where `answer` or `parts` has
+ * fewer entries than the function asks for: then nothing is altered.
+ *
+ * What is altered. Accepted, the first entries of `answer`, as many as the function asks for, are what its comment says, and a
+ * writer alters so many bytes of `out` as it answers. Refused, these entries are the refusal's details, then zeros, and neither
+ * `out` nor `parts` is altered. Nothing behind them ever is.
+ *
+ * Parts of a pattern and places in a pattern or a text are counted from 0.
+ */
+#ifndef SHEET_H
+#define SHEET_H
+
+#include <stddef.h>
+#include <stdint.h>
+
+#ifdef __cplusplus
+extern "C" {
+#endif
+
+/* The longest pattern and the longest text, in bytes. */
+#define SHEET_LONGEST_PATTERN 256
+#define SHEET_LONGEST_TEXT 2048
+
+/* A writer needs no more than so many bytes of output for each byte of the pattern, so SHEET_LONGEST_TEXT are always enough. */
+#define SHEET_BYTES_A_PATTERN_BYTE 8
+
+/* How many entries each function asks for in `answer`, and sheet_split in `parts`. */
+#define SHEET_WRITE_ANSWER 2
+#define SHEET_READ_ANSWER 18
+#define SHEET_OFFSET_ANSWER 2
+#define SHEET_SPLIT_ANSWER 2
+#define SHEET_SPLIT_PARTS 768
+#define SHEET_CHECK_ANSWER 10
+
+/* What is returned. Behind a refusal stand its details, which are the first one or two entries of `answer`. */
+#define SHEET_ACCEPTED 0
+#define SHEET_PATTERN_TOO_LONG 1 /* a pattern of over 256 bytes: its length */
+#define SHEET_PATTERN_BYTE 2     /* a pattern byte that is 0 or above 127: place of the first */
+#define SHEET_LONE_QUOTE 3       /* the last byte of the pattern is a quote that opens: its place */
+#define SHEET_FIELD_RANGE 4      /* a field out of its range: the first such field, 1 to 8 in the order of the arguments */
+#define SHEET_NO_ROOM 5          /* `out` is shorter than the text: bytes needed */
+#define SHEET_TEXT_TOO_LONG 6    /* a text of over 2,048 bytes: its length */
+#define SHEET_TEXT_BYTE 7        /* a text byte above 127: place of the first */
+#define SHEET_TOO_FEW 8          /* too few bytes left in the text: part, place */
+#define SHEET_NO_NUMBER 9        /* not a number: part, place */
+#define SHEET_NO_NAME 10         /* no name or period fits: part, place */
+#define SHEET_NO_SIGN 11         /* no sign of a zone: part, place */
+#define SHEET_OFFSET_LENGTH 12   /* an offset of another length than 6: its length */
+#define SHEET_OFFSET_RANGE 13    /* an offset's hour or minute is too large: 1 or 2 */
+#define SHEET_CURRENT_YEAR 14    /* a current year that is not 1 to 9999: that year */
+#define SHEET_ROW_TOO_SMALL 100  /* `answer` or `parts` is too small: nothing is altered, and there are no details */
+
+/* The units of a reading: each one's bit in the mask and its place among the values. */
+#define SHEET_YEAR 0
+#define SHEET_MONTH 1
+#define SHEET_DAY_OF_MONTH 2
+#define SHEET_DAY_OF_YEAR 3
+#define SHEET_HOUR 4
+#define SHEET_PERIOD 5 /* 0 before noon, 1 from noon on */
+#define SHEET_PERIOD_HOUR 6
+#define SHEET_MINUTE 7
+#define SHEET_SECOND 8
+#define SHEET_DECIS 9
+#define SHEET_CENTIS 10
+#define SHEET_MILLIS 11
+#define SHEET_MICROS 12
+#define SHEET_NANOS 13
+#define SHEET_OFFSET 14
+
+/* Where the values of a reading start in `answer`. */
+#define SHEET_READ_VALUES 3
+
+/* The kinds of part: a run of equal bytes, escaped quotes, a quoted part, one that no quote closes. */
+#define SHEET_RUN 0
+#define SHEET_QUOTES 1
+#define SHEET_QUOTED 2
+#define SHEET_OPEN 3
+
+/* Writes a record by a pattern into `out`.
+ * Fields: year -5,879,611 to 5,879,611 without 0; month 1..12; day 1..31; day of the year 1..366; week 1..53; weekday 0..6 from
+ * Sunday; nanoseconds of the day 0 to 86,399,999,999,999; offset -86,399 to 86,399 seconds. They need not agree.
+ * Answers: the length of the text, and 0.
+ * Refuses: 1, 2, 3, 4, 5, the first in this order. */
+uint32_t sheet_write(const uint8_t *pattern, size_t pattern_len, int32_t year, uint32_t month, uint32_t day, uint32_t doy,
+                     uint32_t week, uint32_t wday, uint64_t nanos, int32_t offset, uint8_t *out, size_t out_len,
+                     int64_t *answer, size_t answer_len);
+
+/* The same for dates alone: time symbols stand for themselves. All eight fields are checked all the same. */
+uint32_t sheet_write_date(const uint8_t *pattern, size_t pattern_len, int32_t year, uint32_t month, uint32_t day, uint32_t doy,
+                          uint32_t week, uint32_t wday, uint64_t nanos, int32_t offset, uint8_t *out, size_t out_len,
+                          int64_t *answer, size_t answer_len);
+
+/* Reads a text by a pattern; `year` is the current year, 1 to 9999, in whose millennium a year of two digits is.
+ * Answers: how many bytes were read (a rest is allowed), the mask with bit k set where unit k was read, how many units that is,
+ * and the fifteen values by unit, 0 where one was not read. No value is held to a range.
+ * Refuses: 1, 2, 3, 14, 6, 7, the first in this order, then 8 to 11 at the first part that can't be read. */
+uint32_t sheet_read(const uint8_t *pattern, size_t pattern_len, const uint8_t *text, size_t text_len, int32_t year,
+                    int64_t *answer, size_t answer_len);
+
+/* The same for dates alone: time symbols stand for themselves, each a byte that is passed over. */
+uint32_t sheet_read_date(const uint8_t *pattern, size_t pattern_len, const uint8_t *text, size_t text_len, int32_t year,
+                         int64_t *answer, size_t answer_len);
+
+/* Reads an offset such as +05:30, or Z, by itself.
+ * Answers: the seconds, and 0.
+ * Refuses: 6, 7, 12, 9 (part 0, place), 13, the first in this order. */
+uint32_t sheet_parse_offset(const uint8_t *text, size_t text_len, int64_t *answer, size_t answer_len);
+
+/* Splits a pattern into its parts.
+ * Answers: how many parts, and 0. In `parts` kind, start and length of each, in pattern bytes; then zeros, up to 256 parts.
+ * Refuses: 1, 2. */
+uint32_t sheet_split(const uint8_t *pattern, size_t pattern_len, int64_t *answer, size_t answer_len, int64_t *parts,
+                     size_t parts_len);
+
+/* Says whether a pattern can be trusted to read back what it wrote, for every record; `year` is the current year.
+ * Answers: yes is 1, then zeros; no is 0, the first part that does not come back for some record, and the eight fields of such
+ * a record, in the order of sheet_write.
+ * Refuses: 1, 2, 3, 14, the first in this order. */
+uint32_t sheet_check(const uint8_t *pattern, size_t pattern_len, int32_t year, int64_t *answer, size_t answer_len);
+
+#ifdef __cplusplus
+}
+#endif
+
+#endif

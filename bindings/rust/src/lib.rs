@@ -1,0 +1,17 @@
+#![doc = include_str!("../README.md")]
+
+mod checking;
+mod fields;
+mod reading;
+mod refusal;
+mod splitting;
+mod writing;
+
+pub mod raw;
+
+pub use checking::{check, Verdict};
+pub use fields::Fields;
+pub use reading::{parse_offset, read, read_date, ParseUnit, Reading};
+pub use refusal::Refusal;
+pub use splitting::{split, Kind, Part};
+pub use writing::{write, write_date, write_date_into, write_into};

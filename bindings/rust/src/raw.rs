@@ -1,0 +1,129 @@
+//! The functions of the library as C sees them. `bindings/c/sheet.h` says what each is lent, answers and alters.
+
+/// The longest pattern, in bytes.
+pub const LONGEST_PATTERN: usize = 256;
+/// The longest text, in bytes.
+pub const LONGEST_TEXT: usize = 2048;
+/// The most bytes of output that a writer needs for each byte of the pattern.
+pub const BYTES_A_PATTERN_BYTE: usize = 8;
+
+/// How many entries of `answer` a writer asks for.
+pub const WRITE_ANSWER: usize = 2;
+/// How many entries of `answer` a reader asks for.
+pub const READ_ANSWER: usize = 18;
+/// Where the values of a reading start in `answer`.
+pub const READ_VALUES: usize = 3;
+/// How many entries of `answer` [`sheet_parse_offset`] asks for.
+pub const OFFSET_ANSWER: usize = 2;
+/// How many entries of `answer` [`sheet_split`] asks for.
+pub const SPLIT_ANSWER: usize = 2;
+/// How many entries of `parts` [`sheet_split`] asks for.
+pub const SPLIT_PARTS: usize = 768;
+/// How many entries of `answer` [`sheet_check`] asks for.
+pub const CHECK_ANSWER: usize = 10;
+
+/// What is returned where an answer is accepted.
+pub const ACCEPTED: u32 = 0;
+
+// What is returned where it is refused; the table of `Refusal` says when.
+pub const PATTERN_TOO_LONG: u32 = 1;
+pub const PATTERN_BYTE: u32 = 2;
+pub const LONE_QUOTE: u32 = 3;
+pub const FIELD_RANGE: u32 = 4;
+pub const NO_ROOM: u32 = 5;
+pub const TEXT_TOO_LONG: u32 = 6;
+pub const TEXT_BYTE: u32 = 7;
+pub const TOO_FEW: u32 = 8;
+pub const NO_NUMBER: u32 = 9;
+pub const NO_NAME: u32 = 10;
+pub const NO_SIGN: u32 = 11;
+pub const OFFSET_LENGTH: u32 = 12;
+pub const OFFSET_RANGE: u32 = 13;
+pub const CURRENT_YEAR: u32 = 14;
+
+/// What is returned where a lent row is too small; then nothing is altered.
+pub const ROW_TOO_SMALL: u32 = 100;
+
+/// Either writer.
+pub type Writer = unsafe extern "C" fn(
+    *const u8,
+    usize,
+    i32,
+    u32,
+    u32,
+    u32,
+    u32,
+    u32,
+    u64,
+    i32,
+    *mut u8,
+    usize,
+    *mut i64,
+    usize,
+) -> u32;
+
+/// Either reader.
+pub type Reader = unsafe extern "C" fn(*const u8, usize, *const u8, usize, i32, *mut i64, usize) -> u32;
+
+extern "C" {
+    pub fn sheet_write(
+        pattern: *const u8,
+        pattern_len: usize,
+        year: i32,
+        month: u32,
+        day: u32,
+        doy: u32,
+        week: u32,
+        wday: u32,
+        nanos: u64,
+        offset: i32,
+        out: *mut u8,
+        out_len: usize,
+        answer: *mut i64,
+        answer_len: usize,
+    ) -> u32;
+    pub fn sheet_write_date(
+        pattern: *const u8,
+        pattern_len: usize,
+        year: i32,
+        month: u32,
+        day: u32,
+        doy: u32,
+        week: u32,
+        wday: u32,
+        nanos: u64,
+        offset: i32,
+        out: *mut u8,
+        out_len: usize,
+        answer: *mut i64,
+        answer_len: usize,
+    ) -> u32;
+    pub fn sheet_read(
+        pattern: *const u8,
+        pattern_len: usize,
+        text: *const u8,
+        text_len: usize,
+        year: i32,
+        answer: *mut i64,
+        answer_len: usize,
+    ) -> u32;
+    pub fn sheet_read_date(
+        pattern: *const u8,
+        pattern_len: usize,
+        text: *const u8,
+        text_len: usize,
+        year: i32,
+        answer: *mut i64,
+        answer_len: usize,
+    ) -> u32;
+    pub fn sheet_parse_offset(text: *const u8, text_len: usize, answer: *mut i64, answer_len: usize) -> u32;
+    pub fn sheet_split(
+        pattern: *const u8,
+        pattern_len: usize,
+        answer: *mut i64,
+        answer_len: usize,
+        parts: *mut i64,
+        parts_len: usize,
+    ) -> u32;
+    pub fn sheet_check(pattern: *const u8, pattern_len: usize, year: i32, answer: *mut i64, answer_len: usize) -> u32;
+}

@@ -1,0 +1,147 @@
+use crate::raw::{self, Reader};
+use crate::Refusal;
+
+/// What can be read, in the order of the mask's bits and of the values.
+#[derive(Clone, Copy, Debug, PartialEq, Eq, Hash)]
+pub enum ParseUnit {
+    Year,
+    Month,
+    DayOfMonth,
+    DayOfYear,
+    Hour,
+    /// 0 before noon, 1 from noon on.
+    Period,
+    PeriodHour,
+    Minute,
+    Second,
+    Decis,
+    Centis,
+    Millis,
+    Micros,
+    Nanos,
+    /// In seconds east of UTC.
+    Offset,
+}
+
+impl ParseUnit {
+    pub const ALL: [ParseUnit; 15] = [
+        ParseUnit::Year,
+        ParseUnit::Month,
+        ParseUnit::DayOfMonth,
+        ParseUnit::DayOfYear,
+        ParseUnit::Hour,
+        ParseUnit::Period,
+        ParseUnit::PeriodHour,
+        ParseUnit::Minute,
+        ParseUnit::Second,
+        ParseUnit::Decis,
+        ParseUnit::Centis,
+        ParseUnit::Millis,
+        ParseUnit::Micros,
+        ParseUnit::Nanos,
+        ParseUnit::Offset,
+    ];
+}
+
+/// What a text was read as.
+#[derive(Clone, Copy, Debug, PartialEq, Eq, Hash)]
+pub struct Reading {
+    /// How many bytes were read; the text may have a rest.
+    pub taken: usize,
+    /// Bit k is set where unit k was read.
+    pub mask: u16,
+    /// How many units were read.
+    pub units: u32,
+    /// By unit; 0 where it was not read. Where several parts read the same unit, the last one's value.
+    pub values: [i64; ParseUnit::ALL.len()],
+}
+
+impl Reading {
+    /// Whether a unit was read, by the mask.
+    pub fn was_read(&self, unit: ParseUnit) -> bool {
+        (self.mask >> unit as u16) & 1 == 1
+    }
+
+    /// The value of a unit that was read.
+    pub fn value(&self, unit: ParseUnit) -> Option<i64> {
+        self.was_read(unit).then(|| self.values[unit as usize])
+    }
+
+    fn of_row(row: &[i64; raw::READ_ANSWER]) -> Reading {
+        let [taken, mask, units, values @ ..] = *row;
+        Reading {
+            taken: taken as usize,
+            mask: mask as u16,
+            units: units as u32,
+            values,
+        }
+    }
+}
+
+/// Reads a text by a pattern. A year of two digits is in the millennium of the current year, which is 1 to 9999. No value is
+/// held to a range. Refuses with 1, 2, 3, 14, 6 or 7, the first in this order, then with 8 to 11 at the first part that can't be
+/// read.
+///
+/// ```
+/// use sheet::ParseUnit;
+///
+/// # fn main() -> Result<(), sheet::Refusal> {
+/// let reading = sheet::read("d/MM HH:mm", "3/12 07:05, berth 4", 2025)?;
+/// assert_eq!((reading.taken, reading.units), (10, 4));
+/// assert_eq!(reading.value(ParseUnit::DayOfMonth), Some(3));
+/// assert_eq!(reading.value(ParseUnit::Month), Some(12));
+/// assert!(!reading.was_read(ParseUnit::Year));
+/// # Ok(())
+/// # }
+/// ```
+pub fn read(pattern: impl AsRef<[u8]>, text: impl AsRef<[u8]>, current_year: i32) -> Result<Reading, Refusal> {
+    read_by(raw::sheet_read, pattern.as_ref(), text.as_ref(), current_year)
+}
+
+/// Reads a date by a pattern: as [`read`], but time symbols stand for themselves, and are passed over.
+///
+/// ```
+/// # fn main() -> Result<(), sheet::Refusal> {
+/// let reading = sheet::read_date("dd HH", "03 xx", 2025)?;
+/// assert!(reading.was_read(sheet::ParseUnit::DayOfMonth));
+/// assert!(!reading.was_read(sheet::ParseUnit::Hour));
+/// # Ok(())
+/// # }
+/// ```
+pub fn read_date(pattern: impl AsRef<[u8]>, text: impl AsRef<[u8]>, current_year: i32) -> Result<Reading, Refusal> {
+    read_by(raw::sheet_read_date, pattern.as_ref(), text.as_ref(), current_year)
+}
+
+/// Reads an offset by itself, such as `+05:30`, or `Z` with anything behind it, and answers its seconds. Refuses with 6, 7, 12,
+/// 9 or 13, the first in this order.
+///
+/// ```
+/// assert_eq!(sheet::parse_offset("+05:30"), Ok(19_800));
+/// assert_eq!(sheet::parse_offset("+05:3").unwrap_err().number(), 12);
+/// ```
+pub fn parse_offset(text: impl AsRef<[u8]>) -> Result<i32, Refusal> {
+    let text = text.as_ref();
+    let mut answer = [0; raw::OFFSET_ANSWER];
+    // SAFETY: each pointer goes with the length of the slice that it comes from, and what is altered is borrowed alone.
+    let number = unsafe { raw::sheet_parse_offset(text.as_ptr(), text.len(), answer.as_mut_ptr(), answer.len()) };
+    Refusal::unless_accepted(number, &answer)?;
+    Ok(answer[0] as i32)
+}
+
+fn read_by(reader: Reader, pattern: &[u8], text: &[u8], current_year: i32) -> Result<Reading, Refusal> {
+    let mut answer = [0; raw::READ_ANSWER];
+    // SAFETY: each pointer goes with the length of the slice that it comes from, and what is altered is borrowed alone.
+    let number = unsafe {
+        reader(
+            pattern.as_ptr(),
+            pattern.len(),
+            text.as_ptr(),
+            text.len(),
+            current_year,
+            answer.as_mut_ptr(),
+            answer.len(),
+        )
+    };
+    Refusal::unless_accepted(number, &answer)?;
+    Ok(Reading::of_row(&answer))
+}

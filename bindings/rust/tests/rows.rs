@@ -1,0 +1,161 @@
+//! The rows that are lent to the functions as C sees them: where one is too small nothing is altered, of a larger one only the
+//! start is.
+
+use sheet::raw::{self, Reader, Writer};
+use sheet::Fields;
+
+const MARK: i64 = -77;
+const BYTE: u8 = 255;
+const REST: usize = 3;
+
+/// The function asks for so many entries: it refuses fewer, and alters all of these and none behind them.
+#[track_caller]
+fn asks_for(entries: usize, number: u32, mut call: impl FnMut(&mut [i64]) -> u32) {
+    for fewer in [0, 1, entries - 1] {
+        let mut row = vec![MARK; fewer];
+        assert_eq!(call(&mut row), raw::ROW_TOO_SMALL);
+        assert!(row.iter().all(|entry| *entry == MARK));
+    }
+    let mut row = vec![MARK; entries + REST];
+    assert_eq!(call(&mut row[..entries]), number);
+    assert_eq!(call(&mut row), number);
+    assert!(row[..entries].iter().all(|entry| *entry != MARK));
+    assert_eq!(row[entries..], [MARK; REST]);
+}
+
+fn write(writer: Writer, day: u32, out: &mut [u8], answer: &mut [i64]) -> u32 {
+    let (pattern, out_len, answer_len) = (b"dd", out.len(), answer.len());
+    let (out, answer) = (out.as_mut_ptr(), answer.as_mut_ptr());
+    // SAFETY: each pointer goes with the length of the slice that it comes from.
+    unsafe {
+        writer(
+            pattern.as_ptr(),
+            pattern.len(),
+            2025,
+            12,
+            day,
+            337,
+            49,
+            3,
+            0,
+            0,
+            out,
+            out_len,
+            answer,
+            answer_len,
+        )
+    }
+}
+
+fn read(reader: Reader, text: &[u8], answer: &mut [i64]) -> u32 {
+    let (pattern, answer_len) = (b"dd", answer.len());
+    // SAFETY: each pointer goes with the length of the slice that it comes from.
+    unsafe {
+        reader(
+            pattern.as_ptr(),
+            pattern.len(),
+            text.as_ptr(),
+            text.len(),
+            2025,
+            answer.as_mut_ptr(),
+            answer_len,
+        )
+    }
+}
+
+fn parse_offset(text: &[u8], answer: &mut [i64]) -> u32 {
+    // SAFETY: each pointer goes with the length of the slice that it comes from.
+    unsafe { raw::sheet_parse_offset(text.as_ptr(), text.len(), answer.as_mut_ptr(), answer.len()) }
+}
+
+fn split(pattern: &[u8], answer: &mut [i64], parts: &mut [i64]) -> u32 {
+    let (row, places) = (answer.as_mut_ptr(), parts.as_mut_ptr());
+    // SAFETY: each pointer goes with the length of the slice that it comes from.
+    unsafe { raw::sheet_split(pattern.as_ptr(), pattern.len(), row, answer.len(), places, parts.len()) }
+}
+
+fn check(pattern: &[u8], answer: &mut [i64]) -> u32 {
+    // SAFETY: each pointer goes with the length of the slice that it comes from.
+    unsafe { raw::sheet_check(pattern.as_ptr(), pattern.len(), 2025, answer.as_mut_ptr(), answer.len()) }
+}
+
+#[test]
+fn of_the_writers() {
+    for writer in [raw::sheet_write as Writer, raw::sheet_write_date] {
+        asks_for(raw::WRITE_ANSWER, raw::ACCEPTED, |row| {
+            write(writer, 3, &mut [0; 2], row)
+        });
+        asks_for(raw::WRITE_ANSWER, 4, |row| write(writer, 32, &mut [0; 2], row));
+        asks_for(raw::WRITE_ANSWER, 5, |row| write(writer, 3, &mut [0; 1], row));
+
+        let mut out = [BYTE; 4];
+        assert_eq!(write(writer, 3, &mut out, &mut [0; 1]), raw::ROW_TOO_SMALL);
+        assert_eq!(write(writer, 32, &mut out, &mut [0; 2]), 4);
+        assert_eq!(write(writer, 3, &mut out[..1], &mut [0; 2]), 5);
+        assert_eq!(out, [BYTE; 4]);
+        assert_eq!(write(writer, 3, &mut out, &mut [0; 2]), raw::ACCEPTED);
+        assert_eq!(out, [b'0', b'3', BYTE, BYTE]);
+    }
+}
+
+#[test]
+fn of_the_readers() {
+    for reader in [raw::sheet_read as Reader, raw::sheet_read_date] {
+        asks_for(raw::READ_ANSWER, raw::ACCEPTED, |row| read(reader, b"03", row));
+        asks_for(raw::READ_ANSWER, 8, |row| read(reader, b"3", row));
+    }
+}
+
+#[test]
+fn of_parse_offset() {
+    asks_for(raw::OFFSET_ANSWER, raw::ACCEPTED, |row| parse_offset(b"Z", row));
+    asks_for(raw::OFFSET_ANSWER, 12, |row| parse_offset(b"+05", row));
+}
+
+#[test]
+fn of_the_check() {
+    asks_for(raw::CHECK_ANSWER, raw::ACCEPTED, |row| check(b"dd", row));
+    asks_for(raw::CHECK_ANSWER, raw::ACCEPTED, |row| check(b"M", row));
+    asks_for(raw::CHECK_ANSWER, 3, |row| check(b"'", row));
+}
+
+#[test]
+fn of_the_split() {
+    let mut answer = [MARK; raw::SPLIT_ANSWER];
+    asks_for(raw::SPLIT_PARTS, raw::ACCEPTED, |row| split(b"d'", &mut [0; 2], row));
+    asks_for(raw::SPLIT_ANSWER, raw::ACCEPTED, |row| {
+        split(b"d'", row, &mut [0; raw::SPLIT_PARTS])
+    });
+    asks_for(raw::SPLIT_ANSWER, 2, |row| {
+        split(b"\0", row, &mut [0; raw::SPLIT_PARTS])
+    });
+
+    // The other row keeps its entries.
+    let mut parts = [MARK; raw::SPLIT_PARTS];
+    assert_eq!(split(b"d'", &mut [0; 1], &mut parts), raw::ROW_TOO_SMALL);
+    assert_eq!(split(b"d'", &mut answer, &mut parts[1..]), raw::ROW_TOO_SMALL);
+    assert_eq!(answer, [MARK; raw::SPLIT_ANSWER]);
+    assert_eq!(split(b"\0", &mut answer, &mut parts), 2);
+    assert_eq!(parts, [MARK; raw::SPLIT_PARTS]);
+}
+
+#[test]
+fn a_writer_needs_eight_bytes_a_pattern_byte_at_most() {
+    let longest = Fields {
+        year: -5_879_611,
+        month: 9,
+        day: 31,
+        day_of_year: 366,
+        week: 53,
+        weekday: 3,
+        nanoseconds: 43_199_999_999_999,
+        offset: -86_399,
+    };
+    for symbol in b"GyqMwdDeabhHKkmsnXx" {
+        for count in 1..=256 {
+            let pattern = vec![*symbol; count];
+            let text = sheet::write(&pattern, &longest).expect("there is room");
+            assert!(text.len() <= 8 * count);
+        }
+    }
+}
