@@ -51,8 +51,8 @@ put-reading-requires c κs = c .before .before .before .before .before .before .
 enum-known-checked : tie.Need-enum-known-checked
 enum-known-checked c = search needs
 
-answer-refused-requires : tie.Need-answer-refused-requires
-answer-refused-requires c κs = c .before .before .before .before .before .before .before .before .before .before .before .before .before .before .before .before .before .before .before .before .before .pre .1
+put-refused-requires : tie.Need-put-refused-requires
+put-refused-requires c κs = c .before .before .before .before .before .before .before .before .before .before .before .before .before .before .before .before .before .before .before .before .before .pre .1
 
 same-length : tie.Need-same-length
 same-length c = search needs
@@ -86,7 +86,7 @@ answer-read-spec =
     enum-told
     put-reading-requires
     enum-known-checked
-    answer-refused-requires
+    put-refused-requires
     same-length
     returns-2
     same-length-2
