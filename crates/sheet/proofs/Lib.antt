@@ -1,2 +1,3 @@
+mod Determined
 pub mod Fits
 pub mod Rooms
