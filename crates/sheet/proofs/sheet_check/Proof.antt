@@ -19,7 +19,7 @@ returns c =
     record {
       verdict = verdictOf p (a .year);
       says = verdict-says p (a .year);
-      given = no-room 10 (now (a .answer)) (verdictAnswer (verdictOf p (a .year))) (c .if1 .taken);
+      given = no-room 10 (now (a .answer)) (verdictAnswer (verdictOf p (a .year))) (omega arith);
     }
 
 verdict-on-requires : tie.Need-verdict-on-requires
@@ -42,7 +42,7 @@ returns-2 c =
     record {
       verdict = v .result;
       says = rw (toZ-ofZ w32 (s .args .year) (s .fits .year)) at (v .ensures);
-      given = room 10 (now (s .args .answer)) (verdictAnswer (v .result)) (c .before .before .before .before .if1 .left) (c .before .give-verdict .ensures);
+      given = room 10 (now (s .args .answer)) (verdictAnswer (v .result)) (omega (arith, c .before .before .before .before .if1 .left)) (c .before .give-verdict .ensures);
     }
 
 pub sheet-check-spec : {M : Type 1} → statement M

@@ -12,7 +12,7 @@ use Rattle.sheet.proofs.sheet_parse_offset.Tie as tie
 returns : tie.Need-returns
 returns c =
     let a = c .before .before .args in
-    no-room 2 (now (a .answer)) (offsetAnswer (parseOffset (now (a .text)))) (c .if1 .taken)
+    no-room 2 (now (a .answer)) (offsetAnswer (parseOffset (now (a .text)))) (omega arith)
 
 parse-offset-requires : tie.Need-parse-offset-requires
 parse-offset-requires c κs = search needs
@@ -28,7 +28,7 @@ same-length c = search needs
 returns-2 : tie.Need-returns-2
 returns-2 c =
     let a = c .before .before .before .before .before .before .args in
-    room 2 (now (a .answer)) (offsetAnswer (parseOffset (now (a .text)))) (c .before .before .before .before .if1 .left)
+    room 2 (now (a .answer)) (offsetAnswer (parseOffset (now (a .text)))) (omega (arith, c .before .before .before .before .if1 .left))
     (rw (← c .before .before .before .parse-offset .ensures) (c .before .give-offset .ensures))
 
 pub sheet-parse-offset-spec : {M : Type 1} → statement M

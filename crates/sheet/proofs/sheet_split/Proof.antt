@@ -4,6 +4,7 @@ use denote.Ref.{now}
 use lib.ListN.{length}
 use mathlib.Core.Logic.{⊎-elim}
 use mathlib.Core.Path.{refl}
+use native.Mathlib.Omega.{arith}
 use borrow.Author.Needs.{needs}
 use Rattle.sheet.proofs.sheet_split.Statement.{statement}
 use Rattle.sheet.proofs.sheet_split.Tie as tie
@@ -13,9 +14,9 @@ returns c =
     let a = c .before .before .args in
     let row = length (now (a .answer)) in
     let parts = length (now (a .parts)) in
-    ⊎-elim (λ w. rw (lt-leb 2 row (w .taken)) (record { number = refl; row = refl }, refl))
-    (λ w. rw (le-leb 2 row (w .0 .left), lt-leb 768 parts (ltb-true parts 768 (w .1 .taken))) (record { number = refl; row = refl }, refl))
-    (c .if2 .came)
+    ⊎-elim (λ w. rw (lt-leb 2 row (omega arith)) (record { number = refl; row = refl }, refl))
+    (λ w. rw (le-leb 2 row (omega arith), lt-leb 768 parts (omega (arith, ltb-true))) (record { number = refl; row = refl }, refl))
+    (c .if1 .came)
 
 give-split-requires : tie.Need-give-split-requires
 give-split-requires c κs = search needs
@@ -31,7 +32,7 @@ returns-2 c =
     let a = c .before .before .before .before .before .before .before .before .args in
     let row = length (now (a .answer)) in
     let parts = length (now (a .parts)) in
-    rw (le-leb 2 row (c .before .before .before .before .before .before .if1 .left), le-leb 768 parts (ltb-false parts 768 (c .before .before .before .before .before .if2 .left))) (c .before .before .give-split .ensures)
+    rw (le-leb 2 row (omega (arith, c .before .before .before .before .before .before .if1 .left)), le-leb 768 parts (omega (arith, ltb-false, c .before .before .before .before .before .if2 .left))) (c .before .before .give-split .ensures)
 
 pub sheet-split-spec : {M : Type 1} → statement M
 sheet-split-spec =

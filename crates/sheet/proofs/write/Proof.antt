@@ -12,7 +12,7 @@ use Rattle.sheet.proofs.write.Tie as tie
 returns : tie.Need-returns
 returns c =
     let a = c .before .before .before .args in
-    rw (lt-leb 2 (length (now (a .row))) (c .if1 .taken)) (record { number = refl; row = refl }, refl)
+    rw (lt-leb 2 (length (now (a .row))) (omega arith)) (record { number = refl; row = refl }, refl)
 
 format-with-requires : tie.Need-format-with-requires
 format-with-requires c κs = search needs
@@ -34,7 +34,7 @@ returns-2 : tie.Need-returns-2
 returns-2 c =
     let s = c .before .before .before .before .before .before .before .before .before .before in
     let wrote = c .before .before .before .before .before .format-with .ensures in
-    rw (le-leb 2 (length (now (s .args .row))) (c .before .before .before .before .before .before .before .if1 .left), ← wrote .0) (c .before .give-wrote .ensures, wrote .1)
+    rw (le-leb 2 (length (now (s .args .row))) (omega (arith, c .before .before .before .before .before .before .before .if1 .left)), ← wrote .0) (c .before .give-wrote .ensures, wrote .1)
 
 pub write-spec : {M : Type 1} → statement M
 write-spec =
