@@ -15,8 +15,8 @@ use meaning::Offset;
 use meaning::Pair;
 use meaning::Reading;
 use refusals::Detail;
+use requests::BYTES_ROOM;
 use requests::bytes_at;
-use requests::bytes_row;
 use requests::signed_at;
 use texts::offset::parse_offset;
 
@@ -70,9 +70,9 @@ pub fn answer_read(pair: Pair, line: &[u8], at: usize, out: &mut [u8]) -> usize
     requires { ⌜ 16384 ≤ length (now out) ⌝ }
     ensures { λ r. ⌜ Counts r (now (out .exit)) ⌝ }
 {
-    let mut pattern_row = bytes_row();
+    let mut pattern_row = [0u8; BYTES_ROOM];
     let pattern = bytes_at(line, at, &mut pattern_row);
-    let mut text_row = bytes_row();
+    let mut text_row = [0u8; BYTES_ROOM];
     let text = bytes_at(line, pattern.next, &mut text_row);
     let year = signed_at(line, text.next);
     if year.next <= line.len() {
@@ -101,7 +101,7 @@ pub fn answer_offset(line: &[u8], at: usize, out: &mut [u8]) -> usize
     requires { ⌜ 16384 ≤ length (now out) ⌝ }
     ensures { λ r. ⌜ Counts r (now (out .exit)) ⌝ }
 {
-    let mut row = bytes_row();
+    let mut row = [0u8; BYTES_ROOM];
     let text = bytes_at(line, at, &mut row);
     if text.next <= line.len() {
         return 0;
