@@ -11,8 +11,8 @@ use laying::put_bytes;
 use meaning::Fields;
 use meaning::Verdict;
 use refusals::Detail;
+use requests::BYTES_ROOM;
 use requests::bytes_at;
-use requests::bytes_row;
 use requests::signed_at;
 use verdict::verdict_on;
 
@@ -87,7 +87,7 @@ pub fn answer_check(line: &[u8], at: usize, out: &mut [u8]) -> usize
     requires { ⌜ 16384 ≤ length (now out) ⌝ }
     ensures { λ r. ⌜ Counts r (now (out .exit)) ⌝ }
 {
-    let mut row = bytes_row();
+    let mut row = [0u8; BYTES_ROOM];
     let pattern = bytes_at(line, at, &mut row);
     let year = signed_at(line, pattern.next);
     if year.next <= line.len() {

@@ -15,8 +15,8 @@ use meaning::Pair;
 use meaning::Reading;
 use meaning::Refusal;
 use refusals::Detail;
+use requests::BYTES_ROOM;
 use requests::bytes_at;
-use requests::bytes_row;
 use requests::signed_at;
 use texts::offset::parse_offset;
 use words::numbers::put_number;
@@ -83,9 +83,9 @@ pub fn answer_read(pair: Pair, line: &[u8], at: usize, out: &mut [u8]) -> usize
     requires { ⌜ 16384 ≤ length (now out) ⌝ }
     ensures { λ r. ⌜ Counts r (now (out .exit)) ⌝ }
 {
-    let mut pattern_row = bytes_row();
+    let mut pattern_row = [0u8; BYTES_ROOM];
     let pattern = bytes_at(line, at, &mut pattern_row);
-    let mut text_row = bytes_row();
+    let mut text_row = [0u8; BYTES_ROOM];
     let text = bytes_at(line, pattern.next, &mut text_row);
     let year = signed_at(line, text.next);
     if year.next <= line.len() {
@@ -114,7 +114,7 @@ pub fn answer_offset(line: &[u8], at: usize, out: &mut [u8]) -> usize
     requires { ⌜ 16384 ≤ length (now out) ⌝ }
     ensures { λ r. ⌜ Counts r (now (out .exit)) ⌝ }
 {
-    let mut row = bytes_row();
+    let mut row = [0u8; BYTES_ROOM];
     let text = bytes_at(line, at, &mut row);
     if text.next <= line.len() {
         return 0;

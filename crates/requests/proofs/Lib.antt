@@ -1,1 +1,3 @@
 pub mod Opposites
+mod Words
+mod ByteStrings

@@ -4,15 +4,18 @@ ghost use mathlib.Core.Path.{_≡_};
 ghost use Prim.Native.Nat.{_*_, _≤_};
 ghost use lib.IntN.{pos, negℤ};
 ghost use lib.ListN.{length};
-ghost use Rattle.io.specs.Counts.{Counts};
 ghost use Rattle.meaning.specs.Bytes.{when};
 ghost use Rattle.meaning.specs.Numerals.{integer};
+ghost use Rattle.requests.specs.Words.{numberAt, countAt, signedAt, fieldsAt, SaysBytes};
 use hex::Decoded;
 use hex::decode;
 use meaning::Fields;
 use words::numbers::Number;
 use words::numbers::number_of;
 use words::word_from;
+
+// Room for the bytes of any line.
+pub const BYTES_ROOM: usize = 10000;
 
 pub struct NumberAt {
     pub negative: bool,
@@ -40,7 +43,9 @@ pub struct BytesAt {
     pub next: usize,
 }
 
-fn number_at(line: &[u8], at: usize) -> NumberAt {
+fn number_at(line: &[u8], at: usize) -> NumberAt
+    ensures { λ r. ⌜ r ≡ numberAt (now (line .entry)) at ⌝ }
+{
     let word = word_from(line, at);
     let start = word.start;
     let end = word.end;
@@ -60,7 +65,7 @@ fn number_at(line: &[u8], at: usize) -> NumberAt {
 
 // A number with no sign and at most so large.
 pub fn count_at(line: &[u8], at: usize, most: u64) -> CountAt
-    ensures { λ r. ⌜ r .value ≤ most ⌝ }
+    ensures { λ r. ⌜ (r ≡ countAt (now (line .entry)) at most) × (r .value ≤ most) ⌝ }
 {
     let number = number_at(line, at);
     if number.negative || most < number.size {
@@ -104,7 +109,9 @@ fn integer_of(negative: bool, size: u64) -> i32
 }
 
 // A number of 32 signed bits.
-pub fn signed_at(line: &[u8], at: usize) -> SignedAt {
+pub fn signed_at(line: &[u8], at: usize) -> SignedAt
+    ensures { λ r. ⌜ r ≡ signedAt (now (line .entry)) at ⌝ }
+{
     let number = number_at(line, at);
     if most_signed(number.negative) < number.size {
         return SignedAt {
@@ -119,7 +126,9 @@ pub fn signed_at(line: &[u8], at: usize) -> SignedAt {
 }
 
 // The eight fields, each up to what its type holds.
-pub fn fields_at(line: &[u8], at: usize) -> FieldsAt {
+pub fn fields_at(line: &[u8], at: usize) -> FieldsAt
+    ensures { λ r. ⌜ r ≡ fieldsAt (now (line .entry)) at ⌝ }
+{
     let year = signed_at(line, at);
     let month = count_at(line, year.next, 4294967295);
     let day = count_at(line, month.next, 4294967295);
@@ -147,7 +156,7 @@ pub fn fields_at(line: &[u8], at: usize) -> FieldsAt {
 // A byte string, in the output from its start.
 pub fn bytes_at(line: &[u8], at: usize, out: &mut [u8]) -> BytesAt
     requires { ⌜ length (now line) ≤ 2 * length (now out) ⌝ }
-    ensures { λ r. ⌜ Counts (r .length) (now (out .exit)) ⌝ }
+    ensures { λ r. ⌜ SaysBytes (now (line .entry)) at (now (out .entry)) (now (out .exit)) r ⌝ }
 {
     let word = word_from(line, at);
     let start = word.start;
@@ -174,11 +183,4 @@ pub fn bytes_at(line: &[u8], at: usize, out: &mut [u8]) -> BytesAt
             next: line.len(),
         },
     }
-}
-
-// Room for the bytes of any line.
-pub fn bytes_row() -> [u8; 10000]
-    ensures { λ r. ⌜ 10000 ≡ length r ⌝ }
-{
-    [0; 10000]
 }

@@ -12,8 +12,8 @@ use meaning::Part;
 use meaning::Refusal;
 use meaning::Split;
 use pattern::parse_format_string;
+use requests::BYTES_ROOM;
 use requests::bytes_at;
-use requests::bytes_row;
 use words::numbers::put_size;
 
 fn put_kind(kind: Kind, out: &mut [u8], at: usize) -> usize
@@ -72,7 +72,7 @@ pub fn answer_split(line: &[u8], at: usize, out: &mut [u8]) -> usize
     requires { ⌜ 16384 ≤ length (now out) ⌝ }
     ensures { λ r. ⌜ Counts r (now (out .exit)) ⌝ }
 {
-    let mut row = bytes_row();
+    let mut row = [0u8; BYTES_ROOM];
     let pattern = bytes_at(line, at, &mut row);
     if pattern.next <= line.len() {
         return 0;

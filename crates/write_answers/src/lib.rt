@@ -12,8 +12,8 @@ use laying::put_byte;
 use meaning::Fields;
 use meaning::Pair;
 use meaning::Wrote;
+use requests::BYTES_ROOM;
 use requests::bytes_at;
-use requests::bytes_row;
 use requests::count_at;
 use requests::fields_at;
 
@@ -117,7 +117,7 @@ pub fn answer_write(pair: Pair, line: &[u8], at: usize, out: &mut [u8]) -> usize
     requires { ⌜ 16384 ≤ length (now out) ⌝ }
     ensures { λ r. ⌜ Counts r (now (out .exit)) ⌝ }
 {
-    let mut row = bytes_row();
+    let mut row = [0u8; BYTES_ROOM];
     let pattern = bytes_at(line, at, &mut row);
     let fields = fields_at(line, pattern.next);
     let room = count_at(line, fields.next, 4096);

@@ -3,17 +3,11 @@ use borrow.Author.Needs.{needs}
 use Rattle.read_answers.proofs.answer_read.Statement.{statement}
 use Rattle.read_answers.proofs.answer_read.Tie as tie
 
-bytes-row-requires : tie.Need-bytes-row-requires
-bytes-row-requires c κs = search needs
-
 slice-aggregate-bytes-at : tie.Need-slice-aggregate-bytes-at
 slice-aggregate-bytes-at c = search needs
 
 bytes-at-requires : tie.Need-bytes-at-requires
 bytes-at-requires c κs = search needs
-
-bytes-row-requires-2 : tie.Need-bytes-row-requires-2
-bytes-row-requires-2 c κs = search needs
 
 slice-aggregate-bytes-at-2 : tie.Need-slice-aggregate-bytes-at-2
 slice-aggregate-bytes-at-2 c = search needs
@@ -46,13 +40,13 @@ enum-told : tie.Need-enum-told
 enum-told c = search needs
 
 put-reading-requires : tie.Need-put-reading-requires
-put-reading-requires c κs = c .before .before .before .before .before .before .before .before .before .before .before .before .before .before .before .before .before .before .before .before .pre .1
+put-reading-requires c κs = c .before .before .before .before .before .before .before .before .before .before .before .before .before .before .before .before .before .before .pre .1
 
 enum-known-checked : tie.Need-enum-known-checked
 enum-known-checked c = search needs
 
 put-refused-requires : tie.Need-put-refused-requires
-put-refused-requires c κs = c .before .before .before .before .before .before .before .before .before .before .before .before .before .before .before .before .before .before .before .before .before .pre .1
+put-refused-requires c κs = c .before .before .before .before .before .before .before .before .before .before .before .before .before .before .before .before .before .before .before .pre .1
 
 same-length : tie.Need-same-length
 same-length c = search needs
@@ -70,10 +64,8 @@ pub answer-read-spec : {M : Type 1} → statement M
 answer-read-spec =
     tie.close
     (tie.spec
-    bytes-row-requires
     slice-aggregate-bytes-at
     bytes-at-requires
-    bytes-row-requires-2
     slice-aggregate-bytes-at-2
     bytes-at-requires-2
     signed-at-requires

@@ -1,12 +1,9 @@
--- There are no more bytes than the word has room for.
+-- By what the word says.
 use mathlib.Core.Path.{sym, _∙_}
-use Prim.Native.Nat.{_-_}
-use native.Mathlib.Omega.{arith}
-use lib.ListN.{take, drop, length-take, length-drop}
 use borrow.Author.Needs.{needs}
 use denote.Ref.{now}
-use Rattle.io.proofs.Counting.{counts}
-use Rattle.hex.proofs.HexDigits.{decoded-small}
+use Rattle.laws.proofs.Tests.{true-is-not-false}
+use Rattle.requests.proofs.ByteStrings.{says-none, says-dash, says-decoded}
 use Rattle.requests.proofs.bytes_at.Statement.{statement}
 use Rattle.requests.proofs.bytes_at.Tie as tie
 
@@ -14,7 +11,10 @@ word-from-requires : tie.Need-word-from-requires
 word-from-requires c κs = search needs
 
 returns : tie.Need-returns
-returns c = search needs
+returns c =
+    let a = c .before .before .before .before .args in
+    let w = c .before .word-from in
+    says-none (now (a .line)) (a .at) (w .result .start) (w .result .end) (w .ensures) (now (a .out)) (c .if1 .taken)
 
 sub-same : tie.Need-sub-same
 sub-same c = search needs
@@ -35,7 +35,10 @@ add-t18 : tie.Need-add-t18
 add-t18 c = search needs
 
 returns-2 : tie.Need-returns-2
-returns-2 c = search needs
+returns-2 c =
+    let a = c .before .before .before .before .before .before .before .before .args in
+    let w = c .before .before .before .before .before .word-from in
+    says-dash (now (a .line)) (a .at) (w .result .start) (w .result .end) (w .ensures) (now (a .out)) (c .before .same .ensures .0 (c .if2 .taken))
 
 sub-decode : tie.Need-sub-decode
 sub-decode c = search needs
@@ -63,20 +66,26 @@ same-length c = search needs
 
 returns-3 : tie.Need-returns-3
 returns-3 c =
-    let d = c .before .before .before .before .before .decode in
     let a = c .before .before .before .before .before .before .before .before .before .before .before .before .before .before .before .before .args in
-    let start = c .before .before .before .before .before .before .before .before .before .before .before .before .before .word-from .result .start in
-    let end = c .before .before .before .before .before .before .before .before .before .before .before .before .before .word-from .result .end in
-    let n = c .before .n .given .0 .0 in
-    let word = take (end - start) (drop start (now (a .line))) in
-    let small = decoded-small word n (sym (d .ensures .answer) ∙ c .before .n .given .1) in
-    counts n (d .last .1 .0) (omega (arith, small, d .kept .1 .0, length-take (end - start) (drop start (now (a .line))), length-drop start (now (a .line))))
+    let w = c .before .before .before .before .before .before .before .before .before .before .before .before .before .word-from in
+    let same = c .before .before .before .before .before .before .before .before .before .same in
+    let d = c .before .before .before .before .before .decode in
+    let no = c .before .before .before .before .before .before .before .before .if2 .left in
+    rw (c .before .n .given .1)
+    at (says-decoded (now (a .line)) (a .at) (w .result .start) (w .result .end) (w .ensures) (c .before .before .before .before .before .before .before .before .before .before .before .before .if1 .left) (λ e. true-is-not-false (sym (same .ensures .1 e) ∙ no)) (now (a .out)) (d .last .1 .0) (d .result) (d .ensures) (d .kept .1 .0) (c .before .before .before .before .before .before .before .before .before .before .before .before .before .before .before .before .pre))
 
 same-length-2 : tie.Need-same-length-2
 same-length-2 c = search needs
 
 returns-4 : tie.Need-returns-4
-returns-4 c = search needs
+returns-4 c =
+    let a = c .before .before .before .before .before .before .before .before .before .before .before .before .before .before .before .args in
+    let w = c .before .before .before .before .before .before .before .before .before .before .before .before .word-from in
+    let same = c .before .before .before .before .before .before .before .before .same in
+    let d = c .before .before .before .before .decode in
+    let no = c .before .before .before .before .before .before .before .if2 .left in
+    rw (c .enum-told .given .1)
+    at (says-decoded (now (a .line)) (a .at) (w .result .start) (w .result .end) (w .ensures) (c .before .before .before .before .before .before .before .before .before .before .before .if1 .left) (λ e. true-is-not-false (sym (same .ensures .1 e) ∙ no)) (now (a .out)) (d .last .1 .0) (d .result) (d .ensures) (d .kept .1 .0) (c .before .before .before .before .before .before .before .before .before .before .before .before .before .before .before .pre))
 
 pub bytes-at-spec : {M : Type 1} → statement M
 bytes-at-spec =

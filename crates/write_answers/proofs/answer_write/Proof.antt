@@ -7,9 +7,6 @@ use borrow.Author.Needs.{needs}
 use Rattle.write_answers.proofs.answer_write.Statement.{statement}
 use Rattle.write_answers.proofs.answer_write.Tie as tie
 
-bytes-row-requires : tie.Need-bytes-row-requires
-bytes-row-requires c κs = search needs
-
 slice-aggregate-bytes-at : tie.Need-slice-aggregate-bytes-at
 slice-aggregate-bytes-at c = search needs
 
@@ -41,11 +38,11 @@ slice-aggregate-answer-written-2 : tie.Need-slice-aggregate-answer-written-2
 slice-aggregate-answer-written-2 c =
     let room = c .before .before .before .before .before .before .count-at in
     let row = c .before .before .buffer in
-    sym (length-take-le (room .result .value) (row .result) (omega (arith, room .ensures, row .ensures)))
+    sym (length-take-le (room .result .value) (row .result) (omega (arith, room .ensures .1, row .ensures)))
 
 answer-written-requires : tie.Need-answer-written-requires
 answer-written-requires c κs =
-    (simp length-take (omega (arith, c .before .before .before .before .before .before .before .count-at .ensures)), search needs)
+    (simp length-take (omega (arith, c .before .before .before .before .before .before .before .count-at .ensures .1)), search needs)
 
 same-length : tie.Need-same-length
 same-length c = search needs
@@ -57,7 +54,6 @@ pub answer-write-spec : {M : Type 1} → statement M
 answer-write-spec =
     tie.close
     (tie.spec
-    bytes-row-requires
     slice-aggregate-bytes-at
     bytes-at-requires
     fields-at-requires

@@ -1,0 +1,100 @@
+-- What the words of a request say, each with the place of the next word. A word that is not what is asked for leaves the
+-- place at the line's end, where a word is empty.
+use mathlib.Core.Bool.{Bool, true, false}
+use mathlib.Core.List.{List, [], _∷_}
+use mathlib.Core.Path.{_≡_}
+use Prim.Native.Nat.{ℕ, _+_, _-_, min}
+use lib.Dec.{eqb, ltb}
+use lib.IntN.{pos}
+use lib.ListN.{length, take, drop}
+use lib.Seq.{sets}
+use Rattle.bytes.specs.Bytes.{indexOf, slice}
+use Rattle.io.specs.Counts.{Counts}
+use Rattle.words.specs.Decimal.{numberOf}
+use Rattle.hex.specs.Hex.{isHex, fromHex}
+use Rattle.words.specs.declared.numbers.Number.{Number}
+use Rattle.words.specs.declared.numbers.Number.the-variants.{Bad, Is}
+use Rattle.meaning.specs.Bytes.{when, minus}
+use Rattle.meaning.specs.Numerals.{integer}
+use Rattle.requests.specs.declared.BytesAt.{BytesAt}
+use Rattle.requests.specs.declared.CountAt.{CountAt}
+use Rattle.requests.specs.declared.FieldsAt.{FieldsAt}
+use Rattle.requests.specs.declared.NumberAt.{NumberAt}
+use Rattle.requests.specs.declared.SignedAt.{SignedAt}
+
+-- where the word from a place on ends: at the next space or the line's end
+unfoldable pub endFrom : List ℕ → ℕ → ℕ
+endFrom line at = min at (length line) + indexOf 32 (slice (min at (length line)) (length line) line)
+
+unfoldable pub wordFrom : List ℕ → ℕ → List ℕ
+wordFrom line at = take (endFrom line at - min at (length line)) (drop (min at (length line)) line)
+
+abbrev pub numbered : Number → ℕ → ℕ → NumberAt
+numbered Bad next end = record { negative = false; size = 0; next = end }
+numbered (Is negative size) next end = record { negative = negative; size = size; next = next }
+
+unfoldable pub numberAt : List ℕ → ℕ → NumberAt
+numberAt line at = numbered (numberOf (wordFrom line at)) (endFrom line at + 1) (length line)
+
+-- a number with no sign and at most so large
+abbrev pub counted : NumberAt → ℕ → ℕ → CountAt
+counted n most end = when (n .negative) (record { value = 0; next = end }) (when (ltb most (n .size)) (record { value = 0; next = end }) (record { value = n .size; next = n .next }))
+
+unfoldable pub countAt : List ℕ → ℕ → ℕ → CountAt
+countAt line at most = counted (numberAt line at) most (length line)
+
+-- a number of 32 signed bits
+abbrev pub signed : NumberAt → ℕ → SignedAt
+signed n end =
+    when (ltb (when (n .negative) 2147483648 2147483647) (n .size)) (record { value = pos 0; next = end })
+    (record { value = integer (record { negative = n .negative; size = n .size }); next = n .next })
+
+unfoldable pub signedAt : List ℕ → ℕ → SignedAt
+signedAt line at = signed (numberAt line at) (length line)
+
+-- the eight fields, each up to what its type holds
+unfoldable pub fieldsAt : List ℕ → ℕ → FieldsAt
+fieldsAt line at =
+    let year = signedAt line at in
+    let month = countAt line (year .next) 4294967295 in
+    let day = countAt line (month .next) 4294967295 in
+    let doy = countAt line (day .next) 4294967295 in
+    let week = countAt line (doy .next) 4294967295 in
+    let wday = countAt line (week .next) 4294967295 in
+    let nanos = countAt line (wday .next) 18446744073709551615 in
+    let offset = signedAt line (nanos .next) in
+    record {
+      fields =
+          record {
+            year = year .value;
+            month = month .value;
+            day = day .value;
+            doy = doy .value;
+            week = week .value;
+            wday = wday .value;
+            nanos = nanos .value;
+            offset = offset .value;
+          };
+      next = offset .next;
+    }
+
+unfoldable pub isDash : List ℕ → Bool
+isDash [] = false
+isDash (b ∷ []) = eqb b minus
+isDash (b ∷ (c ∷ s)) = false
+
+-- a byte string: a dash where it has none, else two digits for each
+abbrev pub said : List ℕ → ℕ → ℕ → BytesAt
+said word next end =
+    when (eqb (length word) 0) (record { length = 0; next = end })
+    (when (isDash word) (record { length = 0; next = next })
+    (when (isHex word) (record { length = length (fromHex word); next = next }) (record { length = 0; next = end })))
+
+unfoldable pub bytesAt : List ℕ → ℕ → BytesAt
+bytesAt line at = said (wordFrom line at) (endFrom line at + 1) (length line)
+
+-- the answer, and the bytes in the output from its start
+pub record SaysBytes (line : List ℕ) (at : ℕ) (old new : List ℕ) (r : BytesAt) : Type 0 where
+  pub answer : r ≡ bytesAt line at
+  pub held : isHex (wordFrom line at) ≡ true → new ≡ sets old 0 (fromHex (wordFrom line at))
+  pub counts : Counts (r .length) new
