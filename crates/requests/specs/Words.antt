@@ -38,7 +38,9 @@ numberAt line at = numbered (numberOf (wordFrom line at)) (endFrom line at + 1) 
 
 -- a number with no sign and at most so large
 abbrev pub counted : NumberAt → ℕ → ℕ → CountAt
-counted n most end = when (n .negative) (record { value = 0; next = end }) (when (ltb most (n .size)) (record { value = 0; next = end }) (record { value = n .size; next = n .next }))
+counted n most end =
+    when (n .negative) (record { value = 0; next = end })
+    (when (ltb most (n .size)) (record { value = 0; next = end }) (record { value = n .size; next = n .next }))
 
 unfoldable pub countAt : List ℕ → ℕ → ℕ → CountAt
 countAt line at most = counted (numberAt line at) most (length line)

@@ -1,5 +1,4 @@
 -- Each word from where the one before it left off.
-use denote.Ref.{now}
 use mir.Facts.{toZ-ofZ}
 use Rattle.requests.specs.Words.{fieldsAt}
 use borrow.Author.Needs.{needs}
