@@ -1,8 +1,11 @@
 -- The tests, as the definition has them, once the bits are taken away.
 use borrow.Author.Needs.{needs}
+use lib.IntN.{natAbs}
+use mathlib.Core.Bool.{true, false}
+use mathlib.Core.Path.{_≡_}
 use Rattle.fields.proofs.checks.current_year_check.Statement.{statement}
 use Rattle.fields.proofs.checks.current_year_check.Tie as tie
-use Rattle.meaning.specs.Answers.{currentYearCheck}
+use Rattle.meaning.specs.Answers.{within, currentYearCheck}
 use mir.Syntax.{w32}
 use mir.ValLaws.{toZ-ofZ}
 
@@ -30,26 +33,26 @@ unfolding currentYearCheck
 returns-2 c =
     let a = c .before .before .before .before .before in
     let e = toZ-ofZ w32 (a .args .now) (a .fits .now) in
-    rw (
-      ← (rw e at (c .before .before .before .before .is-negative .ensures)),
-      c .before .before .before .if1 .left,
-      ← (rw e at (c .before .before .size .ensures)),
-      ← c .before .is-within .ensures,
-      c .if2 .taken,
-    )
+    let size = rw e at (c .before .before .size .ensures) in
+    let tested = c .before .is-within .ensures in
+    let found = c .if2 .taken in
+    let inside : within 1 9999 (natAbs (a .args .now)) ≡ true = cc in
+    rw (← (rw e at (c .before .before .before .before .is-negative .ensures)), c .before .before .before .if1 .left, inside)
 
 returns-3 : tie.Need-returns-3
 unfolding currentYearCheck
 returns-3 c =
     let a = c .before .before .before .before .before in
     let e = toZ-ofZ w32 (a .args .now) (a .fits .now) in
+    let size = rw e at (c .before .before .size .ensures) in
+    let tested = c .before .is-within .ensures in
+    let found = c .if2 .left in
+    let outside : within 1 9999 (natAbs (a .args .now)) ≡ false = cc in
     rw (
       e,
       ← (rw e at (c .before .before .before .before .is-negative .ensures)),
       c .before .before .before .if1 .left,
-      ← (rw e at (c .before .before .size .ensures)),
-      ← c .before .is-within .ensures,
-      c .if2 .left,
+      outside,
     )
 
 pub current-year-check-spec : {M : Type 1} → statement M
