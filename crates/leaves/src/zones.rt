@@ -97,5 +97,8 @@ pub fn format_zone(
     if is_z(utc, n) {
         return put_byte(b'Z', out, at);
     }
-    put_zone(negative, n, colon, minutes, seconds, out, at)
+    if negative {
+        return put_zone(true, n, colon, minutes, seconds, out, at);
+    }
+    put_zone(false, n, colon, minutes, seconds, out, at)
 }

@@ -12,7 +12,7 @@ use Rattle.tables.specs.declared.Found.the-variants.{Name, Nothing}
 
 -- the bytes of a row: no name has more
 abbrev pub rowWidth : ℕ
-rowWidth = 20
+rowWidth = 13
 
 -- the names that the rows hold
 abbrev pub table : List ℕ → List ℕ → List (List ℕ)

@@ -8,7 +8,7 @@ ghost use Rattle.meaning.specs.Readers.{matchName};
 ghost use Rattle.tables.specs.Table.{table, nameAt, tableOk, foundIn};
 
 // The longest name that a table can hold.
-const ROW_WIDTH: usize = 20;
+const ROW_WIDTH: usize = 13;
 
 // The name that begins a text, or none.
 pub enum Found {

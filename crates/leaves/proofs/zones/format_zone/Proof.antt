@@ -40,12 +40,11 @@ returns c =
 put-zone-requires : tie.Need-put-zone-requires
 unfolding offsetText
 put-zone-requires c κs =
-    let a = c .before .before .before .before .before .before in
+    let a = c .before .before .before .before .before .before .before in
     let e = toZ-ofZ w32 (a .args .z) (a .fits .z) in
-    let n = rw e at (c .before .before .before .size .ensures) in
-    let test = rw n at (c .before .before .is-z .ensures) in
-    let taken = c .before .if1 .left in
-    rw n (rw (← test, taken) at (a .pre))
+    let n = rw e at (c .before .before .before .before .size .ensures) in
+    let test = rw n at (c .before .before .before .is-z .ensures) in
+    rw n (rw (← test, c .before .before .if1 .left) at (a .pre))
 
 same-length-2 : tie.Need-same-length-2
 same-length-2 c = search needs
@@ -53,13 +52,36 @@ same-length-2 c = search needs
 returns-2 : tie.Need-returns-2
 unfolding offsetText
 returns-2 c =
-    let a = c .before .before .before .before .before .before .before .before .before in
+    let b = c .before .before .before in
+    let a = b .before .before .before .before .before .before .before in
     let e = toZ-ofZ w32 (a .args .z) (a .fits .z) in
-    let negative = rw e at (c .before .before .before .before .before .before .before .is-negative .ensures) in
-    let n = rw e at (c .before .before .before .before .before .before .size .ensures) in
-    let test = rw n at (c .before .before .before .before .before .is-z .ensures) in
-    let taken = c .before .before .before .before .if1 .left in
-    rw (← test, taken, ← negative, ← n) (c .before .before .put-zone .ensures)
+    let negative = rw e at (b .before .before .before .before .before .is-negative .ensures) in
+    let n = rw e at (b .before .before .before .before .size .ensures) in
+    let test = rw n at (b .before .before .before .is-z .ensures) in
+    rw (← test, b .before .before .if1 .left, ← negative, b .before .if2 .taken, ← n) (c .before .before .put-zone .ensures)
+
+put-zone-requires-2 : tie.Need-put-zone-requires-2
+unfolding offsetText
+put-zone-requires-2 c κs =
+    let a = c .before .before .before .before .before .before .before in
+    let e = toZ-ofZ w32 (a .args .z) (a .fits .z) in
+    let n = rw e at (c .before .before .before .before .size .ensures) in
+    let test = rw n at (c .before .before .before .is-z .ensures) in
+    rw n (rw (← test, c .before .before .if1 .left) at (a .pre))
+
+same-length-3 : tie.Need-same-length-3
+same-length-3 c = search needs
+
+returns-3 : tie.Need-returns-3
+unfolding offsetText
+returns-3 c =
+    let b = c .before .before .before in
+    let a = b .before .before .before .before .before .before .before in
+    let e = toZ-ofZ w32 (a .args .z) (a .fits .z) in
+    let negative = rw e at (b .before .before .before .before .before .is-negative .ensures) in
+    let n = rw e at (b .before .before .before .before .size .ensures) in
+    let test = rw n at (b .before .before .before .is-z .ensures) in
+    rw (← test, b .before .before .if1 .left, ← negative, b .before .if2 .left, ← n) (c .before .before .put-zone2 .ensures)
 
 pub format-zone-spec : {M : Type 1} → statement M
 format-zone-spec =
@@ -73,4 +95,7 @@ format-zone-spec =
     returns
     put-zone-requires
     same-length-2
-    returns-2)
+    returns-2
+    put-zone-requires-2
+    same-length-3
+    returns-3)
