@@ -5,13 +5,12 @@ ghost use lib.ListN.{length};
 ghost use Rattle.laws.specs.Laid.{Laid};
 ghost use Rattle.meaning.specs.Answers.{fieldsCheck};
 ghost use Rattle.meaning.specs.Names.{english};
-ghost use Rattle.meaning.specs.Rules.{roleOf};
 ghost use Rattle.meaning.specs.Whole.{text};
-ghost use Rattle.meaning.specs.Writing.{runStep, stepOf, stepText};
+ghost use Rattle.meaning.specs.Writing.{stepOf, stepText};
 ghost use Rattle.meaning.specs.declared.Checked.the-variants.{Fine};
 ghost use Rattle.parts.proofs.Laws.{Next};
 ghost use Rattle.parts.specs.First.{contentOf};
-use crate::rule::format_rule;
+use crate::run::put_run;
 use laying::put_times;
 use leaves::literals::put_open;
 use leaves::literals::put_unescaped;
@@ -19,21 +18,7 @@ use meaning::Fields;
 use meaning::Kind;
 use meaning::Pair;
 use meaning::Part;
-use meaning::Role;
 use parts::next_part;
-use rules::role_of;
-
-fn put_run(pair: Pair, b: u8, count: usize, f: Fields, out: &mut [u8], at: usize) -> usize
-    requires { ⌜ fieldsCheck f ≡ Fine ⌝ }
-    requires { ⌜ at + length (stepText english f (runStep (roleOf pair b count) b count)) ≤ length (now out) ⌝ }
-    ensures { λ r. ⌜ Laid (now (out .entry)) (now (out .exit)) at r (stepText english f (runStep (roleOf pair b count) b count)) ⌝ }
-{
-    let role = role_of(pair, b, count);
-    match role {
-        Role::Literal => put_times(b, count, out, at),
-        Role::Symbol(rule) => format_rule(rule, f, out, at),
-    }
-}
 
 pub fn format_part(
     pair: Pair,

@@ -37,11 +37,11 @@ pub four-of : (k n : ℕ) → k < 4 → n < 10000 → leb 1000 n ≡ eqb (max k 
 four-of k n small below =
     by-test (leb 1000 n)
     (λ e.
-      let thousands : 1000 ≤ n = leb-true 1000 n e in
-      rw e (sym (eq-eqb (max k (width n)) 4 (omega (arith, four-at-least n thousands, width-at-most 4 n (omega arith) below)))))
+    let thousands : 1000 ≤ n = leb-true 1000 n e in
+    rw e (sym (eq-eqb (max k (width n)) 4 (omega (arith, four-at-least n thousands, width-at-most 4 n (omega arith) below)))))
     (λ e.
-      let fewer : n < 1000 = leb-false 1000 n e in
-      rw e (sym (ne-eqb (max k (width n)) 4 (λ four. omega (arith, four, width-at-most 3 n (omega arith) fewer)))))
+    let fewer : n < 1000 = leb-false 1000 n e in
+    rw e (sym (ne-eqb (max k (width n)) 4 (λ four. omega (arith, four, width-at-most 3 n (omega arith) fewer)))))
 
 -- four digits are the whole number
 pub four-digits : (k n : ℕ) → eqb (max k (width n)) 4 ≡ true → num k n ≡ digits 4 n

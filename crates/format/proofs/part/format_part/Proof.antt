@@ -19,7 +19,9 @@ shared-slice-read-put-run c = search needs
 
 put-run-requires : tie.Need-put-run-requires
 unfolding stepOf stepText
-put-run-requires c κs = (c .before .before .before .before .before .before .pre .0, rw (c .before .before .enum-told .given .1) at (c .before .before .before .before .before .before .pre .1 .1))
+put-run-requires c κs =
+    let a = c .before .before .before .before .before .before in
+    (a .pre .0, (a .pre .1 .0 .some, rw (c .before .before .enum-told .given .1) at (a .pre .1 .1)))
 
 enum-told-2 : tie.Need-enum-told-2
 enum-told-2 c = search needs

@@ -1,8 +1,8 @@
 -- The bytes themselves, or the text of their rule.
 use borrow.Author.Needs.{needs}
 use lib.ListN.{length-replicate}
-use Rattle.format.proofs.part.put_run.Statement.{statement}
-use Rattle.format.proofs.part.put_run.Tie as tie
+use Rattle.format.proofs.run.put_symbol.Statement.{statement}
+use Rattle.format.proofs.run.put_symbol.Tie as tie
 use Rattle.meaning.specs.Writing.{stepText}
 
 role-of-requires : tie.Need-role-of-requires
@@ -36,8 +36,8 @@ returns-2 : tie.Need-returns-2
 unfolding stepText
 returns-2 c = rw (← c .before .before .before .before .before .before .before .role-of .ensures, c .before .before .before .before .before .role .given .1) (c .before .before .format-rule .ensures)
 
-pub put-run-spec : {M : Type 1} → statement M
-put-run-spec =
+pub put-symbol-spec : {M : Type 1} → statement M
+put-symbol-spec =
     tie.close
     (tie.spec
     role-of-requires

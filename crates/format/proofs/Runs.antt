@@ -1,0 +1,44 @@
+-- What runs write that need no rule looked up: literals, years, and the numbers that patterns have most.
+use mathlib.Core.Bool.{true, false}
+use mathlib.Core.List.{List}
+use mathlib.Core.Path.{_≡_, refl, _∙_}
+use Prim.Native.Nat.{ℕ, _≤_, _<_}
+use native.Mathlib.Omega.{arith}
+use lib.Dec.{eqb}
+use lib.ListN.{replicate}
+use borrow.Author.Tests.{eqb-true, ne-eqb}
+use Rattle.laws.proofs.Tests.{by-test}
+use Rattle.meaning.specs.Bytes.{when, num}
+use Rattle.meaning.specs.Names.{english}
+use Rattle.meaning.specs.Rules.{roleOf, dateRole, roleAmong, ruleOf, pick, otherwiseRule}
+use Rattle.meaning.specs.Writing.{quantityOf, signedText, runStep, stepText, ruleText}
+use Rattle.meaning.specs.declared.Fields.{Fields}
+use Rattle.meaning.specs.declared.Pair.{Pair}
+use Rattle.rules.proofs.Laws.{below-letters, is-date}
+use Rattle.rules.proofs.ShortRules.{short-role}
+use Rattle.rules.specs.Letters.{isAmong}
+use Rattle.rules.specs.ShortRules.{isShort, shortOf, shortQuantity}
+
+-- what c bytes b write
+abbrev pub runText : Pair → ℕ → ℕ → Fields → List ℕ
+runText pair b c f = stepText english f (runStep (roleOf pair b c) b c)
+
+pub literal-run : (pair : Pair) (b c : ℕ) (f : Fields) → b < 65 → runText pair b c f ≡ replicate c b
+unfolding stepText
+literal-run pair b c f small = rw (below-letters pair b c small)
+
+pub year-run : (pair : Pair) (c : ℕ) (f : Fields) → 2 < c → runText pair 121 c f ≡ signedText c (f .year)
+unfolding stepText ruleText dateRole roleAmong ruleOf pick otherwiseRule isAmong
+year-run pair c f long =
+    let two = ne-eqb c 2 (λ e. omega (arith, e)) in
+    let one = ne-eqb c 1 (λ e. omega (arith, e)) in
+    rw (is-date pair 121 c refl, two, one)
+    (by-test (eqb c 3) (λ e. rw (e, eqb-true c 3 e)) (λ e. rw e (by-test (eqb c 4) (λ e′. rw (e′, eqb-true c 4 e′)) (λ e′. rw e′))))
+
+pub short-run : (pair : Pair) (b c n : ℕ) (f : Fields) → 0 < c → c ≤ 2
+    → n ≡ when (isShort (shortOf pair b)) (quantityOf (shortQuantity (shortOf pair b)) f) 100 → n < 100 → runText pair b c f ≡ num c n
+unfolding stepText ruleText
+short-run pair b c n f some few told small =
+    by-test (isShort (shortOf pair b))
+    (λ e. rw (short-role pair b c some few e, told, e))
+    (λ e. let hundred : n ≡ 100 = rw e at told in absurd (omega (arith, hundred, small)))

@@ -1,0 +1,82 @@
+// What a run of equal bytes writes. Literals, and the numbers and years that patterns have most, need no rule looked up.
+ghost use mathlib.Core.Path.{_≡_};
+ghost use Prim.Native.Nat.{_+_, _≤_, _<_};
+ghost use lib.ListN.{length};
+ghost use Rattle.laws.specs.Laid.{Laid};
+ghost use Rattle.meaning.specs.Answers.{fieldsCheck};
+ghost use Rattle.meaning.specs.Bytes.{when};
+ghost use Rattle.meaning.specs.Names.{english};
+ghost use Rattle.meaning.specs.Rules.{roleOf};
+ghost use Rattle.meaning.specs.Writing.{quantityOf, runStep, stepText};
+ghost use Rattle.meaning.specs.declared.Checked.the-variants.{Fine};
+ghost use Rattle.rules.specs.ShortRules.{isShort, shortQuantity};
+use crate::rule::format_rule;
+use laying::put_short;
+use laying::put_times;
+use leaves::years::zero_padded_i;
+use meaning::Fields;
+use meaning::Pair;
+use meaning::Quantity;
+use meaning::Role;
+use rules::role_of;
+use rules::short::Short;
+use rules::short::short_of;
+use values::quantity_of;
+
+// 100, which no such number is, stands for none.
+fn short_number(short: Short, f: Fields) -> u32
+    requires { ⌜ fieldsCheck f ≡ Fine ⌝ }
+    ensures { λ r. ⌜ r ≡ when (isShort short) (quantityOf (shortQuantity short) f) 100 ⌝ }
+{
+    match short {
+        Short::Month => quantity_of(Quantity::Month, f),
+        Short::Day => quantity_of(Quantity::Day, f),
+        Short::Hour => quantity_of(Quantity::Hour0To23, f),
+        Short::Minute => quantity_of(Quantity::Minute, f),
+        Short::Second => quantity_of(Quantity::Second, f),
+        Short::Other => 100,
+    }
+}
+
+// By the table.
+fn put_symbol(pair: Pair, b: u8, count: usize, f: Fields, out: &mut [u8], at: usize) -> usize
+    requires { ⌜ fieldsCheck f ≡ Fine ⌝ }
+    requires { ⌜ at + length (stepText english f (runStep (roleOf pair b count) b count)) ≤ length (now out) ⌝ }
+    ensures { λ r. ⌜ Laid (now (out .entry)) (now (out .exit)) at r (stepText english f (runStep (roleOf pair b count) b count)) ⌝ }
+{
+    let role = role_of(pair, b, count);
+    match role {
+        Role::Literal => put_times(b, count, out, at),
+        Role::Symbol(rule) => format_rule(rule, f, out, at),
+    }
+}
+
+// More than two bytes.
+fn put_longer(pair: Pair, b: u8, count: usize, f: Fields, out: &mut [u8], at: usize) -> usize
+    requires { ⌜ fieldsCheck f ≡ Fine ⌝ }
+    requires { ⌜ (2 < count) × (at + length (stepText english f (runStep (roleOf pair b count) b count)) ≤ length (now out)) ⌝ }
+    ensures { λ r. ⌜ Laid (now (out .entry)) (now (out .exit)) at r (stepText english f (runStep (roleOf pair b count) b count)) ⌝ }
+{
+    if b == b'y' {
+        return zero_padded_i(f.year, count, out, at);
+    }
+    put_symbol(pair, b, count, f, out, at)
+}
+
+pub fn put_run(pair: Pair, b: u8, count: usize, f: Fields, out: &mut [u8], at: usize) -> usize
+    requires { ⌜ fieldsCheck f ≡ Fine ⌝ }
+    requires { ⌜ (0 < count) × (at + length (stepText english f (runStep (roleOf pair b count) b count)) ≤ length (now out)) ⌝ }
+    ensures { λ r. ⌜ Laid (now (out .entry)) (now (out .exit)) at r (stepText english f (runStep (roleOf pair b count) b count)) ⌝ }
+{
+    if b < b'A' {
+        return put_times(b, count, out, at);
+    }
+    if 2 < count {
+        return put_longer(pair, b, count, f, out, at);
+    }
+    let n = short_number(short_of(pair, b), f);
+    if 100 <= n {
+        return put_symbol(pair, b, count, f, out, at);
+    }
+    put_short(n, count, out, at)
+}
