@@ -1,2 +1,3 @@
 pub mod NameParts
 pub mod Within
+pub mod Runs

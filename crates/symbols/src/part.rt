@@ -4,39 +4,18 @@ ghost use Prim.Native.Nat.{_≤_};
 ghost use lib.ListN.{length, drop};
 ghost use Rattle.meaning.specs.Names.{english};
 ghost use Rattle.meaning.specs.Reading.{readStep};
-ghost use Rattle.meaning.specs.Rules.{roleOf};
-ghost use Rattle.meaning.specs.Writing.{runStep, stepOf};
+ghost use Rattle.meaning.specs.Writing.{stepOf};
 ghost use Rattle.parse.specs.Steps.{partAt};
 ghost use Rattle.parts.proofs.Laws.{Next};
 ghost use Rattle.parts.specs.First.{contentOf};
-use crate::rule::parse_rule;
+use crate::run::parse_run;
 use meaning::Kind;
 use meaning::Pair;
 use meaning::Part;
-use meaning::Role;
 use parse::cursor::Cursor;
 use parse::cursor::PartRead;
 use parse::steps::pass;
 use parts::quoted::unescaped_length;
-use rules::role_of;
-
-fn parse_run(
-    pair: Pair,
-    b: u8,
-    count: usize,
-    current_year: u32,
-    text: &[u8],
-    cursor: Cursor,
-) -> PartRead
-    requires { ⌜ cursor .at ≤ length (now text) ⌝ }
-    ensures { λ r. ⌜ r ≡ partAt (cursor .at) (readStep english «current_year» (runStep (roleOf pair b count) b count) (drop (cursor .at) (now (text .entry)))) ⌝ }
-{
-    let role = role_of(pair, b, count);
-    match role {
-        Role::Literal => pass(count, text, cursor),
-        Role::Symbol(rule) => parse_rule(rule, current_year, text, cursor),
-    }
-}
 
 // "Literals are skipped unseen": one byte of text for each that the part stands for.
 pub fn parse_part(

@@ -2,8 +2,8 @@
 use borrow.Author.Needs.{needs}
 use lib.ListN.{length-replicate}
 use Rattle.meaning.specs.Reading.{readStep}
-use Rattle.symbols.proofs.part.parse_run.Statement.{statement}
-use Rattle.symbols.proofs.part.parse_run.Tie as tie
+use Rattle.symbols.proofs.run.parse_symbol.Statement.{statement}
+use Rattle.symbols.proofs.run.parse_symbol.Tie as tie
 
 role-of-requires : tie.Need-role-of-requires
 role-of-requires c κs = search needs
@@ -28,8 +28,8 @@ returns-2 : tie.Need-returns-2
 unfolding readStep
 returns-2 c = rw (← c .before .before .before .before .role-of .ensures, c .before .before .role .given .1) (c .parse-rule .ensures)
 
-pub parse-run-spec : {M : Type 1} → statement M
-parse-run-spec =
+pub parse-symbol-spec : {M : Type 1} → statement M
+parse-symbol-spec =
     tie.close
     (tie.spec
     role-of-requires
