@@ -10,7 +10,6 @@ ghost use Rattle.meaning.specs.Writing.{stepOf, stepText};
 ghost use Rattle.meaning.specs.declared.Checked.the-variants.{Fine};
 ghost use Rattle.parts.proofs.Laws.{Next};
 ghost use Rattle.parts.specs.First.{contentOf};
-use crate::run::put_run;
 use laying::put_times;
 use leaves::literals::put_open;
 use leaves::literals::put_unescaped;
@@ -19,6 +18,7 @@ use meaning::Kind;
 use meaning::Pair;
 use meaning::Part;
 use parts::next_part;
+use runs::run::put_run;
 
 pub fn format_part(
     pair: Pair,

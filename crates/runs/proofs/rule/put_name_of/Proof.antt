@@ -1,7 +1,7 @@
 -- The name is there, and it is written.
 use borrow.Author.Needs.{needs}
-use Rattle.format.proofs.rule.put_name_of.Statement.{statement}
-use Rattle.format.proofs.rule.put_name_of.Tie as tie
+use Rattle.runs.proofs.rule.put_name_of.Statement.{statement}
+use Rattle.runs.proofs.rule.put_name_of.Tie as tie
 use Rattle.laws.proofs.Fields.{allowed}
 use Rattle.laws.proofs.Places.{place-there}
 use Rattle.meaning.specs.Writing.{nameText}

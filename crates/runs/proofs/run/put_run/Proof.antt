@@ -2,9 +2,9 @@
 use borrow.Author.Needs.{needs}
 use lib.ListN.{length-replicate}
 use native.Mathlib.Omega.{arith}
-use Rattle.format.proofs.Runs.{literal-run, short-run}
-use Rattle.format.proofs.run.put_run.Statement.{statement}
-use Rattle.format.proofs.run.put_run.Tie as tie
+use Rattle.runs.proofs.Runs.{literal-run, short-run}
+use Rattle.runs.proofs.run.put_run.Statement.{statement}
+use Rattle.runs.proofs.run.put_run.Tie as tie
 
 put-times-requires : tie.Need-put-times-requires
 put-times-requires c κs =

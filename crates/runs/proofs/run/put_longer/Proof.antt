@@ -2,9 +2,9 @@
 use borrow.Author.Needs.{needs}
 use mir.Syntax.{w32}
 use mir.ValLaws.{toZ-ofZ}
-use Rattle.format.proofs.Runs.{year-run}
-use Rattle.format.proofs.run.put_longer.Statement.{statement}
-use Rattle.format.proofs.run.put_longer.Tie as tie
+use Rattle.runs.proofs.Runs.{year-run}
+use Rattle.runs.proofs.run.put_longer.Statement.{statement}
+use Rattle.runs.proofs.run.put_longer.Tie as tie
 
 zero-padded-i-requires : tie.Need-zero-padded-i-requires
 zero-padded-i-requires c κs =

@@ -1,7 +1,7 @@
 -- Each number is its quantity.
 use borrow.Author.Needs.{needs}
-use Rattle.format.proofs.run.short_number.Statement.{statement}
-use Rattle.format.proofs.run.short_number.Tie as tie
+use Rattle.runs.proofs.run.short_number.Statement.{statement}
+use Rattle.runs.proofs.run.short_number.Tie as tie
 
 enum-told : tie.Need-enum-told
 enum-told c = search needs

@@ -1,7 +1,7 @@
 -- The quantity, padded.
 use borrow.Author.Needs.{needs}
-use Rattle.format.proofs.rule.put_quantity.Statement.{statement}
-use Rattle.format.proofs.rule.put_quantity.Tie as tie
+use Rattle.runs.proofs.rule.put_quantity.Statement.{statement}
+use Rattle.runs.proofs.rule.put_quantity.Tie as tie
 
 quantity-of-requires : tie.Need-quantity-of-requires
 quantity-of-requires c κs = search needs

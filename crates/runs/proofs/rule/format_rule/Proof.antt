@@ -1,7 +1,7 @@
 -- Each arm writes the text of its rule.
 use borrow.Author.Needs.{needs}
-use Rattle.format.proofs.rule.format_rule.Statement.{statement}
-use Rattle.format.proofs.rule.format_rule.Tie as tie
+use Rattle.runs.proofs.rule.format_rule.Statement.{statement}
+use Rattle.runs.proofs.rule.format_rule.Tie as tie
 use Rattle.meaning.specs.Writing.{ruleText}
 use mir.Syntax.{w32}
 use mir.ValLaws.{toZ-ofZ}

@@ -1,7 +1,7 @@
 -- The letter, then the quarter.
 use borrow.Author.Needs.{needs}
-use Rattle.format.proofs.rule.put_letter_quarter.Statement.{statement}
-use Rattle.format.proofs.rule.put_letter_quarter.Tie as tie
+use Rattle.runs.proofs.rule.put_letter_quarter.Statement.{statement}
+use Rattle.runs.proofs.rule.put_letter_quarter.Tie as tie
 use Rattle.laws.proofs.Laid.{laid-then}
 
 put-byte-requires : tie.Need-put-byte-requires
