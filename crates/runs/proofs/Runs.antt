@@ -1,4 +1,4 @@
--- What runs write that need no rule looked up: literals, years, and the numbers that patterns have most.
+-- What runs write that need no rule looked up: literals, years, names, and the numbers that patterns have most.
 use mathlib.Core.Bool.{true, false}
 use mathlib.Core.List.{List}
 use mathlib.Core.Path.{_≡_, refl, _∙_}
@@ -6,13 +6,14 @@ use Prim.Native.Nat.{ℕ, _≤_, _<_}
 use native.Mathlib.Omega.{arith}
 use lib.Dec.{eqb}
 use lib.ListN.{replicate}
-use borrow.Author.Tests.{eqb-true, ne-eqb}
+use borrow.Author.Tests.{eq-eqb, ne-eqb, eqb-true, eqb-false}
 use Rattle.laws.proofs.Tests.{by-test}
 use Rattle.meaning.specs.Bytes.{when, num}
 use Rattle.meaning.specs.Names.{english}
 use Rattle.meaning.specs.Rules.{roleOf, dateRole, roleAmong, ruleOf, pick, otherwiseRule}
-use Rattle.meaning.specs.Writing.{quantityOf, signedText, runStep, stepText, ruleText}
+use Rattle.meaning.specs.Writing.{quantityOf, nameText, signedText, runStep, stepText, ruleText}
 use Rattle.meaning.specs.declared.Fields.{Fields}
+use Rattle.meaning.specs.declared.NameList.the-variants.{MonthAbbreviated, MonthNarrow, MonthWide, WdayAbbreviated, WdayWide, WdayNarrow, WdayShort}
 use Rattle.meaning.specs.declared.Pair.{Pair}
 use Rattle.rules.proofs.Laws.{below-letters, is-date}
 use Rattle.rules.proofs.ShortRules.{short-role}
@@ -34,6 +35,24 @@ year-run pair c f long =
     let one = ne-eqb c 1 (λ e. omega (arith, e)) in
     rw (is-date pair 121 c refl, two, one)
     (by-test (eqb c 3) (λ e. rw (e, eqb-true c 3 e)) (λ e. rw e (by-test (eqb c 4) (λ e′. rw (e′, eqb-true c 4 e′)) (λ e′. rw e′))))
+
+-- names of a month, of a weekday
+pub month-run : (pair : Pair) (c : ℕ) (f : Fields) → 2 < c
+    → runText pair 77 c f ≡ nameText english (when (eqb c 3) MonthAbbreviated (when (eqb c 5) MonthNarrow MonthWide)) f
+unfolding stepText ruleText dateRole roleAmong ruleOf pick otherwiseRule isAmong
+month-run pair c f long =
+    rw (is-date pair 77 c refl, ne-eqb c 1 (λ e. omega (arith, e)), ne-eqb c 2 (λ e. omega (arith, e)))
+    (by-test (eqb c 3) (λ e. rw e) (λ e. rw e (by-test (eqb c 5) (λ e′. rw e′) (λ e′. rw e′))))
+
+pub weekday-run : (pair : Pair) (c : ℕ) (f : Fields) → 2 < c → c ≤ 6
+    → runText pair 101 c f ≡ nameText english (when (eqb c 3) WdayAbbreviated (when (eqb c 4) WdayWide (when (eqb c 5) WdayNarrow WdayShort))) f
+unfolding stepText ruleText dateRole roleAmong ruleOf pick otherwiseRule isAmong
+weekday-run pair c f long few =
+    rw (is-date pair 101 c refl, ne-eqb c 2 (λ e. omega (arith, e)))
+    (by-test (eqb c 3) (λ e. rw e)
+    (λ e. rw e (by-test (eqb c 4) (λ e′. rw e′)
+    (λ e′. rw e′ (by-test (eqb c 5) (λ e″. rw e″)
+    (λ e″. rw (e″, eq-eqb c 6 (omega (arith, eqb-false c 3 e, eqb-false c 4 e′, eqb-false c 5 e″)))))))))
 
 pub short-run : (pair : Pair) (b c n : ℕ) (f : Fields) → 0 < c → c ≤ 2
     → n ≡ when (isShort (shortOf pair b)) (quantityOf (shortQuantity (shortOf pair b)) f) 100 → n < 100 → runText pair b c f ≡ num c n

@@ -1,6 +1,8 @@
-// What a run of equal bytes writes. Literals, and the numbers and years that patterns have most, need no rule looked up.
+// What a run of equal bytes writes. Literals, and the numbers, years and names that patterns have
+// most, need no rule looked up.
 ghost use mathlib.Core.Path.{_≡_};
 ghost use Prim.Native.Nat.{_+_, _≤_, _<_};
+ghost use lib.Dec.{eqb};
 ghost use lib.ListN.{length};
 ghost use Rattle.laws.specs.Laid.{Laid};
 ghost use Rattle.meaning.specs.Answers.{fieldsCheck};
@@ -11,10 +13,12 @@ ghost use Rattle.meaning.specs.Writing.{quantityOf, runStep, stepText};
 ghost use Rattle.meaning.specs.declared.Checked.the-variants.{Fine};
 ghost use Rattle.rules.specs.ShortRules.{isShort, shortQuantity};
 use crate::rule::format_rule;
+use crate::rule::put_name_of;
 use laying::put_short;
 use laying::put_times;
 use leaves::years::zero_padded_i;
 use meaning::Fields;
+use meaning::NameList;
 use meaning::Pair;
 use meaning::Quantity;
 use meaning::Role;
@@ -51,6 +55,33 @@ fn put_symbol(pair: Pair, b: u8, count: usize, f: Fields, out: &mut [u8], at: us
     }
 }
 
+fn month_names(count: usize) -> NameList
+    ensures { λ r. ⌜ r ≡ when (eqb count 3) NameList.MonthAbbreviated (when (eqb count 5) NameList.MonthNarrow NameList.MonthWide) ⌝ }
+{
+    if count == 3 {
+        return NameList::MonthAbbreviated;
+    }
+    if count == 5 {
+        return NameList::MonthNarrow;
+    }
+    NameList::MonthWide
+}
+
+fn weekday_names(count: usize) -> NameList
+    ensures { λ r. ⌜ r ≡ when (eqb count 3) NameList.WdayAbbreviated (when (eqb count 4) NameList.WdayWide (when (eqb count 5) NameList.WdayNarrow NameList.WdayShort)) ⌝ }
+{
+    if count == 3 {
+        return NameList::WdayAbbreviated;
+    }
+    if count == 4 {
+        return NameList::WdayWide;
+    }
+    if count == 5 {
+        return NameList::WdayNarrow;
+    }
+    NameList::WdayShort
+}
+
 // More than two bytes.
 fn put_longer(pair: Pair, b: u8, count: usize, f: Fields, out: &mut [u8], at: usize) -> usize
     requires { ⌜ fieldsCheck f ≡ Fine ⌝ }
@@ -59,6 +90,15 @@ fn put_longer(pair: Pair, b: u8, count: usize, f: Fields, out: &mut [u8], at: us
 {
     if b == b'y' {
         return zero_padded_i(f.year, count, out, at);
+    }
+    if b == b'M' {
+        return put_name_of(month_names(count), f, out, at);
+    }
+    if 6 < count {
+        return put_symbol(pair, b, count, f, out, at);
+    }
+    if b == b'e' {
+        return put_name_of(weekday_names(count), f, out, at);
     }
     put_symbol(pair, b, count, f, out, at)
 }

@@ -1,8 +1,9 @@
--- A year is its text.
+-- A year and a name are their texts.
 use borrow.Author.Needs.{needs}
 use mir.Syntax.{w32}
 use mir.ValLaws.{toZ-ofZ}
-use Rattle.runs.proofs.Runs.{year-run}
+use native.Mathlib.Omega.{arith}
+use Rattle.runs.proofs.Runs.{year-run, month-run, weekday-run}
 use Rattle.runs.proofs.run.put_longer.Statement.{statement}
 use Rattle.runs.proofs.run.put_longer.Tie as tie
 
@@ -24,14 +25,61 @@ returns c =
     let text = year-run (a .args .pair) (a .args .count) (a .args .f) (a .pre .1 .0) in
     rw (m .before .before .if1 .taken, text) (rw e at (c .before .before .zero-padded-i .ensures))
 
-put-symbol-requires : tie.Need-put-symbol-requires
-put-symbol-requires c κs = search needs
+month-names-requires : tie.Need-month-names-requires
+month-names-requires c κs = search needs
+
+put-name-of-requires : tie.Need-put-name-of-requires
+put-name-of-requires c κs =
+    let a = c .before .before .before .before .before in
+    let text = month-run (a .args .pair) (a .args .count) (a .args .f) (a .pre .1 .0) in
+    (a .pre .0, rw (c .before .month-names .ensures, ← text, ← c .before .before .if2 .taken) (a .pre .1 .1))
 
 same-length-2 : tie.Need-same-length-2
 same-length-2 c = search needs
 
 returns-2 : tie.Need-returns-2
-returns-2 c = search needs
+returns-2 c =
+    let m = c .before .before .before in
+    let a = m .before .before .before .before .before in
+    let text = month-run (a .args .pair) (a .args .count) (a .args .f) (a .pre .1 .0) in
+    rw (m .before .before .if2 .taken, text, ← m .before .month-names .ensures) (c .before .before .put-name-of .ensures)
+
+put-symbol-requires : tie.Need-put-symbol-requires
+put-symbol-requires c κs = search needs
+
+same-length-3 : tie.Need-same-length-3
+same-length-3 c = search needs
+
+returns-3 : tie.Need-returns-3
+returns-3 c = search needs
+
+weekday-names-requires : tie.Need-weekday-names-requires
+weekday-names-requires c κs = search needs
+
+put-name-of-requires-2 : tie.Need-put-name-of-requires-2
+put-name-of-requires-2 c κs =
+    let a = c .before .before .before .before .before .before .before in
+    let text = weekday-run (a .args .pair) (a .args .count) (a .args .f) (a .pre .1 .0) (omega (arith, c .before .before .before .if3 .left)) in
+    (a .pre .0, rw (c .before .weekday-names .ensures, ← text, ← c .before .before .if4 .taken) (a .pre .1 .1))
+
+same-length-4 : tie.Need-same-length-4
+same-length-4 c = search needs
+
+returns-4 : tie.Need-returns-4
+returns-4 c =
+    let m = c .before .before .before in
+    let a = m .before .before .before .before .before .before .before in
+    let text = weekday-run (a .args .pair) (a .args .count) (a .args .f) (a .pre .1 .0) (omega (arith, m .before .before .before .if3 .left)) in
+    rw (m .before .before .if4 .taken, text, ← m .before .weekday-names .ensures) (c .before .before .put-name-of2 .ensures)
+
+put-symbol-requires-2 : tie.Need-put-symbol-requires-2
+put-symbol-requires-2 c κs = search needs
+
+same-length-5 : tie.Need-same-length-5
+same-length-5 c = search needs
+
+returns-5 : tie.Need-returns-5
+returns-5 c = search needs
 
 pub put-longer-spec : {M : Type 1} → statement M
 put-longer-spec =
@@ -40,6 +88,17 @@ put-longer-spec =
     zero-padded-i-requires
     same-length
     returns
-    put-symbol-requires
+    month-names-requires
+    put-name-of-requires
     same-length-2
-    returns-2)
+    returns-2
+    put-symbol-requires
+    same-length-3
+    returns-3
+    weekday-names-requires
+    put-name-of-requires-2
+    same-length-4
+    returns-4
+    put-symbol-requires-2
+    same-length-5
+    returns-5)
