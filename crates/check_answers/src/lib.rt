@@ -11,8 +11,8 @@ use laying::put_bytes;
 use meaning::Fields;
 use meaning::Verdict;
 use refusals::Detail;
-use requests::BYTES_ROOM;
-use requests::bytes_at;
+use request_bytes::BYTES_ROOM;
+use request_bytes::bytes_at;
 use requests::signed_at;
 use verdict::verdict_on;
 

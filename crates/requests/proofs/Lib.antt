@@ -1,3 +1,2 @@
 pub mod Opposites
-mod Words
-mod ByteStrings
+pub mod Words

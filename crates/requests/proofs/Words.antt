@@ -13,7 +13,7 @@ use Rattle.words.specs.Words.{IsWord}
 use Rattle.words.specs.declared.numbers.Number.{Number}
 use Rattle.meaning.specs.Bytes.{when}
 use Rattle.meaning.specs.Numerals.{integer}
-use Rattle.requests.specs.Words.{endFrom, wordFrom, numbered, numberAt, counted, countAt, signed, signedAt, said, bytesAt}
+use Rattle.requests.specs.Words.{endFrom, wordFrom, numbered, numberAt, counted, countAt, signed, signedAt}
 use Rattle.requests.specs.declared.NumberAt.{NumberAt}
 
 module _ (line : List ℕ) (at start end : ℕ) (w : IsWord line at start end) where
@@ -24,10 +24,6 @@ module _ (line : List ℕ) (at start end : ℕ) (w : IsWord line at start end) w
   pub word-is : take (end - start) (drop start line) ≡ wordFrom line at
   unfolding wordFrom
   word-is = rw (word-ends, w .starts)
-
-  pub bytes-are : said (take (end - start) (drop start line)) (end + 1) (length line) ≡ bytesAt line at
-  unfolding bytesAt
-  bytes-are = rw (word-is, word-ends)
 
   pub word-length : length (take (end - start) (drop start line)) ≡ end - start
   word-length = simp (length-take, length-drop) (omega (arith, w .ends, w .inside))

@@ -1,22 +1,17 @@
--- What the words of a request say, each with the place of the next word. A word that is not what is asked for leaves the
+-- What the words of a request say as numbers, each with the place of the next word. A word that is not what is asked for leaves the
 -- place at the line's end, where a word is empty.
-use mathlib.Core.Bool.{Bool, true, false}
-use mathlib.Core.List.{List, [], _∷_}
-use mathlib.Core.Path.{_≡_}
+use mathlib.Core.Bool.{false}
+use mathlib.Core.List.{List}
 use Prim.Native.Nat.{ℕ, _+_, _-_, min}
-use lib.Dec.{eqb, ltb}
+use lib.Dec.{ltb}
 use lib.IntN.{pos}
 use lib.ListN.{length, take, drop}
-use lib.Seq.{sets}
 use Rattle.bytes.specs.Bytes.{indexOf, slice}
-use Rattle.io.specs.Counts.{Counts}
 use Rattle.words.specs.Decimal.{numberOf}
-use Rattle.hex.specs.Hex.{isHex, fromHex}
 use Rattle.words.specs.declared.numbers.Number.{Number}
 use Rattle.words.specs.declared.numbers.Number.the-variants.{Bad, Is}
-use Rattle.meaning.specs.Bytes.{when, minus}
+use Rattle.meaning.specs.Bytes.{when}
 use Rattle.meaning.specs.Numerals.{integer}
-use Rattle.requests.specs.declared.BytesAt.{BytesAt}
 use Rattle.requests.specs.declared.CountAt.{CountAt}
 use Rattle.requests.specs.declared.FieldsAt.{FieldsAt}
 use Rattle.requests.specs.declared.NumberAt.{NumberAt}
@@ -79,24 +74,3 @@ fieldsAt line at =
           };
       next = offset .next;
     }
-
-unfoldable pub isDash : List ℕ → Bool
-isDash [] = false
-isDash (b ∷ []) = eqb b minus
-isDash (b ∷ (c ∷ s)) = false
-
--- a byte string: a dash where it has none, else two digits for each
-abbrev pub said : List ℕ → ℕ → ℕ → BytesAt
-said word next end =
-    when (eqb (length word) 0) (record { length = 0; next = end })
-    (when (isDash word) (record { length = 0; next = next })
-    (when (isHex word) (record { length = length (fromHex word); next = next }) (record { length = 0; next = end })))
-
-unfoldable pub bytesAt : List ℕ → ℕ → BytesAt
-bytesAt line at = said (wordFrom line at) (endFrom line at + 1) (length line)
-
--- the answer, and the bytes in the output from its start
-pub record SaysBytes (line : List ℕ) (at : ℕ) (old new : List ℕ) (r : BytesAt) : Type 0 where
-  pub answer : r ≡ bytesAt line at
-  pub held : isHex (wordFrom line at) ≡ true → new ≡ sets old 0 (fromHex (wordFrom line at))
-  pub counts : Counts (r .length) new

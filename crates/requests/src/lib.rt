@@ -1,21 +1,15 @@
-// The words of a request, each with the place of the next one. A word that is not what is asked for leaves the place at
+// The numbers of a request, each with the place of the next word. A word that is not what is asked for leaves the place at
 // the line's end, where a word is empty: so all were good exactly if the place behind the last is beyond the end.
 ghost use mathlib.Core.Path.{_≡_};
-ghost use Prim.Native.Nat.{_*_, _≤_};
+ghost use Prim.Native.Nat.{_≤_};
 ghost use lib.IntN.{pos, negℤ};
-ghost use lib.ListN.{length};
 ghost use Rattle.meaning.specs.Bytes.{when};
 ghost use Rattle.meaning.specs.Numerals.{integer};
-ghost use Rattle.requests.specs.Words.{numberAt, countAt, signedAt, fieldsAt, SaysBytes};
-use hex::Decoded;
-use hex::decode;
+ghost use Rattle.requests.specs.Words.{numberAt, countAt, signedAt, fieldsAt};
 use meaning::Fields;
 use words::numbers::Number;
 use words::numbers::number_of;
 use words::word_from;
-
-// Room for the bytes of any line.
-pub const BYTES_ROOM: usize = 10000;
 
 pub struct NumberAt {
     pub negative: bool,
@@ -35,11 +29,6 @@ pub struct SignedAt {
 
 pub struct FieldsAt {
     pub fields: Fields,
-    pub next: usize,
-}
-
-pub struct BytesAt {
-    pub length: usize,
     pub next: usize,
 }
 
@@ -150,37 +139,5 @@ pub fn fields_at(line: &[u8], at: usize) -> FieldsAt
     FieldsAt {
         fields: fields,
         next: offset.next,
-    }
-}
-
-// A byte string, in the output from its start.
-pub fn bytes_at(line: &[u8], at: usize, out: &mut [u8]) -> BytesAt
-    requires { ⌜ length (now line) ≤ 2 * length (now out) ⌝ }
-    ensures { λ r. ⌜ SaysBytes (now (line .entry)) at (now (out .entry)) (now (out .exit)) r ⌝ }
-{
-    let word = word_from(line, at);
-    let start = word.start;
-    let end = word.end;
-    if start == end {
-        return BytesAt {
-            length: 0,
-            next: line.len(),
-        };
-    }
-    if check::same(&line[start..end], b"-") {
-        return BytesAt {
-            length: 0,
-            next: end + 1,
-        };
-    }
-    match decode(&line[start..end], out) {
-        Decoded::Length(n) => BytesAt {
-            length: n,
-            next: end + 1,
-        },
-        Decoded::Bad => BytesAt {
-            length: 0,
-            next: line.len(),
-        },
     }
 }

@@ -12,8 +12,8 @@ use meaning::Part;
 use meaning::Refusal;
 use meaning::Split;
 use pattern::parse_format_string;
-use requests::BYTES_ROOM;
-use requests::bytes_at;
+use request_bytes::BYTES_ROOM;
+use request_bytes::bytes_at;
 use words::numbers::put_size;
 
 fn put_kind(kind: Kind, out: &mut [u8], at: usize) -> usize

@@ -12,8 +12,8 @@ use laying::put_byte;
 use meaning::Fields;
 use meaning::Pair;
 use meaning::Wrote;
-use requests::BYTES_ROOM;
-use requests::bytes_at;
+use request_bytes::BYTES_ROOM;
+use request_bytes::bytes_at;
 use requests::count_at;
 use requests::fields_at;
 

@@ -65,8 +65,8 @@ returns c =
     let need = c .before .before .before .before .part-need .ensures in
     let met = c .before .before .meets .ensures in
     let answered = not-true (c .before .before .meets .result) (c .before .if1 .taken) in
-    let fails : meets (stepNeed s) ss ≡ false = cc in
-    rw (← L .inv .0, here, failing-here (L .i) s ss fails, ← c .before .before .before .before .part-need .ensures, c .witness .ensures)
+    let fails : meets (stepNeed s) ss ≡ false = rw (← need) (sym met ∙ answered) in
+    rw (c .witness .ensures, need) (sym (failing-here (L .i) s ss fails) ∙ rw (← here) (L .inv .0))
 
 add-i : tie.Need-add-i Inv-loop μ-loop
 add-i c =
@@ -96,7 +96,7 @@ loop-again c =
     let need = c .before .before .before .part-need .ensures in
     let met = c .before .meets .ensures in
     let answered = not-false (c .before .meets .result) (c .if1 .left) in
-    let holds : meets (stepNeed s) ss ≡ true = cc in
+    let holds : meets (stepNeed s) ss ≡ true = rw (← need) (sym met ∙ answered) in
     (rw add-one (sym (failing-on (L .i) s ss holds) ∙ rw (← here) (L .inv .0)), omega (arith, n .some, L .inv .1))
 
 returns-2 : tie.Need-returns-2 Inv-loop μ-loop

@@ -4,8 +4,8 @@ use borrow.Author.Needs.{needs}
 use lib.ListN.{length}
 use mathlib.Core.Path.{_≡_, refl}
 use native.Mathlib.Omega.{arith}
-use Rattle.read_answers.proofs.put_values.Statement.{statement}
-use Rattle.read_answers.proofs.put_values.Tie as tie
+use Rattle.read_pieces.proofs.put_values.Statement.{statement}
+use Rattle.read_pieces.proofs.put_values.Tie as tie
 
 abbrev Inv-loop : tie.InvT-loop
 Inv-loop out₀ at values next₀ i₀ out next i = (i ≤ 15) × (next ≤ at + 22 * i) × (at + 330 ≤ length out) × (length out ≡ length out₀)

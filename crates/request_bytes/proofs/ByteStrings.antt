@@ -15,9 +15,10 @@ use Rattle.words.specs.Words.{IsWord}
 use Rattle.hex.specs.declared.Decoded.{Decoded}
 use Rattle.hex.specs.declared.Decoded.the-variants.{Bad, Length}
 use Rattle.meaning.specs.Bytes.{when, minus}
-use Rattle.requests.proofs.Words.{word-is, word-length, bytes-are}
-use Rattle.requests.specs.Words.{wordFrom, isDash, SaysBytes}
-use Rattle.requests.specs.declared.BytesAt.{BytesAt}
+use Rattle.request_bytes.specs.ByteWords.{isDash, said, bytesAt, SaysBytes}
+use Rattle.request_bytes.specs.declared.BytesAt.{BytesAt}
+use Rattle.requests.proofs.Words.{word-ends, word-is, word-length}
+use Rattle.requests.specs.Words.{wordFrom}
 
 no-dash : (w : List ℕ) → (w ≡ (minus ∷ []) → ⊥) → isDash w ≡ false
 unfolding isDash
@@ -38,6 +39,10 @@ decoded-fits w out next end Bad e room = (omega arith, refl)
 decoded-fits w out next end (Length n) e room = counts n out (omega (arith, decoded-small w n (sym e)))
 
 module _ (line : List ℕ) (at start end : ℕ) (w : IsWord line at start end) where
+  bytes-are : said (take (end - start) (drop start line)) (end + 1) (length line) ≡ bytesAt line at
+  unfolding bytesAt
+  bytes-are = rw (word-is line at start end w, word-ends line at start end w)
+
   empty : start ≡ end → wordFrom line at ≡ []
   empty e =
       let none : end - start ≡ 0 = omega (arith, e) in
@@ -47,7 +52,7 @@ module _ (line : List ℕ) (at start end : ℕ) (w : IsWord line at start end) w
   unfolding fromHex
   says-none out e =
       record {
-        answer = rw (eq-eqb (length (take (end - start) (drop start line))) 0 (omega (arith, e, word-length line at start end w))) at (bytes-are line at start end w);
+        answer = rw (eq-eqb (length (take (end - start) (drop start line))) 0 (omega (arith, e, word-length line at start end w))) at bytes-are;
         held = λ h. rw (empty e);
         counts = (omega arith, refl);
       }
@@ -56,7 +61,7 @@ module _ (line : List ℕ) (at start end : ℕ) (w : IsWord line at start end) w
   unfolding isDash isHex
   says-dash out e =
       record {
-        answer = rw e at (bytes-are line at start end w);
+        answer = rw e at bytes-are;
         held = λ h. let no : false ≡ true = rw (← word-is line at start end w, e) at h in let z : _≡_ {A = ℕ} 0 1 = cc in absurd (omega arith);
         counts = (omega arith, refl);
       }
@@ -67,7 +72,7 @@ module _ (line : List ℕ) (at start end : ℕ) (w : IsWord line at start end) w
   says-decoded some other old new d dec kept room =
       let word = take (end - start) (drop start line) in
       let long = word-length line at start end w in
-      let is = rw (ne-eqb (length word) 0 (λ z. some (omega (arith, w .ends))), no-dash word other, ← by-digits word (end + 1) (length line), ← dec .answer) at (bytes-are line at start end w) in
+      let is = rw (ne-eqb (length word) 0 (λ z. some (omega (arith, w .ends))), no-dash word other, ← by-digits word (end + 1) (length line), ← dec .answer) at bytes-are in
       record {
         answer = is;
         held = λ h. rw (← word-is line at start end w) (dec .held (rw (← word-is line at start end w) at h));

@@ -1,7 +1,7 @@
 -- At most 28 bytes, and seventeen numbers of at most 22.
 use borrow.Author.Needs.{needs}
-use Rattle.read_answers.proofs.put_reading.Statement.{statement}
-use Rattle.read_answers.proofs.put_reading.Tie as tie
+use Rattle.read_pieces.proofs.put_reading.Statement.{statement}
+use Rattle.read_pieces.proofs.put_reading.Tie as tie
 use Rattle.io.proofs.Counting.{counts}
 
 slice-aggregate-put-counted : tie.Need-slice-aggregate-put-counted

@@ -3,9 +3,9 @@ use mathlib.Core.Path.{sym, _∙_}
 use borrow.Author.Needs.{needs}
 use denote.Ref.{now}
 use Rattle.laws.proofs.Tests.{true-is-not-false}
-use Rattle.requests.proofs.ByteStrings.{says-none, says-dash, says-decoded}
-use Rattle.requests.proofs.bytes_at.Statement.{statement}
-use Rattle.requests.proofs.bytes_at.Tie as tie
+use Rattle.request_bytes.proofs.ByteStrings.{says-none, says-dash, says-decoded}
+use Rattle.request_bytes.proofs.bytes_at.Statement.{statement}
+use Rattle.request_bytes.proofs.bytes_at.Tie as tie
 
 word-from-requires : tie.Need-word-from-requires
 word-from-requires c κs = search needs

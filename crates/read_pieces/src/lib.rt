@@ -1,0 +1,73 @@
+// The pieces of the answers of a read and of parse_offset: a reading, one that is refused, an offset.
+ghost use Prim.Native.Nat.{_+_, _≤_};
+ghost use lib.ListN.{length};
+ghost use Rattle.io.specs.Counts.{Counts};
+use answer_pieces::answer_refused;
+use answer_pieces::put_counted;
+use answer_pieces::put_detail;
+use fields::signed::is_negative;
+use fields::signed::size;
+use fields::signed::size_of;
+use laying::put_bytes;
+use meaning::Reading;
+use meaning::Refusal;
+use refusals::Detail;
+use words::numbers::put_number;
+
+fn put_value(value: i64, out: &mut [u8], at: usize) -> usize
+    requires { ⌜ at + 22 ≤ length (now out) ⌝ }
+    ensures { λ r. ⌜ r ≤ at + 22 ⌝ }
+{
+    let detail = Detail {
+        negative: value < 0,
+        size: size_of(value),
+    };
+    put_detail(detail, out, at)
+}
+
+fn put_values(values: [i64; 15], out: &mut [u8], at: usize) -> usize
+    requires { ⌜ at + 330 ≤ length (now out) ⌝ }
+    ensures { λ r. ⌜ r ≤ at + 330 ⌝ }
+{
+    let mut next = at;
+    let mut i = 0;
+    while i < 15 {
+        next = put_value(values[i], out, next);
+        i += 1;
+    }
+    next
+}
+
+pub fn put_reading(reading: Reading, out: &mut [u8]) -> usize
+    requires { ⌜ 16384 ≤ length (now out) ⌝ }
+    ensures { λ r. ⌜ Counts r (now (out .exit)) ⌝ }
+{
+    let taken = reading.taken;
+    let mask = reading.mask;
+    let units = reading.units;
+    let values = reading.values;
+    let first = put_counted(b"read ", taken as u64, out);
+    let second = put_value(mask as i64, out, first);
+    let third = put_value(units as i64, out, second);
+    put_values(values, out, third)
+}
+
+// A refused reading gives only the refusal: one that holds anything else is shown as it is.
+pub fn put_refused(reading: Reading, why: Refusal, out: &mut [u8]) -> usize
+    requires { ⌜ 16384 ≤ length (now out) ⌝ }
+    ensures { λ r. ⌜ Counts r (now (out .exit)) ⌝ }
+{
+    let n = put_reading(reading, out);
+    if !check::same(&out[..n], b"read 0 0 0 0 0 0 0 0 0 0 0 0 0 0 0 0 0 0") {
+        return n;
+    }
+    answer_refused(why, out)
+}
+
+pub fn put_offset(seconds: i32, out: &mut [u8]) -> usize
+    requires { ⌜ 16384 ≤ length (now out) ⌝ }
+    ensures { λ r. ⌜ Counts r (now (out .exit)) ⌝ }
+{
+    let words = put_bytes(b"offset ", out, 0);
+    put_number(is_negative(seconds), size(seconds) as u64, out, words)
+}
