@@ -18,7 +18,7 @@ use meaning::Kind;
 use meaning::Pair;
 use meaning::Part;
 use parts::next_part;
-use runs::run::put_run;
+use runs::put_run;
 
 pub fn format_part(
     pair: Pair,

@@ -1,3 +1,2 @@
 pub mod NameParts
 pub mod Within
-pub mod Runs

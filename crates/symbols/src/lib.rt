@@ -1,5 +1,3 @@
-// Reading, document 01's column Reads: what a name carries, what a rule, a run and a part reads.
+// Reading, document 01's column Reads: what a name carries, and what a symbol reads by its rule.
 pub mod names;
-pub mod part;
 pub mod rule;
-pub mod run;

@@ -11,10 +11,10 @@ use meaning::Reading;
 use meaning::Refusal;
 use parse::cursor::Cursor;
 use parse::cursor::PartRead;
+use part_reads::part::parse_part;
 use parts::next_part;
 use reading::no_reading;
 use reading::unit_number;
-use symbols::part::parse_part;
 
 // All parts in order; the first that can't be read refuses the whole.
 pub fn parse_parts(pair: Pair, pattern: &[u8], text: &[u8], current_year: u32) -> Reading

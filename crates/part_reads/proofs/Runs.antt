@@ -1,0 +1,55 @@
+-- What runs read that need no rule looked up: literals, years, and the numbers that patterns have most.
+use mathlib.Core.Bool.{true, false}
+use mathlib.Core.List.{List}
+use mathlib.Core.Path.{_≡_, refl}
+use Prim.Native.Nat.{ℕ, _+_, _≤_, _<_}
+use native.Mathlib.Omega.{arith}
+use lib.Dec.{eqb}
+use lib.ListN.{length-replicate}
+use borrow.Author.Tests.{eq-eqb, ne-eqb, eqb-false}
+use Rattle.laws.proofs.Tests.{by-test}
+use Rattle.meaning.specs.Names.{english}
+use Rattle.meaning.specs.Readers.{Got}
+use Rattle.meaning.specs.Reading.{passed, takenYear, yearLength, minusFirst, readRule, readStep}
+use Rattle.meaning.specs.Rules.{roleOf, dateRole, roleAmong, ruleOf, pick, otherwiseRule}
+use Rattle.meaning.specs.Writing.{runStep}
+use Rattle.meaning.specs.declared.Carried.{Carried}
+use Rattle.meaning.specs.declared.Pair.{Pair}
+use Rattle.rules.proofs.Laws.{below-letters, is-date}
+use Rattle.rules.proofs.ShortRules.{short-role}
+use Rattle.rules.specs.Letters.{isAmong}
+use Rattle.rules.specs.ShortRules.{isShort, shortOf}
+use Rattle.part_reads.specs.ShortReads.{shortRead}
+
+-- what c bytes b read
+abbrev pub runRead : ℕ → Pair → ℕ → ℕ → List ℕ → Got Carried
+runRead now pair b c s = readStep english now (runStep (roleOf pair b c) b c) s
+
+pub literal-read : (now : ℕ) (pair : Pair) (b c : ℕ) (s : List ℕ) → b < 65 → runRead now pair b c s ≡ passed c s
+unfolding readStep
+literal-read now pair b c s small = rw (below-letters pair b c small, length-replicate)
+
+-- a year of three digits or four reads all that follow, a longer one just as many
+pub years-read : (now : ℕ) (pair : Pair) (c : ℕ) (s : List ℕ) → 2 < c → c ≤ 4 → runRead now pair 121 c s ≡ takenYear (yearLength s) s
+unfolding readStep readRule dateRole roleAmong ruleOf pick otherwiseRule isAmong
+years-read now pair c s long few =
+    let two = ne-eqb c 2 (λ e. omega (arith, e)) in
+    let one = ne-eqb c 1 (λ e. omega (arith, e)) in
+    rw (is-date pair 121 c refl, two, one)
+    (by-test (eqb c 3) (λ e. rw e) (λ e. rw (e, eq-eqb c 4 (omega (arith, eqb-false c 3 e)))))
+
+pub fixed-read : (now : ℕ) (pair : Pair) (c : ℕ) (s : List ℕ) → 4 < c → runRead now pair 121 c s ≡ takenYear (minusFirst s + c) s
+unfolding readStep readRule dateRole roleAmong ruleOf pick otherwiseRule isAmong
+fixed-read now pair c s long =
+    rw (
+      is-date pair 121 c refl,
+      ne-eqb c 2 (λ e. omega (arith, e)),
+      ne-eqb c 1 (λ e. omega (arith, e)),
+      ne-eqb c 3 (λ e. omega (arith, e)),
+      ne-eqb c 4 (λ e. omega (arith, e)),
+    )
+
+pub short-read : (now : ℕ) (pair : Pair) (b c : ℕ) (s : List ℕ) → 0 < c → c ≤ 2 → isShort (shortOf pair b) ≡ true
+    → runRead now pair b c s ≡ shortRead (shortOf pair b) c s
+unfolding readStep readRule
+short-read now pair b c s some few short = rw (short-role pair b c some few short)

@@ -1,0 +1,136 @@
+// What a run of equal bytes reads. Literals, and the numbers and years that patterns have most, need no rule looked up.
+ghost use mathlib.Core.Path.{_≡_};
+ghost use Prim.Native.Nat.{_≤_, _<_};
+ghost use lib.ListN.{length, drop};
+ghost use Rattle.meaning.specs.Names.{english};
+ghost use Rattle.meaning.specs.Reading.{readStep};
+ghost use Rattle.meaning.specs.Rules.{roleOf};
+ghost use Rattle.meaning.specs.Writing.{runStep};
+ghost use Rattle.parse.specs.Steps.{partAt};
+ghost use Rattle.rules.specs.ShortRules.{isShort, shortUnit, shortMost};
+ghost use Rattle.part_reads.specs.ShortReads.{shortRead};
+use meaning::Pair;
+use meaning::ParseUnit;
+use meaning::Role;
+use numerals::extent;
+use parse::cursor::Cursor;
+use parse::cursor::PartRead;
+use parse::steps::pass;
+use parse::steps::take_number;
+use rules::role_of;
+use rules::short::Short;
+use rules::short::short_of;
+use symbols::rule::parse_rule;
+use years::parse_fixed_year;
+use years::parse_years;
+
+fn is_short(short: Short) -> bool
+    ensures { λ r. ⌜ r ≡ isShort short ⌝ }
+{
+    match short {
+        Short::Month => true,
+        Short::Day => true,
+        Short::Hour => true,
+        Short::Minute => true,
+        Short::Second => true,
+        Short::Other => false,
+    }
+}
+
+fn short_unit(short: Short) -> ParseUnit
+    ensures { λ r. ⌜ r ≡ shortUnit short ⌝ }
+{
+    match short {
+        Short::Month => ParseUnit::Month,
+        Short::Day => ParseUnit::DayOfMonth,
+        Short::Hour => ParseUnit::Hour,
+        Short::Minute => ParseUnit::Minute,
+        Short::Second => ParseUnit::Second,
+        Short::Other => ParseUnit::DayOfMonth,
+    }
+}
+
+fn short_most(short: Short, count: u8) -> u8
+    ensures { λ r. ⌜ r ≡ shortMost short count ⌝ }
+{
+    match short {
+        Short::Month => count,
+        Short::Day => 2,
+        Short::Hour => 2,
+        Short::Minute => 2,
+        Short::Second => 2,
+        Short::Other => 2,
+    }
+}
+
+fn parse_short(short: Short, count: u8, text: &[u8], cursor: Cursor) -> PartRead
+    requires { ⌜ cursor .at ≤ length (now text) ⌝ }
+    ensures { λ r. ⌜ r ≡ partAt (cursor .at) (shortRead short count (drop (cursor .at) (now (text .entry)))) ⌝ }
+{
+    let k = extent(count, short_most(short, count), text, cursor.at);
+    take_number(short_unit(short), 0, k, text, cursor)
+}
+
+// By the table.
+fn parse_symbol(
+    pair: Pair,
+    b: u8,
+    count: usize,
+    current_year: u32,
+    text: &[u8],
+    cursor: Cursor,
+) -> PartRead
+    requires { ⌜ cursor .at ≤ length (now text) ⌝ }
+    ensures { λ r. ⌜ r ≡ partAt (cursor .at) (readStep english «current_year» (runStep (roleOf pair b count) b count) (drop (cursor .at) (now (text .entry)))) ⌝ }
+{
+    let role = role_of(pair, b, count);
+    match role {
+        Role::Literal => pass(count, text, cursor),
+        Role::Symbol(rule) => parse_rule(rule, current_year, text, cursor),
+    }
+}
+
+// More than two bytes.
+fn parse_longer(
+    pair: Pair,
+    b: u8,
+    count: usize,
+    current_year: u32,
+    text: &[u8],
+    cursor: Cursor,
+) -> PartRead
+    requires { ⌜ (2 < count) × (cursor .at ≤ length (now text)) ⌝ }
+    ensures { λ r. ⌜ r ≡ partAt (cursor .at) (readStep english «current_year» (runStep (roleOf pair b count) b count) (drop (cursor .at) (now (text .entry)))) ⌝ }
+{
+    if b == b'y' {
+        if count <= 4 {
+            return parse_years(text, cursor);
+        }
+        return parse_fixed_year(count, text, cursor);
+    }
+    parse_symbol(pair, b, count, current_year, text, cursor)
+}
+
+pub fn parse_run(
+    pair: Pair,
+    b: u8,
+    count: usize,
+    current_year: u32,
+    text: &[u8],
+    cursor: Cursor,
+) -> PartRead
+    requires { ⌜ (0 < count) × (cursor .at ≤ length (now text)) ⌝ }
+    ensures { λ r. ⌜ r ≡ partAt (cursor .at) (readStep english «current_year» (runStep (roleOf pair b count) b count) (drop (cursor .at) (now (text .entry)))) ⌝ }
+{
+    if b < b'A' {
+        return pass(count, text, cursor);
+    }
+    if 2 < count {
+        return parse_longer(pair, b, count, current_year, text, cursor);
+    }
+    let short = short_of(pair, b);
+    if is_short(short) {
+        return parse_short(short, count as u8, text, cursor);
+    }
+    parse_symbol(pair, b, count, current_year, text, cursor)
+}
