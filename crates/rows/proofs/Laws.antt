@@ -1,7 +1,7 @@
 -- What a call gave, as it is stored; and the details of a refusal, their sizes and how they are laid.
 use mathlib.Core.Bool.{Bool, true, false}
 use mathlib.Core.List.{List, [], _∷_}
-use mathlib.Core.Path.{_≡_, refl, _∙_}
+use mathlib.Core.Path.{_≡_, refl}
 use Prim.Native.Nat.{ℕ, zero, suc, _-_, _<_, _^_}
 use native.Mathlib.Omega.{arith}
 use lib.IntN.{ℤ, pos, negℤ, natAbs}
@@ -22,8 +22,8 @@ use Rattle.rows.specs.Fits.{WhyFits, Count}
 use Rattle.rows.specs.Rows.{laid, refused, kindNumber}
 
 -- what a call gave, as it is stored
-pub stored : {z n : ℤ} → mag z < 2 ^ 63 → z ≡ n → toZ w64 (ofZ w64 z) ≡ n
-stored {z} small is = toZ-ofZ w64 z (record { sfits = small }) ∙ is
+pub stored : (z : ℤ) → mag z < 2 ^ 63 → toZ w64 (ofZ w64 z) ≡ z
+stored z small = toZ-ofZ w64 z (record { sfits = small })
 
 pub size-of : (negative : Bool) (n : ℕ) → natAbs (integer (record { negative = negative; size = n })) ≡ n
 size-of true zero = refl

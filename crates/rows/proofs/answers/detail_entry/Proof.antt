@@ -15,21 +15,21 @@ sub-result : tie.Need-sub-result
 sub-result c =
     let d = c .before .before .args .d in
     let small : Count (d .size) = rw (size-of (d .negative) (d .size)) at (c .before .before .pre) in
-    rw (stored (c .entry .ok) (c .entry .ensures), +ℤ-idl (negℤ (pos (d .size)))) (negated-fits (d .size) small)
+    rw (stored (c .entry .result) (c .entry .ok), c .entry .ensures, +ℤ-idl (negℤ (pos (d .size)))) (negated-fits (d .size) small)
 
 returns : tie.Need-returns
 returns c =
     let d = c .before .before .args .d in
     let small : Count (d .size) = rw (size-of (d .negative) (d .size)) at (c .before .before .pre) in
     let minus = negℤ (pos (d .size)) in
-    rw (stored (c .entry .ok) (c .entry .ensures), +ℤ-idl minus, toZ-ofZ w64 minus (negated-fits (d .size) small), c .before .if1 .taken)
+    rw (stored (c .entry .result) (c .entry .ok), c .entry .ensures, +ℤ-idl minus, toZ-ofZ w64 minus (negated-fits (d .size) small), c .before .if1 .taken)
 
 entry-requires-2 : tie.Need-entry-requires-2
 entry-requires-2 c κs = let d = c .before .args .d in rw (size-of (d .negative) (d .size)) at (c .before .pre)
 
 returns-2 : tie.Need-returns-2
 returns-2 c =
-    rw (stored (c .entry2 .ok) (c .entry2 .ensures), c .before .if1 .left)
+    rw (stored (c .entry2 .result) (c .entry2 .ok), c .entry2 .ensures, c .before .if1 .left)
 
 pub detail-entry-spec : {M : Type 1} → statement M
 detail-entry-spec =

@@ -15,12 +15,12 @@ lay-requires : tie.Need-lay-requires
 lay-requires c κs = search needs
 
 same-length : tie.Need-same-length
-same-length c = c .before .lay .kept .1 .0
+same-length c = search needs
 
 returns : tie.Need-returns
 returns c =
     let entry = c .before .before .before .before .entry in
-    record { number = refl; row = c .before .lay .ensures ∙ rw (stored (entry .ok) (entry .ensures)) }
+    record { number = refl; row = c .before .lay .ensures ∙ rw (stored (entry .result) (entry .ok), entry .ensures) }
 
 pub give-count-spec : {M : Type 1} → statement M
 give-count-spec =

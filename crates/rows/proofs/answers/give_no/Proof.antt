@@ -57,7 +57,7 @@ lay-requires : tie.Need-lay-requires
 lay-requires c κs = omega (arith, c .before .before .before .before .before .before .before .before .before .before .before .before .before .before .before .before .before .before .pre .0)
 
 same-length : tie.Need-same-length
-same-length c = c .before .lay .kept .1 .0
+same-length c = search needs
 
 returns : tie.Need-returns
 returns c =
@@ -77,7 +77,7 @@ returns c =
       number = refl;
       row =
           c .before .lay .ensures
-          ∙ rw (stored (part .ok) (part .ensures), stored (year .ok) (year .ensures), stored (month .ok) (month .ensures), stored (day .ok) (day .ensures), stored (doy .ok) (doy .ensures), stored (week .ok) (week .ensures), stored (wday .ok) (wday .ensures), stored (nanos .ok) (nanos .ensures), stored (offset .ok) (offset .ensures), year-bits, offset-bits);
+          ∙ rw (stored (part .result) (part .ok), part .ensures, stored (year .result) (year .ok), year .ensures, stored (month .result) (month .ok), month .ensures, stored (day .result) (day .ok), day .ensures, stored (doy .result) (doy .ok), doy .ensures, stored (week .result) (week .ok), week .ensures, stored (wday .result) (wday .ok), wday .ensures, stored (nanos .result) (nanos .ok), nanos .ensures, stored (offset .result) (offset .ok), offset .ensures, year-bits, offset-bits);
     }
 
 pub give-no-spec : {M : Type 1} → statement M

@@ -31,7 +31,7 @@ lay-zeros-requires : tie.Need-lay-zeros-requires
 lay-zeros-requires c κs = search needs
 
 same-length : tie.Need-same-length
-same-length c = c .before .lay-zeros .kept .1 .0 ∙ c .before .before .before .before .lay .kept .1 .0
+same-length c = search needs
 
 returns : tie.Need-returns
 returns c =
@@ -43,7 +43,7 @@ returns c =
       number = tell .ensures .0;
       row =
           c .before .lay-zeros .ensures
-          ∙ rw (c .before .before .before .before .lay .ensures, stored (first .ok) (first .ensures), stored (second .ok) (second .ensures))
+          ∙ rw (c .before .before .before .before .lay .ensures, stored (first .result) (first .ok), first .ensures, stored (second .result) (second .ok), second .ensures)
           (two-details (tell .result) (a .why) (tell .ensures .1) (a .entries) (now (a .row)) (c .before .before .before .before .before .before .before .before .if1 .taken));
     }
 
@@ -60,7 +60,7 @@ lay-zeros-requires-2 : tie.Need-lay-zeros-requires-2
 lay-zeros-requires-2 c κs = search needs
 
 same-length-2 : tie.Need-same-length-2
-same-length-2 c = c .before .lay-zeros2 .kept .1 .0 ∙ c .before .before .before .before .lay2 .kept .1 .0
+same-length-2 c = search needs
 
 returns-2 : tie.Need-returns-2
 returns-2 c =
@@ -71,7 +71,7 @@ returns-2 c =
       number = tell .ensures .0;
       row =
           c .before .lay-zeros2 .ensures
-          ∙ rw (c .before .before .before .before .lay2 .ensures, stored (first .ok) (first .ensures))
+          ∙ rw (c .before .before .before .before .lay2 .ensures, stored (first .result) (first .ok), first .ensures)
           (one-detail (tell .result) (a .why) (tell .ensures .1) (a .entries) (now (a .row)) (c .before .before .before .before .before .before .before .if1 .left));
     }
 

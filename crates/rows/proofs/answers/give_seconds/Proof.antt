@@ -17,14 +17,14 @@ lay-requires : tie.Need-lay-requires
 lay-requires c κs = search needs
 
 same-length : tie.Need-same-length
-same-length c = c .before .lay .kept .1 .0
+same-length c = search needs
 
 returns : tie.Need-returns
 returns c =
     let s = c .before .before .before .before .before in
     let entry = c .before .before .before .before .signed-entry in
     let second = toZ-ofZ w32 (s .args .seconds) (s .fits .seconds) in
-    record { number = refl; row = c .before .lay .ensures ∙ rw (stored (entry .ok) (entry .ensures), second) }
+    record { number = refl; row = c .before .lay .ensures ∙ rw (stored (entry .result) (entry .ok), entry .ensures, second) }
 
 pub give-seconds-spec : {M : Type 1} → statement M
 give-seconds-spec =

@@ -38,7 +38,7 @@ lay-requires-2 c κs =
     omega (arith, long, c .before .before .before .lay .kept .1 .0)
 
 same-length : tie.Need-same-length
-same-length c = c .before .lay2 .kept .1 .0 ∙ c .before .before .before .before .before .lay .kept .1 .0
+same-length c = search needs
 
 returns : tie.Need-returns
 returns c =
@@ -47,7 +47,7 @@ returns c =
     let units = c .before .before .before .before .before .before .before .before .before .entry3 in
     record {
       number = refl;
-      row = c .before .lay2 .ensures ∙ rw (c .before .before .before .before .before .lay .ensures, stored (taken .ok) (taken .ensures), stored (mask .ok) (mask .ensures), stored (units .ok) (units .ensures));
+      row = c .before .lay2 .ensures ∙ rw (c .before .before .before .before .before .lay .ensures, stored (taken .result) (taken .ok), taken .ensures, stored (mask .result) (mask .ok), mask .ensures, stored (units .result) (units .ok), units .ensures);
     }
 
 pub give-values-spec : {M : Type 1} → statement M

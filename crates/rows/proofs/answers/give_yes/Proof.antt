@@ -14,7 +14,7 @@ lay-zeros-requires : tie.Need-lay-zeros-requires
 lay-zeros-requires c κs = search needs
 
 same-length : tie.Need-same-length
-same-length c = c .before .lay-zeros .kept .1 .0 ∙ c .before .before .before .before .lay .kept .1 .0
+same-length c = search needs
 
 returns : tie.Need-returns
 returns c = record { number = refl; row = c .before .lay-zeros .ensures ∙ rw (c .before .before .before .before .lay .ensures) }

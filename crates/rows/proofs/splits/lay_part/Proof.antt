@@ -25,7 +25,7 @@ lay-requires : tie.Need-lay-requires
 lay-requires c κs = search needs
 
 same-length : tie.Need-same-length
-same-length c = c .before .lay .kept .1 .0
+same-length c = search needs
 
 returns : tie.Need-returns
 unfolding partNumbers
@@ -33,7 +33,7 @@ returns c =
     let kind = c .before .before .before .before .before .before .entry in
     let start = c .before .before .before .before .before .entry2 in
     let length = c .before .before .before .before .entry3 in
-    c .before .lay .ensures ∙ rw (stored (kind .ok) (kind .ensures), stored (start .ok) (start .ensures), stored (length .ok) (length .ensures), c .before .before .before .before .before .before .before .kind-number .ensures)
+    c .before .lay .ensures ∙ rw (stored (kind .result) (kind .ok), kind .ensures, stored (start .result) (start .ok), start .ensures, stored (length .result) (length .ok), length .ensures, c .before .before .before .before .before .before .before .kind-number .ensures)
 
 pub lay-part-spec : {M : Type 1} → statement M
 lay-part-spec =
