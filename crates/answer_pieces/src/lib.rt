@@ -7,8 +7,8 @@ use laying::put_bytes;
 use meaning::Refusal;
 use refusals::Detail;
 use refusals::tell;
-use words::numbers::put_number;
-use words::numbers::put_size;
+use spelling::put_number;
+use spelling::put_size;
 
 // A word and a number, at the start of the output.
 pub fn put_counted(word: &[u8], n: u64, out: &mut [u8]) -> usize

@@ -12,7 +12,7 @@ use laying::put_bytes;
 use meaning::Reading;
 use meaning::Refusal;
 use refusals::Detail;
-use words::numbers::put_number;
+use spelling::put_number;
 
 fn put_value(value: i64, out: &mut [u8], at: usize) -> usize
     requires { ⌜ at + 22 ≤ length (now out) ⌝ }

@@ -14,7 +14,7 @@ use meaning::Split;
 use pattern::parse_format_string;
 use request_bytes::BYTES_ROOM;
 use request_bytes::bytes_at;
-use words::numbers::put_size;
+use spelling::put_size;
 
 fn put_kind(kind: Kind, out: &mut [u8], at: usize) -> usize
     requires { ⌜ at + 6 ≤ length (now out) ⌝ }

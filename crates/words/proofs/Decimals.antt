@@ -2,15 +2,12 @@
 use mathlib.Core.Bool.{Bool, true, false}
 use mathlib.Core.List.{List, [], _∷_}
 use mathlib.Core.Path.{_≡_, refl}
-use Prim.Native.Nat.{ℕ, suc, _+_, _*_, _-_, _^_, _≤_, _<_}
-use native.Mathlib.Nat.{pow-le-pow-right}
+use Prim.Native.Nat.{ℕ, suc, _+_, _*_, _-_, _≤_, _<_}
 use native.Mathlib.Omega.{arith}
 use lib.Dec.{leb}
 use lib.ListN.{length, getD, take, drop, drop-of-length-le}
 use lib.Seq.{drop-cons, take-all}
-use borrow.Author.Tests.{eq-eqb, ne-eqb, le-leb, lt-leb, leb-true, leb-false}
-use Rattle.io.specs.Digits.{Fewest}
-use Rattle.laws.proofs.Tests.{by-test}
+use borrow.Author.Tests.{eq-eqb, ne-eqb, le-leb, lt-leb}
 use Rattle.words.specs.Decimal.{sizeBehind, sizeOf, signed, numberOf}
 use Rattle.words.specs.declared.numbers.Size.the-variants.{Bad, Is}
 use Rattle.words.specs.declared.numbers.Number.the-variants as number
@@ -80,12 +77,3 @@ pub number-of-bare : (w : List ℕ) → 0 < length w → (getD w 0 0 ≡ 45 → 
 unfolding numberOf
 number-of-bare [] h e = absurd (omega arith)
 number-of-bare (b ∷ s) h e = rw (ne-eqb b 45 e)
-
--- a number of 64 bits has at most 20 digits
-pub few-digits : (n k : ℕ) → n < 18446744073709551616 → Fewest 10 1 n k → k ≤ 20
-few-digits n k small (least, below, fewest) =
-    by-test (leb k 20) (λ e. leb-true k 20 e)
-    (λ e.
-    let h : 20 < k = leb-false k 20 e in
-    let p : 10 ^ 20 ≤ 10 ^ (k - 1) = pow-le-pow-right {n = 10} (omega arith) {i = 20} {j = k - 1} (omega arith) in
-    absurd (omega (arith, p, fewest (omega arith))))

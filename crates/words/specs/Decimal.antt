@@ -1,11 +1,8 @@
--- Decimal numbers of the protocol: a sign and a size that fits 64 bits, and a number as text.
+-- Decimal numbers of the protocol: a sign and a size that fits 64 bits.
 use mathlib.Core.Bool.{Bool, true, false}
-use mathlib.Core.List.{List, [], _∷_, _++_}
-use Prim.Native.Nat.{ℕ, _+_, _≤_}
+use mathlib.Core.List.{List, [], _∷_}
+use Prim.Native.Nat.{ℕ}
 use lib.Dec.{eqb, leb}
-use lib.ListN.{length}
-use Rattle.io.specs.Digits.{digits, Fewest}
-use Rattle.laws.specs.Laid.{Laid}
 use Rattle.words.specs.declared.numbers.Number.{Number}
 use Rattle.words.specs.declared.numbers.Size.{Size}
 use Rattle.words.specs.declared.numbers.Size.the-variants as size
@@ -30,10 +27,3 @@ unfoldable pub numberOf : List ℕ → Number
 unfolding sizeOf
 numberOf [] = number.Bad
 numberOf (b ∷ s) = when (eqb b minus) (signed true (sizeOf s)) (signed false (sizeOf (b ∷ s)))
-
--- a number lies in the output: its sign, then the fewest digits that hold it
-pub record Spelled (old new : List ℕ) (at next : ℕ) (sign : List ℕ) (n : ℕ) : Type 0 where
-  pub width : ℕ
-  pub fewest : Fewest 10 1 n width
-  pub laid : Laid old new at next (sign ++ digits 10 width n)
-  pub small : next ≤ at + length sign + 20

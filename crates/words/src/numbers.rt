@@ -1,12 +1,6 @@
 // Decimal numbers: `-` before a negative one, then at least one digit.
-ghost use mathlib.Core.List.{[], _∷_};
 ghost use mathlib.Core.Path.{_≡_};
-ghost use Prim.Native.Nat.{_+_, _≤_};
-ghost use lib.ListN.{length};
 ghost use Rattle.words.specs.Decimal as decimal;
-ghost use Rattle.meaning.specs.Bytes.{when, minus};
-use laying::put_byte;
-use laying::put_bytes;
 
 // The size that digits stand for, where it fits.
 pub enum Size {
@@ -68,25 +62,4 @@ pub fn number_of(word: &[u8]) -> Number
         return signed(true, size_of(&word[1..]));
     }
     signed(false, size_of(word))
-}
-
-// The digits of a number.
-pub fn put_size(size: u64, out: &mut [u8], at: usize) -> usize
-    requires { ⌜ at + 20 ≤ length (now out) ⌝ }
-    ensures { λ r. ⌜ decimal.Spelled (now (out .entry)) (now (out .exit)) at r [] size ⌝ }
-{
-    let mut row = [0u8; 20];
-    let k = io::decimal(size, &mut row);
-    put_bytes(&row[..k], out, at)
-}
-
-pub fn put_number(negative: bool, size: u64, out: &mut [u8], at: usize) -> usize
-    requires { ⌜ at + 21 ≤ length (now out) ⌝ }
-    ensures { λ r. ⌜ decimal.Spelled (now (out .entry)) (now (out .exit)) at r (when negative (minus ∷ []) []) size ⌝ }
-{
-    if negative {
-        let next = put_byte(b'-', out, at);
-        return put_size(size, out, next);
-    }
-    put_size(size, out, at)
 }

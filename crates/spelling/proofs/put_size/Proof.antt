@@ -1,9 +1,9 @@
 -- The front of the scratch row is the digits, and it is copied.
 use native.Mathlib.Omega.{arith}
-use Rattle.words.proofs.Decimals.{few-digits}
+use Rattle.spelling.proofs.Digits.{few-digits}
 use borrow.Author.Needs.{needs}
-use Rattle.words.proofs.numbers.put_size.Statement.{statement}
-use Rattle.words.proofs.numbers.put_size.Tie as tie
+use Rattle.spelling.proofs.put_size.Statement.{statement}
+use Rattle.spelling.proofs.put_size.Tie as tie
 
 decimal-requires : tie.Need-decimal-requires
 decimal-requires c κs = search needs

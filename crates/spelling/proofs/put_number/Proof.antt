@@ -2,8 +2,8 @@
 use native.Mathlib.Omega.{arith}
 use Rattle.laws.proofs.Laid.{laid-then}
 use borrow.Author.Needs.{needs}
-use Rattle.words.proofs.numbers.put_number.Statement.{statement}
-use Rattle.words.proofs.numbers.put_number.Tie as tie
+use Rattle.spelling.proofs.put_number.Statement.{statement}
+use Rattle.spelling.proofs.put_number.Tie as tie
 
 put-byte-requires : tie.Need-put-byte-requires
 put-byte-requires c κs = search needs
