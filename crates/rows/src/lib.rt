@@ -1,4 +1,3 @@
 // Answers as rows of numbers, laid over the start of a lent row.
 pub mod answers;
 pub mod laying;
-pub mod splits;

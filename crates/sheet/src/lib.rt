@@ -4,13 +4,13 @@ ghost use Rattle.sheet.specs.Sheet.{SheetWrites, SheetReads, SheetParses
 use meaning::Fields;
 use meaning::Pair;
 use reader::parse_with;
+use reading_rows::give_reading;
 use rows::answers::give_offset;
-use rows::answers::give_reading;
-use rows::answers::give_verdict;
 use rows::answers::give_wrote;
-use rows::splits::give_split;
+use split_rows::give_split;
 use texts::offset::parse_offset;
 use verdict::verdict_on;
+use verdict_rows::give_verdict;
 use writer::format_with;
 
 fn write(pair: Pair, pattern: &[u8], f: Fields, out: &mut [u8], row: &mut [i64]) -> u32

@@ -6,18 +6,18 @@ ghost use lib.ListN.{length, replicate};
 ghost use lib.Seq.{sets};
 ghost use Rattle.meaning.specs.Splitting as splitting;
 ghost use Rattle.meaning.specs.Whole.{split};
 ghost use Rattle.rows.specs.Fits.{Count};
 ghost use Rattle.rows.specs.Rows.{Given, laid, kindNumber, partNumbers, splitAnswer, splitNumbers};
-use crate::answers::give_count;
-use crate::answers::give_refusal;
-use crate::laying::entry;
-use crate::laying::lay;
-use crate::laying::lay_zeros;
 use meaning::Checked;
 use meaning::Kind;
 use meaning::Part;
 use parts::next_part;
 use pattern::bytes_check;
+use rows::answers::give_count;
+use rows::answers::give_refusal;
+use rows::laying::entry;
+use rows::laying::lay;
+use rows::laying::lay_zeros;
 
 fn kind_number(kind: Kind) -> u64
     ensures { λ r. ⌜ r ≡ kindNumber kind ⌝ }

@@ -1,7 +1,7 @@
 -- Each kind of answer has its own way to be given.
 use borrow.Author.Needs.{needs}
-use Rattle.rows.proofs.answers.give_reading.Statement.{statement}
-use Rattle.rows.proofs.answers.give_reading.Tie as tie
+use Rattle.reading_rows.proofs.give_reading.Statement.{statement}
+use Rattle.reading_rows.proofs.give_reading.Tie as tie
 
 enum-told : tie.Need-enum-told
 enum-told c = search needs

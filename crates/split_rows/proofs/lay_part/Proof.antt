@@ -1,10 +1,10 @@
 -- Kind, start and length.
 use mathlib.Core.Path.{_∙_}
 use Rattle.rows.specs.Rows.{partNumbers}
 use Rattle.rows.proofs.Laws.{stored, kind-fits}
 use borrow.Author.Needs.{needs}
-use Rattle.rows.proofs.splits.lay_part.Statement.{statement}
-use Rattle.rows.proofs.splits.lay_part.Tie as tie
+use Rattle.split_rows.proofs.lay_part.Statement.{statement}
+use Rattle.split_rows.proofs.lay_part.Tie as tie
 
 kind-number-requires : tie.Need-kind-number-requires
 kind-number-requires c κs = search needs

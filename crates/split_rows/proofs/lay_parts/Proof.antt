@@ -7,9 +7,9 @@ use denote.Ref.{now}
 use lib.ListN.{length}
 use Rattle.meaning.specs.declared.Part.{Part}
 use Rattle.parts.proofs.Laws.{next}
-use Rattle.rows.proofs.Parts.{Laying, laying-start, laying-turn, laying-end}
-use Rattle.rows.proofs.splits.lay_parts.Statement.{statement}
-use Rattle.rows.proofs.splits.lay_parts.Tie as tie
+use Rattle.split_rows.proofs.Parts.{Laying, laying-start, laying-turn, laying-end}
+use Rattle.split_rows.proofs.lay_parts.Statement.{statement}
+use Rattle.split_rows.proofs.lay_parts.Tie as tie
 
 abbrev Inv-loop : tie.InvT-loop
 Inv-loop pattern row₀ used₀ at₀ row used at = Laying pattern row₀ row used at

@@ -4,10 +4,10 @@ use native.Mathlib.Omega.{arith}
 use borrow.Author.Needs.{needs}
 use denote.Ref.{now}
 use Rattle.pattern.proofs.Checks.{fine-short}
 use Rattle.rows.proofs.Fits.{bytes-fit}
-use Rattle.rows.proofs.Parts.{split-fine, split-refused}
-use Rattle.rows.proofs.splits.give_split.Statement.{statement}
-use Rattle.rows.proofs.splits.give_split.Tie as tie
+use Rattle.split_rows.proofs.Parts.{split-fine, split-refused}
+use Rattle.split_rows.proofs.give_split.Statement.{statement}
+use Rattle.split_rows.proofs.give_split.Tie as tie
 
 bytes-check-requires : tie.Need-bytes-check-requires
 bytes-check-requires c κs = search needs

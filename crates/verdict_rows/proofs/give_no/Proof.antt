@@ -3,10 +3,10 @@ use mathlib.Core.Path.{refl, _∙_}
 use native.Mathlib.Omega.{arith}
 use mir.Syntax.{w32}
 use mir.ValLaws.{toZ-ofZ}
 use Rattle.rows.proofs.Laws.{stored}
 use borrow.Author.Needs.{needs}
-use Rattle.rows.proofs.answers.give_no.Statement.{statement}
-use Rattle.rows.proofs.answers.give_no.Tie as tie
+use Rattle.verdict_rows.proofs.give_no.Statement.{statement}
+use Rattle.verdict_rows.proofs.give_no.Tie as tie
 
 entry-requires : tie.Need-entry-requires
 entry-requires c κs = search needs

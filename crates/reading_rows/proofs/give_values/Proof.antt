@@ -2,10 +2,10 @@
 use mathlib.Core.Path.{_≡_, refl, _∙_}
 use native.Mathlib.Omega.{arith}
 use lib.ListN.{length}
 use Rattle.rows.proofs.Laws.{stored}
 use borrow.Author.Needs.{needs}
-use Rattle.rows.proofs.answers.give_values.Statement.{statement}
-use Rattle.rows.proofs.answers.give_values.Tie as tie
+use Rattle.reading_rows.proofs.give_values.Statement.{statement}
+use Rattle.reading_rows.proofs.give_values.Tie as tie
 
 entry-requires : tie.Need-entry-requires
 entry-requires c κs = search needs

@@ -1,8 +1,8 @@
 -- The row is 1 and zeros.
 use mathlib.Core.Path.{refl, _∙_}
 use borrow.Author.Needs.{needs}
-use Rattle.rows.proofs.answers.give_yes.Statement.{statement}
-use Rattle.rows.proofs.answers.give_yes.Tie as tie
+use Rattle.verdict_rows.proofs.give_yes.Statement.{statement}
+use Rattle.verdict_rows.proofs.give_yes.Tie as tie
 
 slice-aggregate-lay : tie.Need-slice-aggregate-lay
 slice-aggregate-lay c = search needs

@@ -1,7 +1,7 @@
 -- Each kind of answer has its own way to be given.
 use borrow.Author.Needs.{needs}
-use Rattle.rows.proofs.answers.give_verdict.Statement.{statement}
-use Rattle.rows.proofs.answers.give_verdict.Tie as tie
+use Rattle.verdict_rows.proofs.give_verdict.Statement.{statement}
+use Rattle.verdict_rows.proofs.give_verdict.Tie as tie
 
 enum-told : tie.Need-enum-told
 enum-told c = search needs
