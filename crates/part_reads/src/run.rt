@@ -9,6 +9,8 @@ ghost use Rattle.meaning.specs.Writing.{runStep};
 ghost use Rattle.parse.specs.Steps.{partAt};
 ghost use Rattle.rules.specs.ShortRules.{isShort, shortUnit, shortMost};
 ghost use Rattle.part_reads.specs.ShortReads.{shortRead};
+use crate::digits::short_size;
+use meaning::Carried;
 use meaning::Pair;
 use meaning::ParseUnit;
 use meaning::Role;
@@ -67,8 +69,17 @@ fn parse_short(short: Short, count: u8, text: &[u8], cursor: Cursor) -> PartRead
     requires { ⌜ cursor .at ≤ length (now text) ⌝ }
     ensures { λ r. ⌜ r ≡ partAt (cursor .at) (shortRead short count (drop (cursor .at) (now (text .entry)))) ⌝ }
 {
-    let k = extent(count, short_most(short, count), text, cursor.at);
-    take_number(short_unit(short), 0, k, text, cursor)
+    let at = cursor.at;
+    let k = extent(count, short_most(short, count), text, at);
+    let unit = short_unit(short);
+    let n = short_size(k, &text[at..]);
+    if 100 <= n {
+        return take_number(unit, 0, k, text, cursor);
+    }
+    PartRead::Got {
+        carried: Carried::Value(unit, n as i64),
+        next: Cursor { at: at + k },
+    }
 }
 
 // By the table.
