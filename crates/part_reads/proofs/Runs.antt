@@ -16,9 +16,9 @@ use Rattle.meaning.specs.Writing.{runStep}
 use Rattle.meaning.specs.declared.Carried.{Carried}
 use Rattle.meaning.specs.declared.Pair.{Pair}
 use Rattle.rules.proofs.Laws.{below-letters, is-date}
-use Rattle.rules.proofs.ShortRules.{short-role}
+use Rattle.short_rules.proofs.ShortRules.{short-role}
 use Rattle.rules.specs.Letters.{isAmong}
-use Rattle.rules.specs.ShortRules.{isShort, shortOf}
+use Rattle.short_rules.specs.ShortRules.{isShort, shortOf}
 use Rattle.part_reads.specs.ShortReads.{shortRead}
 
 -- what c bytes b read

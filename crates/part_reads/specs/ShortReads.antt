@@ -6,8 +6,8 @@ use Rattle.meaning.specs.Bytes.{when, isDigit}
 use Rattle.meaning.specs.Readers.{Got, reach}
 use Rattle.meaning.specs.Reading.{takenNumber}
 use Rattle.meaning.specs.declared.Carried.{Carried}
-use Rattle.rules.specs.ShortRules.{shortUnit, shortMost}
-use Rattle.rules.specs.declared.short.Short.{Short}
+use Rattle.short_rules.specs.ShortRules.{shortUnit, shortMost}
+use Rattle.short_rules.specs.declared.Short.{Short}
 
 abbrev pub shortRead : Short → ℕ → List ℕ → Got Carried
 shortRead short c s = takenNumber (shortUnit short) 0 (reach (shortMost short c - c) c s) s

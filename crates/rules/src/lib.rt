@@ -1,6 +1,4 @@
 // The table of "What each symbol does": from a byte and its count to the rule, which the writer and the reader share.
-pub mod short;
-
 ghost use mathlib.Core.Path.{_≡_};
 ghost use lib.Dec.{eqb};
 ghost use Rattle.meaning.specs.Bytes.{when};

@@ -16,9 +16,9 @@ use Rattle.meaning.specs.declared.Fields.{Fields}
 use Rattle.meaning.specs.declared.NameList.the-variants.{MonthAbbreviated, MonthNarrow, MonthWide, WdayAbbreviated, WdayWide, WdayNarrow, WdayShort}
 use Rattle.meaning.specs.declared.Pair.{Pair}
 use Rattle.rules.proofs.Laws.{below-letters, is-date}
-use Rattle.rules.proofs.ShortRules.{short-role}
+use Rattle.short_rules.proofs.ShortRules.{short-role}
 use Rattle.rules.specs.Letters.{isAmong}
-use Rattle.rules.specs.ShortRules.{isShort, shortOf, shortQuantity}
+use Rattle.short_rules.specs.ShortRules.{isShort, shortOf, shortQuantity}
 
 -- what c bytes b write
 abbrev pub runText : Pair → ℕ → ℕ → Fields → List ℕ

@@ -4,7 +4,7 @@ use denote.Ref.{now}
 use lib.ListN.{drop}
 use mathlib.Core.Path.{ap, sym, _∙_}
 use native.Mathlib.Omega.{arith}
-use Rattle.rules.specs.ShortRules.{isShort}
+use Rattle.short_rules.specs.ShortRules.{isShort}
 use Rattle.part_reads.proofs.Runs.{literal-read, short-read}
 use Rattle.part_reads.proofs.run.parse_run.Statement.{statement}
 use Rattle.part_reads.proofs.run.parse_run.Tie as tie

@@ -11,9 +11,9 @@ use Rattle.meaning.specs.Rules.{roleOf, dateRole, timeRole, roleAmong, ruleOf, 
 use Rattle.meaning.specs.declared.Pair.{Pair}
 use Rattle.meaning.specs.declared.Pair.the-variants.{Full, Date}
 use Rattle.meaning.specs.declared.Role.the-variants.{Symbol}
 use Rattle.rules.proofs.Laws.{is-date}
 use Rattle.rules.specs.Letters.{isAmong}
-use Rattle.rules.specs.ShortRules.{shortTime, shortOfPair, shortOf, isShort, shortRule}
+use Rattle.short_rules.specs.ShortRules.{shortTime, shortOfPair, shortOf, isShort, shortRule}
 
 -- what holds at one and at two
 pub one-and-two : (P : ℕ → Type 0) → P 1 → P 2 → (c : ℕ) → 0 < c → c ≤ 2 → P c

@@ -1,9 +1,9 @@
 -- The letters, one after the other.
 use borrow.Author.Needs.{needs}
 use borrow.Author.Tests.{ne-eqb}
-use Rattle.rules.specs.ShortRules.{shortOf}
-use Rattle.rules.proofs.short.short_of.Statement.{statement}
-use Rattle.rules.proofs.short.short_of.Tie as tie
+use Rattle.short_rules.specs.ShortRules.{shortOf}
+use Rattle.short_rules.proofs.short_of.Statement.{statement}
+use Rattle.short_rules.proofs.short_of.Tie as tie
 
 pub short-of-spec : {M : Type 1} → statement M
 unfolding shortOf

@@ -1,6 +1,6 @@
 // The numbers that patterns have most, which at a count of one or two need no rule looked up.
 ghost use mathlib.Core.Path.{_≡_};
-ghost use Rattle.rules.specs.ShortRules.{shortTime, shortOfPair, shortOf};
+ghost use Rattle.short_rules.specs.ShortRules.{shortTime, shortOfPair, shortOf};
 use meaning::Pair;
 
 pub enum Short {

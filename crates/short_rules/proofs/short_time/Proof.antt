@@ -1,7 +1,7 @@
 -- The letters, one after the other.
 use borrow.Author.Tests.{ne-eqb}
-use Rattle.rules.proofs.short.short_time.Statement.{statement}
-use Rattle.rules.proofs.short.short_time.Tie as tie
+use Rattle.short_rules.proofs.short_time.Statement.{statement}
+use Rattle.short_rules.proofs.short_time.Tie as tie
 
 pub short-time-spec : {M : Type 1} → statement M
 short-time-spec =

@@ -1,7 +1,7 @@
 -- The Date pair has no time symbols.
 use borrow.Author.Needs.{needs}
-use Rattle.rules.proofs.short.short_of_pair.Statement.{statement}
-use Rattle.rules.proofs.short.short_of_pair.Tie as tie
+use Rattle.short_rules.proofs.short_of_pair.Statement.{statement}
+use Rattle.short_rules.proofs.short_of_pair.Tie as tie
 
 pub short-of-pair-spec : {M : Type 1} → statement M
 short-of-pair-spec =

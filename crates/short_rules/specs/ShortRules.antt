@@ -13,8 +13,8 @@ use Rattle.meaning.specs.declared.ParseUnit.the-variants as unit
 use Rattle.meaning.specs.declared.Quantity.{Quantity}
 use Rattle.meaning.specs.declared.Quantity.the-variants as quantity
 use Rattle.meaning.specs.declared.Rule.{Rule}
-use Rattle.rules.specs.declared.short.Short.{Short}
-use Rattle.rules.specs.declared.short.Short.the-variants.{Month, Day, Hour, Minute, Second, Other}
+use Rattle.short_rules.specs.declared.Short.{Short}
+use Rattle.short_rules.specs.declared.Short.the-variants.{Month, Day, Hour, Minute, Second, Other}
 
 abbrev pub shortTime : ℕ → Short
 shortTime b = when (eqb b (code "H")) Hour (when (eqb b (code "m")) Minute (when (eqb b (code "s")) Second Other))
