@@ -129,6 +129,7 @@ fn put_four(n: u32, out: &mut [u8], at: usize) -> usize
     put_two(n % 100, out, next)
 }
 
+// Whether the padded number has four digits.
 fn has_four(n: u32, k: usize) -> bool
     ensures { λ r. ⌜ r ≡ eqb (max k (text.width n)) 4 ⌝ }
 {
@@ -144,6 +145,7 @@ fn has_four(n: u32, k: usize) -> bool
     1000 <= n
 }
 
+// More than two digits.
 fn put_long(n: u32, k: usize, out: &mut [u8], at: usize) -> usize
     requires { ⌜ at + length (text.num k n) ≤ length (now out) ⌝ }
     ensures { λ r. ⌜ Laid (now (out .entry)) (now (out .exit)) at r (text.num k n) ⌝ }

@@ -12,7 +12,7 @@ use Rattle.short_rules.specs.declared.Short.{Short}
 abbrev pub shortRead : Short → ℕ → List ℕ → Got Carried
 shortRead short c s = takenNumber (shortUnit short) 0 (reach (shortMost short c - c) c s) s
 
--- one digit or two in front of a text as a number, or 100: a law of proofs/Digits says that it is the number that is taken
+-- one digit or two in front of a text as a number, or 100; the law `short-taken` of proofs/Taken says that it is the one taken
 abbrev pub digitSize : ℕ → ℕ
 digitSize b = when (isDigit b) (b - 48) 100
 

@@ -1,5 +1,5 @@
-// What a run of equal bytes writes. Literals, and the numbers, years and names that patterns have
-// most, need no rule looked up.
+// What a run of equal bytes writes. Literals, and the numbers, years and names that patterns have most, need no rule looked
+// up.
 ghost use mathlib.Core.Path.{_≡_};
 ghost use Prim.Native.Nat.{_+_, _≤_, _<_};
 ghost use lib.Dec.{eqb};
@@ -27,7 +27,7 @@ use symbol_texts::format_rule;
 use symbol_texts::put_name_of;
 use values::quantity_of;
 
-// 100, which no such number is, stands for none.
+// The number that a short one writes: 100, which no such number is, stands for none.
 fn short_number(short: Short, f: Fields) -> u32
     requires { ⌜ fieldsCheck f ≡ Fine ⌝ }
     ensures { λ r. ⌜ r ≡ when (isShort short) (quantityOf (shortQuantity short) f) 100 ⌝ }

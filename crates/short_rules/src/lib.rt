@@ -3,6 +3,7 @@ ghost use mathlib.Core.Path.{_≡_};
 ghost use Rattle.short_rules.specs.ShortRules.{shortTime, shortOfPair, shortOf};
 use meaning::Pair;
 
+// M, d, H, m and s, or any other symbol.
 pub enum Short {
     Month,
     Day,
