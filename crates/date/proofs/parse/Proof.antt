@@ -11,7 +11,8 @@ parse-with-requires c κs = search needs
 returns : tie.Need-returns
 returns c =
     let same-year = toZ-ofZ w32 (c .before .before .before .args .year) (search needs) in
-    rw same-year at (c .parse-with .ensures)
+    let read = c .parse-with .ensures in
+    cc
 
 pub parse-spec : {M : Type 1} → statement M
 parse-spec = tie.close (tie.spec parse-with-requires returns)
