@@ -91,7 +91,7 @@ impl Cursor {
         ensures { λ r. ⌜ r ≡ steps.matchedAt (self .at) (reads.matchName (names english list) (drop (self .at) (now (text .entry)))) ⌝ }
     {
         let at = self.at;
-        match english::match_name(list, &text[at..]) {
+        match names_in::match_name(list, &text[at..]) {
             Found::Name { index, length } => Matched::Name {
                 index,
                 next: Cursor { at: at + length },
@@ -116,7 +116,7 @@ impl Cursor {
             };
         }
         let end = at + k;
-        match english::match_name(list, &text[at..end]) {
+        match names_in::match_name(list, &text[at..end]) {
             Found::Name { index, length } => Matched::Name {
                 index,
                 next: Cursor { at: at + length },

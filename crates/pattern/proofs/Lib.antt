@@ -1,3 +1,1 @@
 pub mod Splits
-pub mod Checks
-pub mod LoneQuote

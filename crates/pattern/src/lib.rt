@@ -1,69 +1,17 @@
-// A whole pattern: the refusals 1 to 3, and all its parts at once.
+// A whole pattern: all its parts at once.
 use meaning::Checked;
 use meaning::Kind;
 use meaning::Part;
-use meaning::Refusal;
 use meaning::Split;
 use parts::next_part;
+use pattern_checks::bytes_check;
 ghost use mathlib.Core.Path.{_≡_};
 ghost use Prim.Native.Nat.{_≤_};
 ghost use lib.ListN.{length};
-ghost use Rattle.meaning.specs.Answers.{bytesCheck, endsInLoneQuote, patternCheck};
-ghost use Rattle.meaning.specs.Splitting.{contents, parts, noPart};
+ghost use Rattle.meaning.specs.Splitting.{parts, noPart};
 ghost use Rattle.meaning.specs.Promises.{Splits};
 ghost use Rattle.meaning.specs.Whole.{splitInto};
 ghost use Rattle.meaning.specs.declared.Checked.the-variants.{Fine};
-
-// Refusals 1 and 2.
-pub fn bytes_check(pattern: &[u8]) -> Checked
-    ensures { λ r. ⌜ r ≡ bytesCheck (now (pattern .entry)) ⌝ }
-{
-    let n = pattern.len();
-    if 256 < n {
-        return Checked::Refused(Refusal::PatternTooLong(n));
-    }
-    let mut i = 0;
-    while i < n {
-        let b = pattern[i];
-        if b == 0 || 127 < b {
-            return Checked::Refused(Refusal::PatternByte(i));
-        }
-        i += 1;
-    }
-    Checked::Fine
-}
-
-// Whether the last part is a quote that opens and has nothing behind it: the part that starts at a quote in the last place.
-fn ends_in_lone_quote(pattern: &[u8]) -> bool
-    ensures { λ r. ⌜ r ≡ endsInLoneQuote (contents (now (pattern .entry))) ⌝ }
-{
-    let n = pattern.len();
-    if n == 0 || pattern[n - 1] != b'\'' {
-        return false;
-    }
-    let mut place = 0;
-    while place + 1 < n {
-        let part = next_part(pattern, place);
-        place += part.length;
-    }
-    place < n
-}
-
-// Refusals 1, 2 and 3, in this order.
-pub fn pattern_check(pattern: &[u8]) -> Checked
-    ensures { λ r. ⌜ r ≡ patternCheck (now (pattern .entry)) ⌝ }
-{
-    let checked = bytes_check(pattern);
-    match checked {
-        Checked::Refused(why) => Checked::Refused(why),
-        Checked::Fine => {
-            if ends_in_lone_quote(pattern) {
-                return Checked::Refused(Refusal::LoneQuote(pattern.len() - 1));
-            }
-            Checked::Fine
-        }
-    }
-}
 
 // What an entry of a split holds that no part uses.
 fn no_part() -> Part

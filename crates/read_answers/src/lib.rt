@@ -18,7 +18,7 @@ use texts::offset::parse_offset;
 fn read(pair: Pair, pattern: &[u8], text: &[u8], year: i32) -> Reading {
     match pair {
         Pair::Full => reader::parse(pattern, text, year),
-        Pair::Date => date::parse(pattern, text, year),
+        Pair::Date => date_reader::parse(pattern, text, year),
     }
 }
 

@@ -12,7 +12,7 @@ use meaning::Checked;
 use meaning::Kind;
 use meaning::Part;
 use parts::next_part;
-use pattern::bytes_check;
+use pattern_checks::bytes_check;
 use rows::answers::give_count;
 use rows::answers::give_refusal;
 use rows::laying::entry;

@@ -9,7 +9,6 @@ ghost use Rattle.meaning.specs.Bytes.{num};
 ghost use Rattle.meaning.specs.Names.{english};
 ghost use Rattle.meaning.specs.Writing.{quantityOf, nameText, ruleText};
 ghost use Rattle.meaning.specs.declared.Checked.the-variants.{Fine};
-use english::format_name;
 use laying::put_byte;
 use laying::zero_padded;
 use leaves::years::two_digit_year;
@@ -19,6 +18,7 @@ use meaning::Fields;
 use meaning::NameList;
 use meaning::Quantity;
 use meaning::Rule;
+use names_out::format_name;
 use values::place_of;
 use values::quantity_of;
 

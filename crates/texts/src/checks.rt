@@ -6,7 +6,7 @@ use fields::checks::current_year_check;
 use fields::checks::or_else;
 use meaning::Checked;
 use meaning::Refusal;
-use pattern::pattern_check;
+use pattern_checks::pattern_check;
 
 // 6 and 7.
 pub fn text_check(text: &[u8]) -> Checked

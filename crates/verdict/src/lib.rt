@@ -16,7 +16,7 @@ use meaning::Pair;
 use meaning::Verdict;
 use needs::part_need;
 use parts::next_part;
-use pattern::pattern_check;
+use pattern_checks::pattern_check;
 use trust::Need;
 
 // Whether what the parts from a place on can write meets a need.

@@ -14,7 +14,7 @@ use meaning::Fields;
 use meaning::Pair;
 use meaning::Refusal;
 use meaning::Wrote;
-use pattern::pattern_check;
+use pattern_checks::pattern_check;
 
 // How long the text is: it is written into a row that always has room.
 fn text_length(pair: Pair, pattern: &[u8], f: Fields) -> usize

@@ -3,7 +3,7 @@ use mathlib.Core.Path.{sym, _∙_}
 use native.Mathlib.Omega.{arith}
 use borrow.Author.Needs.{needs}
 use denote.Ref.{now}
-use Rattle.pattern.proofs.Checks.{fine-short}
+use Rattle.pattern_checks.proofs.Checks.{fine-short}
 use Rattle.rows.proofs.Fits.{bytes-fit}
 use Rattle.split_rows.proofs.Parts.{split-fine, split-refused}
 use Rattle.split_rows.proofs.give_split.Statement.{statement}

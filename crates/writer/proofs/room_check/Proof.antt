@@ -10,7 +10,7 @@ use Rattle.writer.proofs.room_check.Tie as tie
 use Rattle.laws.proofs.Sizes.{eight-bytes}
 use Rattle.meaning.specs.Names.{english}
 use Rattle.meaning.specs.Whole.{text}
-use Rattle.pattern.proofs.LoneQuote.{fine-pattern}
+use Rattle.pattern_checks.proofs.LoneQuote.{fine-pattern}
 
 mul-if1 : tie.Need-mul-if1
 mul-if1 c =

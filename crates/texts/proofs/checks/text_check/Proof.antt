@@ -10,7 +10,7 @@ use denote.Ref.{now}
 use Rattle.meaning.specs.Answers.{byteCheck, textCheck}
 use Rattle.meaning.specs.declared.Checked.the-variants.{Refused}
 use Rattle.meaning.specs.declared.Refusal.the-variants.{TextTooLong, TextByte}
-use Rattle.pattern.proofs.Checks.{within-yes, within-above, bytes-more, bytes-stop, bytes-done}
+use Rattle.pattern_checks.proofs.Checks.{within-yes, within-above, bytes-more, bytes-stop, bytes-done}
 use Rattle.texts.proofs.checks.text_check.Statement.{statement}
 use Rattle.texts.proofs.checks.text_check.Tie as tie
 

@@ -1,9 +1,9 @@
--- `english::match_name` meets its contract: the table of the list's number, t, holds the list's names. The answers
+-- `match_name` meets its contract: the table of the list's number, t, holds the list's names. The answers
 -- stand size by size, l where the number is known.
 use borrow.Author.Needs.{needs}
 use Rattle.tables.proofs.Laws.{match-told}
-use Rattle.english.proofs.match_name.Statement.{statement}
-use Rattle.english.proofs.match_name.Tie as tie
+use Rattle.names_in.proofs.match_name.Statement.{statement}
+use Rattle.names_in.proofs.match_name.Tie as tie
 
 pub match-name-spec : {M : Type 1} → statement M
 match-name-spec =

@@ -19,7 +19,7 @@ use Rattle.meaning.specs.declared.Part.{Part}
 use Rattle.meaning.specs.declared.Refusal.{Refusal}
 use Rattle.meaning.specs.declared.Refusal.the-variants.{LoneQuote}
 use Rattle.parts.specs.First.{insideOf, firstContent, partOf}
-use Rattle.pattern.proofs.Checks.{fine-short}
+use Rattle.pattern_checks.proofs.Checks.{fine-short}
 use Rattle.parts.proofs.First.{inside-length, by-first, contents-first}
 use Rattle.parts.proofs.Laws.{next}
 use Rattle.parts.proofs.Scans.{from-here}

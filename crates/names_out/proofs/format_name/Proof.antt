@@ -1,9 +1,9 @@
--- `english::format_name` meets its contract: the table of the list's number, t, holds the list's names. The answers
+-- `format_name` meets its contract: the table of the list's number, t, holds the list's names. The answers
 -- stand size by size, l where the number is known.
 use borrow.Author.Needs.{needs}
 use Rattle.tables.proofs.Laws.{put-asked, put-told}
-use Rattle.english.proofs.format_name.Statement.{statement}
-use Rattle.english.proofs.format_name.Tie as tie
+use Rattle.names_out.proofs.format_name.Statement.{statement}
+use Rattle.names_out.proofs.format_name.Tie as tie
 
 pub format-name-spec : {M : Type 1} → statement M
 format-name-spec =

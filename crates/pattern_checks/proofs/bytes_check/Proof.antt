@@ -10,9 +10,9 @@ use borrow.Author.Tests.{ltb-true, ltb-false}
 use denote.Ref.{now}
 use Rattle.meaning.specs.Answers.{within, byteCheck, bytesCheck}
 use Rattle.meaning.specs.declared.Refusal.the-variants.{PatternByte}
-use Rattle.pattern.proofs.Checks.{within-yes, within-below, within-above, bytes-more, bytes-stop, bytes-done, long-pattern, short-pattern}
-use Rattle.pattern.proofs.bytes_check.Statement.{statement}
-use Rattle.pattern.proofs.bytes_check.Tie as tie
+use Rattle.pattern_checks.proofs.Checks.{within-yes, within-below, within-above, bytes-more, bytes-stop, bytes-done, long-pattern, short-pattern}
+use Rattle.pattern_checks.proofs.bytes_check.Statement.{statement}
+use Rattle.pattern_checks.proofs.bytes_check.Tie as tie
 
 abbrev Inv-loop : tie.InvT-loop
 Inv-loop pattern n i₀ i = (i ≤ length pattern) × (bytesCheck pattern ≡ byteCheck PatternByte 1 127 i (drop i pattern))

@@ -2,9 +2,9 @@
 use mathlib.Core.Path.{sym, _∙_}
 use borrow.Author.Needs.{needs}
 use denote.Ref.{now}
-use Rattle.pattern.proofs.LoneQuote.{lone-some, check-refused, check-lone, check-fine}
-use Rattle.pattern.proofs.pattern_check.Statement.{statement}
-use Rattle.pattern.proofs.pattern_check.Tie as tie
+use Rattle.pattern_checks.proofs.LoneQuote.{lone-some, check-refused, check-lone, check-fine}
+use Rattle.pattern_checks.proofs.pattern_check.Statement.{statement}
+use Rattle.pattern_checks.proofs.pattern_check.Tie as tie
 
 bytes-check-requires : tie.Need-bytes-check-requires
 bytes-check-requires c κs = search needs

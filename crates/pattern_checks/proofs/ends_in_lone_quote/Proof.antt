@@ -11,10 +11,10 @@ use Rattle.meaning.specs.Answers.{endsInLoneQuote}
 use Rattle.meaning.specs.Bytes.{quote}
 use Rattle.meaning.specs.Splitting.{contents}
 use Rattle.parts.proofs.Laws.{next}
-use Rattle.pattern.proofs.LoneQuote.{lone-turn, lone-end, no-lone}
+use Rattle.pattern_checks.proofs.LoneQuote.{lone-turn, lone-end, no-lone}
 use Rattle.parts.proofs.Scans.{past-end}
-use Rattle.pattern.proofs.ends_in_lone_quote.Statement.{statement}
-use Rattle.pattern.proofs.ends_in_lone_quote.Tie as tie
+use Rattle.pattern_checks.proofs.ends_in_lone_quote.Statement.{statement}
+use Rattle.pattern_checks.proofs.ends_in_lone_quote.Tie as tie
 
 abbrev Inv-loop : tie.InvT-loop
 Inv-loop pattern n place₀ place = (place ≤ length pattern) × (endsInLoneQuote (contents pattern) ≡ endsInLoneQuote (contents (drop place pattern)))

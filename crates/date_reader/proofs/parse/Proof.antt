@@ -2,8 +2,8 @@
 use borrow.Author.Needs.{needs}
 use mir.Syntax.{w32}
 use mir.ValLaws.{toZ-ofZ}
-use Rattle.date.proofs.parse.Statement.{statement}
-use Rattle.date.proofs.parse.Tie as tie
+use Rattle.date_reader.proofs.parse.Statement.{statement}
+use Rattle.date_reader.proofs.parse.Tie as tie
 
 parse-with-requires : tie.Need-parse-with-requires
 parse-with-requires c κs = search needs
