@@ -33,7 +33,7 @@ writes-coincide pair book p f out = determined-both
 pub reads-coincide : (pair : Pair) (book : Book) (p s : List ℕ) (now : ℤ) {r t : Reading} → Reads pair book p s now r → Reads pair book p s now t → r ≡ t
 reads-coincide pair book p s now = determined
 
--- texts::offset::parse_offset
+-- offsets::parse_offset
 pub offsets-coincide : (s : List ℕ) {r t : Offset} → ParsesOffset s r → ParsesOffset s t → r ≡ t
 offsets-coincide s = determined
 

@@ -7,8 +7,8 @@ ghost use Rattle.meaning.specs.Bytes.{when};
 ghost use Rattle.meaning.specs.Writing.{signedText, twoDigitText};
 use fields::signed::is_negative;
 use fields::signed::size;
-use laying::put_marked;
-use laying::zero_padded;
+use numbers_out::put_marked;
+use numbers_out::zero_padded;
 
 // "`-` if negative, then num k"
 pub fn zero_padded_i(z: i32, k: usize, out: &mut [u8], at: usize) -> usize

@@ -10,9 +10,9 @@ ghost use Rattle.meaning.specs.Writing.{isThere, groupText, zoneText};
 use fields::signed::is_negative;
 use fields::signed::size;
 use laying::put_byte;
-use laying::put_marked;
-use laying::zero_padded;
 use meaning::Group;
+use numbers_out::put_marked;
+use numbers_out::zero_padded;
 
 fn is_there(group: Group, n: u32) -> bool
     ensures { λ r. ⌜ r ≡ isThere group n ⌝ }

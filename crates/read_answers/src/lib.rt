@@ -7,13 +7,13 @@ use meaning::Checked;
 use meaning::Offset;
 use meaning::Pair;
 use meaning::Reading;
+use offsets::parse_offset;
 use read_pieces::put_offset;
 use read_pieces::put_reading;
 use read_pieces::put_refused;
 use request_bytes::BYTES_ROOM;
 use request_bytes::bytes_at;
 use requests::signed_at;
-use texts::offset::parse_offset;
 
 fn read(pair: Pair, pattern: &[u8], text: &[u8], year: i32) -> Reading {
     match pair {

@@ -7,7 +7,7 @@ use meaning::Checked;
 use meaning::Pair;
 use meaning::Reading;
 use reading::no_reading;
-use texts::checks::read_check;
+use texts::read_check;
 use walk::parse_parts;
 
 // Reads a text by a pattern of either pair. A refused read gives only the refusal and its detail.

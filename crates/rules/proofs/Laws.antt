@@ -1,4 +1,4 @@
--- One law for the symbols that write one digit or two; and which roles are literals.
+-- Which roles are literals.
 use mathlib.Core.Bool.{Bool, true, false}
 use mathlib.Core.List.{List, [], _∷_}
 use mathlib.Core.Path.{_≡_, refl, sym}
@@ -6,19 +6,13 @@ use Prim.Native.Nat.{ℕ, _<_}
 use native.Mathlib.Omega.{arith}
 use lib.Dec.{eqb, leb}
 use borrow.Author.Tests.{leb-true, ne-eqb}
-use Rattle.meaning.specs.Bytes.{when}
-use Rattle.meaning.specs.Rules.{Symbol, oneOrTwo, ruleOf, pick, otherwiseRule, dateSymbols, timeSymbols, roleAmong, dateRole, timeRole, orElse, roleOf}
+use Rattle.meaning.specs.Rules.{Symbol, dateSymbols, timeSymbols, roleAmong, dateRole, timeRole, orElse, roleOf}
 use Rattle.meaning.specs.declared.Pair.{Pair}
 use Rattle.meaning.specs.declared.Pair.the-variants.{Full, Date}
 use Rattle.meaning.specs.declared.Role.{Role}
 use Rattle.meaning.specs.declared.Role.the-variants.{Literal}
-use Rattle.meaning.specs.declared.Rule.{Rule}
 use Rattle.laws.proofs.Tests.{by-test, both-true, every, true-is-not-false}
 use Rattle.rules.specs.Letters.{isAmong}
-
-pub one-or-two-rule : (letter : ℕ) (rule : ℕ → Rule) (c : ℕ) → rule (when (eqb c 1) 1 2) ≡ ruleOf (oneOrTwo letter rule) c
-unfolding ruleOf pick otherwiseRule
-one-or-two-rule letter rule c = by-test (eqb c 1) (λ e. rw e) (λ e. rw e)
 
 -- a byte that is no letter of the symbols is a literal
 absent : (symbols : List Symbol) (b c : ℕ) → isAmong symbols b ≡ false → roleAmong symbols b c ≡ Literal

@@ -3,12 +3,12 @@
 ghost use Rattle.sheet.specs.Sheet.{SheetWrites, SheetReads, SheetParsesOffset, SheetSplits, SheetChecks};
 use meaning::Fields;
 use meaning::Pair;
+use offsets::parse_offset;
 use reader::parse_with;
 use reading_rows::give_reading;
 use rows::answers::give_offset;
 use rows::answers::give_wrote;
 use split_rows::give_split;
-use texts::offset::parse_offset;
 use verdict::verdict_on;
 use verdict_rows::give_verdict;
 use writer::format_with;

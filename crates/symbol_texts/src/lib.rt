@@ -10,7 +10,6 @@ ghost use Rattle.meaning.specs.Names.{english};
 ghost use Rattle.meaning.specs.Writing.{quantityOf, nameText, ruleText};
 ghost use Rattle.meaning.specs.declared.Checked.the-variants.{Fine};
 use laying::put_byte;
-use laying::zero_padded;
 use leaves::years::two_digit_year;
 use leaves::years::zero_padded_i;
 use leaves::zones::format_zone;
@@ -19,6 +18,7 @@ use meaning::NameList;
 use meaning::Quantity;
 use meaning::Rule;
 use names_out::format_name;
+use numbers_out::zero_padded;
 use values::place_of;
 use values::quantity_of;
 
