@@ -1,4 +1,4 @@
-// The pieces of answers: a word and a number, a number behind a space, and a refusal.
+// The pieces of answers: a word and a number, a number behind a space, a refusal, and what no request gets.
 ghost use Prim.Native.Nat.{_+_, _≤_};
 ghost use lib.ListN.{length};
 ghost use Rattle.io.specs.Counts.{Counts};
@@ -39,4 +39,12 @@ pub fn answer_refused(why: Refusal, out: &mut [u8]) -> usize
         return put_detail(t.second, out, second);
     }
     second
+}
+
+// The answer to what is no request.
+pub fn put_bad(out: &mut [u8]) -> usize
+    requires { ⌜ 16384 ≤ length (now out) ⌝ }
+    ensures { λ r. ⌜ Counts r (now (out .exit)) ⌝ }
+{
+    put_bytes(b"bad request", out, 0)
 }

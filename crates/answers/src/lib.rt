@@ -2,8 +2,8 @@
 ghost use Prim.Native.Nat.{_≤_};
 ghost use lib.ListN.{length};
 ghost use Rattle.io.specs.Counts.{Counts};
+use answer_pieces::put_bad;
 use check_answers::answer_check;
-use laying::put_bytes;
 use meaning::Pair;
 use read_answers::answer_offset;
 use read_answers::answer_read;
@@ -62,13 +62,6 @@ fn answer_to(request: Request, line: &[u8], at: usize, out: &mut [u8]) -> usize
         Request::Check => answer_check(line, at, out),
         Request::Unknown => 0,
     }
-}
-
-fn put_bad(out: &mut [u8]) -> usize
-    requires { ⌜ 16384 ≤ length (now out) ⌝ }
-    ensures { λ r. ⌜ Counts r (now (out .exit)) ⌝ }
-{
-    put_bytes(b"bad request", out, 0)
 }
 
 // The answer to a line, both with no line's end, in the output from its start, and how long it is.

@@ -4,7 +4,7 @@ use mathlib.Core.Path.{_≡_, refl}
 use Prim.Native.Nat.{ℕ, _≤_}
 use native.Mathlib.Omega.{arith}
 use lib.ListN.{length}
-use Rattle.write_answers.specs.Marks.{lengthOf}
+use Rattle.write_pieces.specs.Marks.{lengthOf}
 use Rattle.laws.proofs.Checks.{write-fine}
 use Rattle.meaning.specs.Names.{english}
 use Rattle.meaning.specs.Whole.{text, writeCheck, wroteBy, write}

@@ -5,8 +5,8 @@ use lib.ListN.{length-take}
 use lib.Seq.{length-take-le}
 use borrow.Author.Needs.{needs}
 use denote.Ref.{now}
-use Rattle.write_answers.proofs.answer_wrote.Statement.{statement}
-use Rattle.write_answers.proofs.answer_wrote.Tie as tie
+use Rattle.write_pieces.proofs.answer_wrote.Statement.{statement}
+use Rattle.write_pieces.proofs.answer_wrote.Tie as tie
 
 written-requires : tie.Need-written-requires
 written-requires c κs = search needs

@@ -5,10 +5,10 @@ use native.Mathlib.Omega.{arith}
 use lib.ListN.{length, getD}
 use borrow.Author.Needs.{needs}
 use denote.Ref.{now}
-use Rattle.write_answers.proofs.Marked.{same-more}
-use Rattle.write_answers.specs.Marks.{markAt}
-use Rattle.write_answers.proofs.first_altered.Statement.{statement}
-use Rattle.write_answers.proofs.first_altered.Tie as tie
+use Rattle.write_pieces.proofs.Marked.{same-more}
+use Rattle.write_pieces.specs.Marks.{markAt}
+use Rattle.write_pieces.proofs.first_altered.Statement.{statement}
+use Rattle.write_pieces.proofs.first_altered.Tie as tie
 
 abbrev Inv-loop : tie.InvT-loop
 Inv-loop out from i₀ i = (from ≤ i) × ((k : ℕ) → from ≤ k → k < i → getD out k 0 ≡ markAt k)

@@ -4,8 +4,8 @@ use borrow.Author.Needs.{needs}
 use denote.Ref.{now}
 use Rattle.io.proofs.Counting.{counts}
 use Rattle.hex.proofs.HexDigits.{hex-length}
-use Rattle.write_answers.proofs.put_text.Statement.{statement}
-use Rattle.write_answers.proofs.put_text.Tie as tie
+use Rattle.write_pieces.proofs.put_text.Statement.{statement}
+use Rattle.write_pieces.proofs.put_text.Tie as tie
 
 slice-aggregate-put-counted : tie.Need-slice-aggregate-put-counted
 slice-aggregate-put-counted c = search needs

@@ -1,8 +1,8 @@
 -- The answer lies inside the output.
 use Rattle.io.proofs.Counting.{counts}
 use borrow.Author.Needs.{needs}
-use Rattle.answers.proofs.put_bad.Statement.{statement}
-use Rattle.answers.proofs.put_bad.Tie as tie
+use Rattle.answer_pieces.proofs.put_bad.Statement.{statement}
+use Rattle.answer_pieces.proofs.put_bad.Tie as tie
 
 slice-aggregate-put-bytes : tie.Need-slice-aggregate-put-bytes
 slice-aggregate-put-bytes c = search needs

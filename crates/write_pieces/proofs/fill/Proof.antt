@@ -4,10 +4,10 @@ use Prim.Native.Nat.{ℕ, _-_, _≤_, _<_}
 use native.Mathlib.Omega.{arith}
 use lib.ListN.{length, getD, length-set}
 use borrow.Author.Needs.{needs}
-use Rattle.write_answers.proofs.Marked.{marks-more}
-use Rattle.write_answers.specs.Marks.{markAt}
-use Rattle.write_answers.proofs.fill.Statement.{statement}
-use Rattle.write_answers.proofs.fill.Tie as tie
+use Rattle.write_pieces.proofs.Marked.{marks-more}
+use Rattle.write_pieces.specs.Marks.{markAt}
+use Rattle.write_pieces.proofs.fill.Statement.{statement}
+use Rattle.write_pieces.proofs.fill.Tie as tie
 
 abbrev Inv-loop : tie.InvT-loop
 Inv-loop out₀ i₀ out i = (i ≤ length out) × (length out ≡ length out₀) × ((k : ℕ) → k < i → getD out k 0 ≡ markAt k)

@@ -7,7 +7,7 @@ use lib.Dec.{eqb}
 use lib.ListN.{length, getD, set}
 use lib.Seq.{getD-set-same, getD-set-other}
 use borrow.Author.Tests.{eqb-true, eqb-false}
-use Rattle.write_answers.specs.Marks.{markAt}
+use Rattle.write_pieces.specs.Marks.{markAt}
 use Rattle.laws.proofs.Tests.{by-test}
 
 -- one more place
