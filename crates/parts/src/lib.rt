@@ -64,7 +64,7 @@ pub fn next_part(pattern: &[u8], at: usize) -> Part
 {
     let first = pattern[at];
     if first != b'\'' {
-        let end = run_end(pattern, at, first);
+        let end = run_end(pattern, at + 1, first);
         return Part {
             kind: Kind::Run,
             start: at,

@@ -27,18 +27,30 @@ use symbol_texts::format_rule;
 use symbol_texts::put_name_of;
 use values::quantity_of;
 
-// The number that a short one writes: 100, which no such number is, stands for none.
+fn short_quantity(short: Short) -> Quantity
+    ensures { λ r. ⌜ r ≡ shortQuantity short ⌝ }
+{
+    match short {
+        Short::Month => Quantity::Month,
+        Short::Day => Quantity::Day,
+        Short::Hour => Quantity::Hour0To23,
+        Short::Minute => Quantity::Minute,
+        Short::Second => Quantity::Second,
+        Short::Other => Quantity::Day,
+    }
+}
+
+// The number that a short one writes: 100, which no such number is, stands for none. The times share one call, so that what
+// they have in common is not computed for the month and the day.
 fn short_number(short: Short, f: Fields) -> u32
     requires { ⌜ fieldsCheck f ≡ Fine ⌝ }
     ensures { λ r. ⌜ r ≡ when (isShort short) (quantityOf (shortQuantity short) f) 100 ⌝ }
 {
     match short {
-        Short::Month => quantity_of(Quantity::Month, f),
-        Short::Day => quantity_of(Quantity::Day, f),
-        Short::Hour => quantity_of(Quantity::Hour0To23, f),
-        Short::Minute => quantity_of(Quantity::Minute, f),
-        Short::Second => quantity_of(Quantity::Second, f),
+        Short::Month => f.month,
+        Short::Day => f.day,
         Short::Other => 100,
+        _ => quantity_of(short_quantity(short), f),
     }
 }
 

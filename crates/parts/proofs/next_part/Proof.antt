@@ -1,27 +1,32 @@
 -- `next_part` meets its contract: each of its answers is the part with the first content.
+use mathlib.Core.Path.{refl}
 use Prim.Native.Nat.{_+_}
 use native.Mathlib.Omega.{arith}
 use lib.ListN.{length-drop}
 use borrow.Author.Needs.{needs}
 use denote.Ref.{now}
 use Rattle.parts.proofs.Answers.{part-run, part-quotes, part-quoted, part-open}
+use Rattle.parts.proofs.Scans.{run-more}
 use Rattle.parts.proofs.next_part.Statement.{statement}
 use Rattle.parts.proofs.next_part.Tie as tie
 
 shared-slice-read-first : tie.Need-shared-slice-read-first
 shared-slice-read-first c = search needs
 
+add-run-end : tie.Need-add-run-end
+add-run-end c = search needs
+
 run-end-requires : tie.Need-run-end-requires
 run-end-requires c κs = search needs
 
-sub-t11 : tie.Need-sub-t11
-sub-t11 c = search needs
+sub-t10 : tie.Need-sub-t10
+sub-t10 c = search needs
 
 returns : tie.Need-returns
 returns c =
     let a = c .before .before .before .before .args in
     let p = now (a .pattern) in
-    part-run p (a .at) _ (c .before .if1 .taken) (omega arith)
+    part-run p (a .at) _ (c .before .if1 .taken) (omega (arith, run-more p (a .at) (omega arith) _ refl))
 
 escaped-end-requires : tie.Need-escaped-end-requires
 escaped-end-requires c κs = search needs
@@ -67,8 +72,9 @@ next-part-spec =
     tie.close
     (tie.spec
     shared-slice-read-first
+    add-run-end
     run-end-requires
-    sub-t11
+    sub-t10
     returns
     escaped-end-requires
     sub-t13
