@@ -1,4 +1,4 @@
--- What runs read that need no rule looked up: literals, years, and the numbers that patterns have most.
+-- What runs read that need no rule looked up: literals, years, names, and the numbers that patterns have most.
 use mathlib.Core.Bool.{true, false}
 use mathlib.Core.List.{List}
 use mathlib.Core.Path.{_≡_, refl}
@@ -10,16 +10,17 @@ use borrow.Author.Tests.{eq-eqb, ne-eqb, eqb-false}
 use Rattle.laws.proofs.Tests.{by-test}
 use Rattle.meaning.specs.Names.{english}
 use Rattle.meaning.specs.Readers.{Got}
-use Rattle.meaning.specs.Reading.{passed, takenYear, yearLength, minusFirst, readRule, readStep}
+use Rattle.meaning.specs.Reading.{passed, takenYear, yearLength, minusFirst, matchedName, readRule, readStep}
 use Rattle.meaning.specs.Rules.{roleOf, dateRole, roleAmong, ruleOf, pick, otherwiseRule}
 use Rattle.meaning.specs.Writing.{runStep}
 use Rattle.meaning.specs.declared.Carried.{Carried}
+use Rattle.meaning.specs.declared.NameList.the-variants.{WdayWide}
 use Rattle.meaning.specs.declared.Pair.{Pair}
 use Rattle.rules.proofs.Laws.{below-letters, is-date}
-use Rattle.short_rules.proofs.ShortRules.{short-role}
+use Rattle.short_rules.proofs.ShortRules.{short-role, month-role}
 use Rattle.rules.specs.Letters.{isAmong}
 use Rattle.short_rules.specs.ShortRules.{isShort, shortOf}
-use Rattle.part_reads.specs.ShortReads.{shortRead}
+use Rattle.part_reads.specs.ShortReads.{shortRead, monthRead}
 
 -- what c bytes b read
 abbrev pub runRead : ℕ → Pair → ℕ → ℕ → List ℕ → Got Carried
@@ -48,6 +49,17 @@ fixed-read now pair c s long =
       ne-eqb c 3 (λ e. omega (arith, e)),
       ne-eqb c 4 (λ e. omega (arith, e)),
     )
+
+-- names of a month, of a weekday
+pub month-read : (now : ℕ) (pair : Pair) (c : ℕ) (s : List ℕ) → 2 < c → runRead now pair 77 c s ≡ monthRead c s
+unfolding readStep readRule
+month-read now pair c s long =
+    rw (month-role pair c long)
+    (by-test (eqb c 3) (λ e. rw e) (λ e. rw e (by-test (eqb c 5) (λ e′. rw e′) (λ e′. rw e′))))
+
+pub weekday-read : (now : ℕ) (pair : Pair) (s : List ℕ) → runRead now pair 101 4 s ≡ matchedName english WdayWide s
+unfolding readStep readRule dateRole roleAmong ruleOf pick otherwiseRule isAmong
+weekday-read now pair s = rw (is-date pair 101 4 refl)
 
 pub short-read : (now : ℕ) (pair : Pair) (b c : ℕ) (s : List ℕ) → 0 < c → c ≤ 2 → isShort (shortOf pair b) ≡ true
     → runRead now pair b c s ≡ shortRead (shortOf pair b) c s

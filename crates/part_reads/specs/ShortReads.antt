@@ -1,11 +1,13 @@
--- What the numbers that patterns have most read, at a count of one or two.
+-- What the numbers that patterns have most read, at a count of one or two, and what M reads at a higher one.
 use mathlib.Core.List.{List, [], _∷_}
 use Prim.Native.Nat.{ℕ, zero, suc, _+_, _-_, _*_}
 use lib.Dec.{eqb}
 use Rattle.meaning.specs.Bytes.{when, isDigit}
-use Rattle.meaning.specs.Readers.{Got, reach}
-use Rattle.meaning.specs.Reading.{takenNumber}
+use Rattle.meaning.specs.Names.{english}
+use Rattle.meaning.specs.Readers.{Got, Reader, reach}
+use Rattle.meaning.specs.Reading.{takenNumber, passed, matchedName}
 use Rattle.meaning.specs.declared.Carried.{Carried}
+use Rattle.meaning.specs.declared.NameList.the-variants.{MonthAbbreviated, MonthWide}
 use Rattle.short_rules.specs.ShortRules.{shortUnit, shortMost}
 use Rattle.short_rules.specs.declared.Short.{Short}
 
@@ -27,3 +29,7 @@ shortSize (suc (suc zero)) [] = 100
 shortSize (suc (suc zero)) (a ∷ []) = 100
 shortSize (suc (suc zero)) (a ∷ b ∷ s) = pairSize a b
 shortSize (suc (suc (suc k))) s = 100
+
+abbrev pub monthRead : ℕ → Reader Carried
+monthRead c s =
+    when (eqb c 3) (matchedName english MonthAbbreviated s) (when (eqb c 5) (passed 1 s) (matchedName english MonthWide s))

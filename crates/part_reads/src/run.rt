@@ -1,4 +1,5 @@
-// What a run of equal bytes reads. Literals, and the numbers and years that patterns have most, need no rule looked up.
+// What a run of equal bytes reads. Literals, and the numbers, years and names that patterns have most, need no rule looked
+// up.
 ghost use mathlib.Core.Path.{_≡_};
 ghost use Prim.Native.Nat.{_≤_, _<_};
 ghost use lib.ListN.{length, drop};
@@ -8,9 +9,10 @@ ghost use Rattle.meaning.specs.Rules.{roleOf};
 ghost use Rattle.meaning.specs.Writing.{runStep};
 ghost use Rattle.parse.specs.Steps.{partAt};
 ghost use Rattle.short_rules.specs.ShortRules.{isShort, shortUnit, shortMost};
-ghost use Rattle.part_reads.specs.ShortReads.{shortRead};
+ghost use Rattle.part_reads.specs.ShortReads.{shortRead, monthRead};
 use crate::digits::short_size;
 use meaning::Carried;
+use meaning::NameList;
 use meaning::Pair;
 use meaning::ParseUnit;
 use meaning::Role;
@@ -22,6 +24,7 @@ use parse::steps::take_number;
 use rules::role_of;
 use short_rules::Short;
 use short_rules::short_of;
+use symbols::names::parse_name;
 use symbols::rule::parse_rule;
 use years::parse_fixed_year;
 use years::parse_years;
@@ -101,6 +104,20 @@ fn parse_symbol(
     }
 }
 
+// M, more than twice.
+fn parse_month(count: usize, text: &[u8], cursor: Cursor) -> PartRead
+    requires { ⌜ cursor .at ≤ length (now text) ⌝ }
+    ensures { λ r. ⌜ r ≡ partAt (cursor .at) (monthRead count (drop (cursor .at) (now (text .entry)))) ⌝ }
+{
+    if count == 3 {
+        return parse_name(NameList::MonthAbbreviated, text, cursor);
+    }
+    if count == 5 {
+        return pass(1, text, cursor);
+    }
+    parse_name(NameList::MonthWide, text, cursor)
+}
+
 // More than two bytes.
 fn parse_longer(
     pair: Pair,
@@ -118,6 +135,14 @@ fn parse_longer(
             return parse_years(text, cursor);
         }
         return parse_fixed_year(count, text, cursor);
+    }
+    if b == b'M' {
+        return parse_month(count, text, cursor);
+    }
+    if b == b'e' {
+        if count == 4 {
+            return parse_name(NameList::WdayWide, text, cursor);
+        }
     }
     parse_symbol(pair, b, count, current_year, text, cursor)
 }
