@@ -25,7 +25,6 @@ unfoldable pub secondDigits : ℕ → ℕ → List ℕ → Digits
 secondDigits a least s = when (ltb (digitFirst s) 10) (found (a * 10 + digitFirst s) 2) (when (eqb least 1) (found a 1) (found 100 0))
 
 unfoldable pub shortDigits : ℕ → ℕ → List ℕ → Digits
-unfolding secondDigits
 shortDigits least most s =
     when (eqb (digitFirst s) 100) (found 100 0)
     (when (eqb most 1) (found (digitFirst s) 1) (secondDigits (digitFirst s) least (drop 1 s)))
