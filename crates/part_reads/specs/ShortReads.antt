@@ -1,29 +1,38 @@
--- What the numbers that patterns have most read, at a count of one or two.
+-- The digits of the numbers that patterns have most, at a count of one or two, and what M reads at a higher one.
 use mathlib.Core.List.{List, [], _∷_}
-use Prim.Native.Nat.{ℕ, zero, suc, _+_, _-_, _*_}
-use lib.Dec.{eqb}
+use Prim.Native.Nat.{ℕ, _+_, _-_, _*_}
+use lib.Dec.{eqb, ltb}
+use lib.ListN.{drop}
 use Rattle.meaning.specs.Bytes.{when, isDigit}
-use Rattle.meaning.specs.Readers.{Got, reach}
-use Rattle.meaning.specs.Reading.{takenNumber}
+use Rattle.meaning.specs.Names.{english}
+use Rattle.meaning.specs.Readers.{Reader}
+use Rattle.meaning.specs.Reading.{passed, matchedName}
 use Rattle.meaning.specs.declared.Carried.{Carried}
-use Rattle.short_rules.specs.ShortRules.{shortUnit, shortMost}
+use Rattle.meaning.specs.declared.NameList.the-variants.{MonthAbbreviated, MonthWide}
+use Rattle.short_rules.specs.ShortRules.{isShort, shortMost}
 use Rattle.short_rules.specs.declared.Short.{Short}
+use Rattle.part_reads.specs.declared.digits.Digits.{Digits}
 
-abbrev pub shortRead : Short → ℕ → List ℕ → Got Carried
-shortRead short c s = takenNumber (shortUnit short) 0 (reach (shortMost short c - c) c s) s
+-- one digit or two in front of a text: the number, and the bytes that it takes; 100, which no such number is, stands for none
+abbrev pub digitFirst : List ℕ → ℕ
+digitFirst [] = 100
+digitFirst (b ∷ s) = when (isDigit b) (b - 48) 100
 
--- one digit or two in front of a text as a number, or 100; the law `short-taken` of proofs/Taken says that it is the one taken
-abbrev pub digitSize : ℕ → ℕ
-digitSize b = when (isDigit b) (b - 48) 100
+abbrev pub found : ℕ → ℕ → Digits
+found n k = record { size = n; taken = k }
 
-abbrev pub pairSize : ℕ → ℕ → ℕ
-pairSize a b = when (eqb (digitSize a) 100) 100 (when (eqb (digitSize b) 100) 100 (digitSize a * 10 + digitSize b))
+unfoldable pub secondDigits : ℕ → ℕ → List ℕ → Digits
+secondDigits a least s = when (ltb (digitFirst s) 10) (found (a * 10 + digitFirst s) 2) (when (eqb least 1) (found a 1) (found 100 0))
 
-unfoldable pub shortSize : ℕ → List ℕ → ℕ
-shortSize zero s = 100
-shortSize (suc zero) [] = 100
-shortSize (suc zero) (a ∷ s) = digitSize a
-shortSize (suc (suc zero)) [] = 100
-shortSize (suc (suc zero)) (a ∷ []) = 100
-shortSize (suc (suc zero)) (a ∷ b ∷ s) = pairSize a b
-shortSize (suc (suc (suc k))) s = 100
+unfoldable pub shortDigits : ℕ → ℕ → List ℕ → Digits
+shortDigits least most s =
+    when (eqb (digitFirst s) 100) (found 100 0)
+    (when (eqb most 1) (found (digitFirst s) 1) (secondDigits (digitFirst s) least (drop 1 s)))
+
+-- those of a number that patterns have most; that they are what its rule reads is the law `short-read` of proofs/Runs
+abbrev pub digitsOf : Short → ℕ → List ℕ → Digits
+digitsOf short c s = when (isShort short) (shortDigits c (shortMost short c) s) (found 100 0)
+
+abbrev pub monthRead : ℕ → Reader Carried
+monthRead c s =
+    when (eqb c 3) (matchedName english MonthAbbreviated s) (when (eqb c 5) (passed 1 s) (matchedName english MonthWide s))

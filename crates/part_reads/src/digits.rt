@@ -1,42 +1,61 @@
-// One digit or two in front of a text, as a number: 100, which no such number is, stands for none.
+// One digit or two in front of a text, each byte looked at once.
 ghost use mathlib.Core.Path.{_≡_};
-ghost use Rattle.part_reads.specs.ShortReads.{digitSize, pairSize, shortSize};
+ghost use Prim.Native.Nat.{_<_};
+ghost use lib.ListN.{drop};
+ghost use Rattle.part_reads.specs.ShortReads.{digitFirst, secondDigits, shortDigits};
 use numerals::is_digit;
 
-fn digit_size(b: u8) -> u32
-    ensures { λ r. ⌜ r ≡ digitSize b ⌝ }
+// The number that they are, and the bytes that they take.
+pub struct Digits {
+    pub size: u32,
+    pub taken: usize,
+}
+
+// 100, which no such number is, stands for none.
+pub const NONE: Digits = Digits {
+    size: 100,
+    taken: 0,
+};
+
+fn digit_at(text: &[u8], at: usize) -> u32
+    ensures { λ r. ⌜ r ≡ digitFirst (drop at (now (text .entry))) ⌝ }
 {
-    if is_digit(b) {
-        return (b - b'0') as u32;
+    if at < text.len() {
+        let b = text[at];
+        if is_digit(b) {
+            return (b - b'0') as u32;
+        }
     }
     100
 }
 
-fn pair_size(a: u8, b: u8) -> u32
-    ensures { λ r. ⌜ r ≡ pairSize a b ⌝ }
+// Behind a digit: the next, or the one by itself where that is enough.
+fn second_digit(a: u32, least: u8, text: &[u8], at: usize) -> Digits
+    requires { ⌜ a < 10 ⌝ }
+    ensures { λ r. ⌜ r ≡ secondDigits a least (drop at (now (text .entry))) ⌝ }
 {
-    let tens = digit_size(a);
-    if tens == 100 {
-        return 100;
+    let b = digit_at(text, at);
+    if b < 10 {
+        return Digits {
+            size: a * 10 + b,
+            taken: 2,
+        };
     }
-    let ones = digit_size(b);
-    if ones == 100 {
-        return 100;
+    if least == 1 {
+        return Digits { size: a, taken: 1 };
     }
-    tens * 10 + ones
+    NONE
 }
 
-pub fn short_size(k: usize, text: &[u8]) -> u32
-    ensures { λ r. ⌜ r ≡ shortSize k (now (text .entry)) ⌝ }
+pub fn short_digits(least: u8, most: u8, text: &[u8], at: usize) -> Digits
+    ensures { λ r. ⌜ r ≡ shortDigits least most (drop at (now (text .entry))) ⌝ }
 {
-    if text.len() < k {
-        return 100;
+    let a = digit_at(text, at);
+    if a == 100 {
+        return NONE;
     }
-    if k == 1 {
-        return digit_size(text[0]);
+    if most == 1 {
+        return Digits { size: a, taken: 1 };
     }
-    if k == 2 {
-        return pair_size(text[0], text[1]);
-    }
-    100
+    second_digit(a, least, text, at + 1)
 }

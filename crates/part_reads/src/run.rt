@@ -1,4 +1,5 @@
-// What a run of equal bytes reads. Literals, and the numbers and years that patterns have most, need no rule looked up.
+// What a run of equal bytes reads. Literals, and the numbers, years and names that patterns have most, need no rule looked
+// up.
 ghost use mathlib.Core.Path.{_≡_};
 ghost use Prim.Native.Nat.{_≤_, _<_};
 ghost use lib.ListN.{length, drop};
@@ -8,20 +9,22 @@ ghost use Rattle.meaning.specs.Rules.{roleOf};
 ghost use Rattle.meaning.specs.Writing.{runStep};
 ghost use Rattle.parse.specs.Steps.{partAt};
 ghost use Rattle.short_rules.specs.ShortRules.{isShort, shortUnit, shortMost};
-ghost use Rattle.part_reads.specs.ShortReads.{shortRead};
-use crate::digits::short_size;
+ghost use Rattle.part_reads.specs.ShortReads.{digitsOf, monthRead};
+use crate::digits::Digits;
+use crate::digits::NONE;
+use crate::digits::short_digits;
 use meaning::Carried;
+use meaning::NameList;
 use meaning::Pair;
 use meaning::ParseUnit;
 use meaning::Role;
-use numerals::extent;
 use parse::cursor::Cursor;
 use parse::cursor::PartRead;
 use parse::steps::pass;
-use parse::steps::take_number;
 use rules::role_of;
 use short_rules::Short;
 use short_rules::short_of;
+use symbols::names::parse_name;
 use symbols::rule::parse_rule;
 use years::parse_fixed_year;
 use years::parse_years;
@@ -65,21 +68,14 @@ fn short_most(short: Short, count: u8) -> u8
     }
 }
 
-fn parse_short(short: Short, count: u8, text: &[u8], cursor: Cursor) -> PartRead
-    requires { ⌜ cursor .at ≤ length (now text) ⌝ }
-    ensures { λ r. ⌜ r ≡ partAt (cursor .at) (shortRead short count (drop (cursor .at) (now (text .entry)))) ⌝ }
+// The digits of a short number, if it is one.
+fn parse_short(short: Short, count: u8, text: &[u8], at: usize) -> Digits
+    ensures { λ r. ⌜ r ≡ digitsOf short count (drop at (now (text .entry))) ⌝ }
 {
-    let at = cursor.at;
-    let k = extent(count, short_most(short, count), text, at);
-    let unit = short_unit(short);
-    let n = short_size(k, &text[at..]);
-    if 100 <= n {
-        return take_number(unit, 0, k, text, cursor);
+    if is_short(short) {
+        return short_digits(count, short_most(short, count), text, at);
     }
-    PartRead::Got {
-        carried: Carried::Value(unit, n as i64),
-        next: Cursor { at: at + k },
-    }
+    NONE
 }
 
 // By the table.
@@ -101,6 +97,20 @@ fn parse_symbol(
     }
 }
 
+// M, more than twice.
+fn parse_month(count: usize, text: &[u8], cursor: Cursor) -> PartRead
+    requires { ⌜ cursor .at ≤ length (now text) ⌝ }
+    ensures { λ r. ⌜ r ≡ partAt (cursor .at) (monthRead count (drop (cursor .at) (now (text .entry)))) ⌝ }
+{
+    if count == 3 {
+        return parse_name(NameList::MonthAbbreviated, text, cursor);
+    }
+    if count == 5 {
+        return pass(1, text, cursor);
+    }
+    parse_name(NameList::MonthWide, text, cursor)
+}
+
 // More than two bytes.
 fn parse_longer(
     pair: Pair,
@@ -119,7 +129,43 @@ fn parse_longer(
         }
         return parse_fixed_year(count, text, cursor);
     }
+    if b == b'M' {
+        return parse_month(count, text, cursor);
+    }
+    if b == b'e' {
+        if count == 4 {
+            return parse_name(NameList::WdayWide, text, cursor);
+        }
+    }
     parse_symbol(pair, b, count, current_year, text, cursor)
+}
+
+// What needs more than digits.
+fn parse_other(
+    pair: Pair,
+    b: u8,
+    count: usize,
+    current_year: u32,
+    text: &[u8],
+    cursor: Cursor,
+) -> PartRead
+    requires { ⌜ cursor .at ≤ length (now text) ⌝ }
+    ensures { λ r. ⌜ r ≡ partAt (cursor .at) (readStep english «current_year» (runStep (roleOf pair b count) b count) (drop (cursor .at) (now (text .entry)))) ⌝ }
+{
+    if 2 < count {
+        return parse_longer(pair, b, count, current_year, text, cursor);
+    }
+    parse_symbol(pair, b, count, current_year, text, cursor)
+}
+
+// Given anew, so that an answer made by the caller itself does not go through memory.
+fn moved_on(read: PartRead) -> PartRead
+    ensures { λ r. ⌜ r ≡ read ⌝ }
+{
+    match read {
+        PartRead::Stopped { trouble, place } => PartRead::Stopped { trouble, place },
+        PartRead::Got { carried, next } => PartRead::Got { carried, next },
+    }
 }
 
 pub fn parse_run(
@@ -136,12 +182,19 @@ pub fn parse_run(
     if b < b'A' {
         return pass(count, text, cursor);
     }
-    if 2 < count {
-        return parse_longer(pair, b, count, current_year, text, cursor);
+    // Where the digits are not there, the table says what is.
+    if count <= 2 {
+        let short = short_of(pair, b);
+        let read = parse_short(short, count as u8, text, cursor.at);
+        if read.size < 100 {
+            let unit = short_unit(short);
+            return PartRead::Got {
+                carried: Carried::Value(unit, read.size as i64),
+                next: Cursor {
+                    at: cursor.at + read.taken,
+                },
+            };
+        }
     }
-    let short = short_of(pair, b);
-    if is_short(short) {
-        return parse_short(short, count as u8, text, cursor);
-    }
-    parse_symbol(pair, b, count, current_year, text, cursor)
+    moved_on(parse_other(pair, b, count, current_year, text, cursor))
 }

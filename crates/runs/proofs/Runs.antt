@@ -16,7 +16,7 @@ use Rattle.meaning.specs.declared.Fields.{Fields}
 use Rattle.meaning.specs.declared.NameList.the-variants.{MonthAbbreviated, MonthNarrow, MonthWide, WdayAbbreviated, WdayWide, WdayNarrow, WdayShort}
 use Rattle.meaning.specs.declared.Pair.{Pair}
 use Rattle.rules.proofs.Laws.{below-letters, is-date}
-use Rattle.short_rules.proofs.ShortRules.{short-role}
+use Rattle.short_rules.proofs.ShortRules.{short-role, month-role}
 use Rattle.rules.specs.Letters.{isAmong}
 use Rattle.short_rules.specs.ShortRules.{isShort, shortOf, shortQuantity}
 
@@ -39,9 +39,9 @@ year-run pair c f long =
 -- names of a month, of a weekday
 pub month-run : (pair : Pair) (c : ℕ) (f : Fields) → 2 < c
     → runText pair 77 c f ≡ nameText english (when (eqb c 3) MonthAbbreviated (when (eqb c 5) MonthNarrow MonthWide)) f
-unfolding stepText ruleText dateRole roleAmong ruleOf pick otherwiseRule isAmong
+unfolding stepText ruleText
 month-run pair c f long =
-    rw (is-date pair 77 c refl, ne-eqb c 1 (λ e. omega (arith, e)), ne-eqb c 2 (λ e. omega (arith, e)))
+    rw (month-role pair c long)
     (by-test (eqb c 3) (λ e. rw e) (λ e. rw e (by-test (eqb c 5) (λ e′. rw e′) (λ e′. rw e′))))
 
 pub weekday-run : (pair : Pair) (c : ℕ) (f : Fields) → 2 < c → c ≤ 6

@@ -1,13 +1,15 @@
-// Names: what the name at a place of its list carries.
+// Names: what the name at a place of its list carries, and a name in a text.
 ghost use mathlib.Core.Path.{_≡_};
-ghost use Prim.Native.Nat.{_<_};
-ghost use lib.ListN.{length};
+ghost use Prim.Native.Nat.{_≤_, _<_};
+ghost use lib.ListN.{length, drop};
 ghost use Rattle.meaning.specs.Names.{names, english};
 ghost use Rattle.meaning.specs.Reading as reading;
+ghost use Rattle.parse.specs.Steps.{partAt};
 ghost use Rattle.symbols.specs.Matches.{namedBy, indexBelow};
 use meaning::Carried;
 use meaning::NameList;
 use meaning::ParseUnit;
+use parse::cursor::Cursor;
 use parse::cursor::Matched;
 use parse::cursor::PartRead;
 
@@ -68,4 +70,11 @@ pub fn named(list: NameList, matched: Matched) -> PartRead
             PartRead::Got { carried, next }
         }
     }
+}
+
+pub fn parse_name(list: NameList, text: &[u8], cursor: Cursor) -> PartRead
+    requires { ⌜ cursor .at ≤ length (now text) ⌝ }
+    ensures { λ r. ⌜ r ≡ partAt (cursor .at) (reading.matchedName english list (drop (cursor .at) (now (text .entry)))) ⌝ }
+{
+    named(list, cursor.match_name(list, text))
 }

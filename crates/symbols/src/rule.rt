@@ -6,6 +6,7 @@ ghost use Rattle.meaning.specs.Names.{english};
 ghost use Rattle.meaning.specs.Reading.{readRule};
 ghost use Rattle.parse.specs.Steps.{partAt};
 use crate::names::named;
+use crate::names::parse_name;
 use meaning::Rule;
 use numerals::extent;
 use parse::cursor::Cursor;
@@ -42,7 +43,7 @@ pub fn parse_rule(rule: Rule, current_year: u32, text: &[u8], cursor: Cursor) ->
         }
         Rule::LetterQuarter => pass(2, text, cursor),
         Rule::SkippedName { names: _, length } => pass(length, text, cursor),
-        Rule::MatchedName(names) => named(names, cursor.match_name(names, text)),
+        Rule::MatchedName(names) => parse_name(names, text, cursor),
         Rule::Letters { names, length } => named(names, cursor.match_letters(names, length, text)),
         Rule::Years(_) => parse_years(text, cursor),
         Rule::FixedYear(count) => parse_fixed_year(count, text, cursor),

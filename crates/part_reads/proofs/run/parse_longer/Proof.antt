@@ -1,9 +1,9 @@
--- A year reads its digits.
+-- A year reads its digits, a month and a weekday their names.
 use borrow.Author.Needs.{needs}
 use denote.Ref.{now}
 use lib.ListN.{drop}
 use native.Mathlib.Omega.{arith}
-use Rattle.part_reads.proofs.Runs.{years-read, fixed-read}
+use Rattle.part_reads.proofs.Runs.{years-read, fixed-read, month-read, weekday-read}
 use Rattle.part_reads.proofs.run.parse_longer.Statement.{statement}
 use Rattle.part_reads.proofs.run.parse_longer.Tie as tie
 
@@ -29,11 +29,30 @@ returns-2 c =
     let many = c .before .if2 .left in
     rw (m .if1 .taken, fixed-read (a .args .current-year) (a .args .pair) (a .args .count) s (omega (arith, many))) (c .parse-fixed-year .ensures)
 
+parse-month-requires : tie.Need-parse-month-requires
+parse-month-requires c κs = search needs
+
+returns-3 : tie.Need-returns-3
+returns-3 c =
+    let a = c .before .before .before .before in
+    let s = drop (a .args .cursor .at) (now (a .args .text)) in
+    rw (c .before .if3 .taken, month-read (a .args .current-year) (a .args .pair) (a .args .count) s (a .pre .0)) (c .parse-month .ensures)
+
+parse-name-requires : tie.Need-parse-name-requires
+parse-name-requires c κs = search needs
+
+returns-4 : tie.Need-returns-4
+returns-4 c =
+    let m = c .before .before in
+    let a = m .before .before .before .before .args in
+    let s = drop (a .cursor .at) (now (a .text)) in
+    rw (m .if4 .taken, c .before .if5 .taken, weekday-read (a .current-year) (a .pair) s) (c .parse-name .ensures)
+
 parse-symbol-requires : tie.Need-parse-symbol-requires
 parse-symbol-requires c κs = search needs
 
-returns-3 : tie.Need-returns-3
-returns-3 c = search needs
+returns-5 : tie.Need-returns-5
+returns-5 c = search needs
 
 pub parse-longer-spec : {M : Type 1} → statement M
 parse-longer-spec =
@@ -43,5 +62,9 @@ parse-longer-spec =
     returns
     parse-fixed-year-requires
     returns-2
+    parse-month-requires
+    returns-3
+    parse-name-requires
+    returns-4
     parse-symbol-requires
-    returns-3)
+    returns-5)

@@ -3,9 +3,9 @@ use borrow.Author.Needs.{needs}
 use denote.Ref.{now}
 use lib.ListN.{drop}
 use Rattle.meaning.specs.Names.{names, english}
-use Rattle.meaning.specs.Readers.{matchName, letters}
+use Rattle.meaning.specs.Readers.{letters}
 use Rattle.meaning.specs.Reading.{readRule}
-use Rattle.symbols.proofs.NameParts.{part-named, match-below, letters-below}
+use Rattle.symbols.proofs.NameParts.{part-named, letters-below}
 use Rattle.symbols.proofs.rule.parse_rule.Statement.{statement}
 use Rattle.symbols.proofs.rule.parse_rule.Tie as tie
 
@@ -42,15 +42,8 @@ pass-requires-3 c κs = search needs
 enum-known-rule-4 : tie.Need-enum-known-rule-4
 enum-known-rule-4 c = search needs
 
-match-name-requires : tie.Need-match-name-requires
-match-name-requires c κs = search needs
-
-named-requires : tie.Need-named-requires
-named-requires c κs =
-    let a = c .before .before .before .before .before .args in
-    let at = a .cursor .at in
-    let text = now (a .text) in
-    rw (c .match-name .ensures) (match-below at _ (drop at text))
+parse-name-requires : tie.Need-parse-name-requires
+parse-name-requires c κs = search needs
 
 enum-known-rule-5 : tie.Need-enum-known-rule-5
 enum-known-rule-5 c = search needs
@@ -58,8 +51,8 @@ enum-known-rule-5 c = search needs
 match-letters-requires : tie.Need-match-letters-requires
 match-letters-requires c κs = search needs
 
-named-requires-2 : tie.Need-named-requires-2
-named-requires-2 c κs =
+named-requires : tie.Need-named-requires
+named-requires c κs =
     let a = c .before .before .before .before .before .args in
     let at = a .cursor .at in
     let text = now (a .text) in
@@ -107,12 +100,7 @@ returns-4 c = rw (c .before .before .rule3 .given .1) (c .pass3 .ensures)
 
 returns-5 : tie.Need-returns-5
 unfolding readRule
-returns-5 c =
-    let a = c .before .before .before .before .before .before .args in
-    let at = a .cursor .at in
-    let text = now (a .text) in
-    let l = c .before .before .before .rule4 .given .0 .0 in
-    rw (c .before .before .before .rule4 .given .1, part-named l at (matchName (names english l)) (drop at text), ← c .before .match-name .ensures) (c .named .ensures)
+returns-5 c = rw (c .before .before .rule4 .given .1) (c .parse-name .ensures)
 
 returns-6 : tie.Need-returns-6
 unfolding readRule
@@ -122,7 +110,7 @@ returns-6 c =
     let text = now (a .text) in
     let l = c .before .before .before .rule5 .given .0 .0 in
     let k = c .before .before .before .rule5 .given .0 .1 .0 in
-    rw (c .before .before .before .rule5 .given .1, part-named l at (letters k (names english l)) (drop at text), ← c .before .match-letters .ensures) (c .named2 .ensures)
+    rw (c .before .before .before .rule5 .given .1, part-named l at (letters k (names english l)) (drop at text), ← c .before .match-letters .ensures) (c .named .ensures)
 
 returns-7 : tie.Need-returns-7
 unfolding readRule
@@ -155,11 +143,10 @@ parse-rule-spec =
     enum-known-rule-3
     pass-requires-3
     enum-known-rule-4
-    match-name-requires
-    named-requires
+    parse-name-requires
     enum-known-rule-5
     match-letters-requires
-    named-requires-2
+    named-requires
     enum-told-2
     parse-years-requires
     enum-known-rule-6
