@@ -43,7 +43,7 @@ pub fn answer_refused(why: Refusal, out: &mut [u8]) -> usize
 
 // The answer to what is no request.
 pub fn put_bad(out: &mut [u8]) -> usize
-    requires { ⌜ 16384 ≤ length (now out) ⌝ }
+    requires { ⌜ 11 ≤ length (now out) ⌝ }
     ensures { λ r. ⌜ Counts r (now (out .exit)) ⌝ }
 {
     put_bytes(b"bad request", out, 0)

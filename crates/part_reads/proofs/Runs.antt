@@ -25,9 +25,10 @@ use Rattle.short_rules.specs.ShortRules.{isShort, shortOf, shortQuantity, short
 use Rattle.short_rules.specs.declared.Short.{Short}
 use Rattle.short_rules.specs.declared.Short.the-variants.{Month, Day, Hour, Minute, Second, Other}
 use Rattle.symbols.proofs.Within.{within-step}
-use Rattle.part_reads.specs.ShortReads.{digitsOf, monthRead}
-use Rattle.part_reads.specs.declared.digits.Digits.{Digits}
-use Rattle.part_reads.proofs.Taken.{digits-read}
+use Rattle.short_reads.proofs.Taken.{digits-read}
+use Rattle.short_reads.specs.ShortReads.{digitsOf}
+use Rattle.short_reads.specs.declared.Digits.{Digits}
+use Rattle.part_reads.specs.MonthReads.{monthRead}
 
 -- what c bytes b read
 abbrev pub runRead : ℕ → Pair → ℕ → ℕ → List ℕ → Got Carried

@@ -1,1 +1,1 @@
-pub mod ShortReads
+pub mod MonthReads

@@ -1,4 +1,3 @@
 // Reading, document 01's column Reads: what a run of equal bytes and what a part reads.
-pub mod digits;
 pub mod part;
 pub mod run;

@@ -8,11 +8,8 @@ ghost use Rattle.meaning.specs.Reading.{readStep};
 ghost use Rattle.meaning.specs.Rules.{roleOf};
 ghost use Rattle.meaning.specs.Writing.{runStep};
 ghost use Rattle.parse.specs.Steps.{partAt};
-ghost use Rattle.short_rules.specs.ShortRules.{isShort, shortUnit, shortMost};
-ghost use Rattle.part_reads.specs.ShortReads.{digitsOf, monthRead};
-use crate::digits::Digits;
-use crate::digits::NONE;
-use crate::digits::short_digits;
+ghost use Rattle.short_rules.specs.ShortRules.{shortUnit};
+ghost use Rattle.part_reads.specs.MonthReads.{monthRead};
 use meaning::Carried;
 use meaning::NameList;
 use meaning::Pair;
@@ -22,25 +19,13 @@ use parse::cursor::Cursor;
 use parse::cursor::PartRead;
 use parse::steps::pass;
 use rules::role_of;
+use short_reads::parse_short;
 use short_rules::Short;
 use short_rules::short_of;
 use symbols::names::parse_name;
 use symbols::rule::parse_rule;
 use years::parse_fixed_year;
 use years::parse_years;
-
-fn is_short(short: Short) -> bool
-    ensures { λ r. ⌜ r ≡ isShort short ⌝ }
-{
-    match short {
-        Short::Month => true,
-        Short::Day => true,
-        Short::Hour => true,
-        Short::Minute => true,
-        Short::Second => true,
-        Short::Other => false,
-    }
-}
 
 fn short_unit(short: Short) -> ParseUnit
     ensures { λ r. ⌜ r ≡ shortUnit short ⌝ }
@@ -53,29 +38,6 @@ fn short_unit(short: Short) -> ParseUnit
         Short::Second => ParseUnit::Second,
         Short::Other => ParseUnit::DayOfMonth,
     }
-}
-
-fn short_most(short: Short, count: u8) -> u8
-    ensures { λ r. ⌜ r ≡ shortMost short count ⌝ }
-{
-    match short {
-        Short::Month => count,
-        Short::Day => 2,
-        Short::Hour => 2,
-        Short::Minute => 2,
-        Short::Second => 2,
-        Short::Other => 2,
-    }
-}
-
-// The digits of a short number, if it is one.
-fn parse_short(short: Short, count: u8, text: &[u8], at: usize) -> Digits
-    ensures { λ r. ⌜ r ≡ digitsOf short count (drop at (now (text .entry))) ⌝ }
-{
-    if is_short(short) {
-        return short_digits(count, short_most(short, count), text, at);
-    }
-    NONE
 }
 
 // By the table.

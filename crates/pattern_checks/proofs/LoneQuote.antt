@@ -8,7 +8,7 @@ use native.Mathlib.Omega.{arith}
 use lib.Dec.{eqb, ltb}
 use lib.ListN.{length, getD, drop, drop-of-length-le, length-drop}
 use lib.Seq.{drop-drop}
-use borrow.Author.Tests.{ltb-true, ltb-false, eq-eqb, ne-eqb}
+use borrow.Author.Tests.{ltb-true, ltb-false, eq-eqb, ne-eqb, eqb-false}
 use Rattle.laws.proofs.Tests.{by-test, true-is-not-false}
 use Rattle.meaning.specs.Answers.{_else_, bytesCheck, endsInLoneQuote, patternCheck}
 use Rattle.meaning.specs.Bytes.{when, both, quote}
@@ -108,6 +108,15 @@ module _ (p : List ℕ) where
   pub check-fine : bytesCheck p ≡ Fine → endsInLoneQuote (contents p) ≡ false → patternCheck p ≡ Fine
   unfolding patternCheck
   check-fine e f = rw (e, f)
+
+fine-behind : (c : Checked) → (c else Fine) ≡ c
+fine-behind Fine = refl
+fine-behind (Refused why) = refl
+
+-- a pattern whose last byte is no quote is checked by its bytes alone
+pub check-plain : (p : List ℕ) → eqb (getD p (length p - 1) 0) quote ≡ false → patternCheck p ≡ bytesCheck p
+unfolding patternCheck
+check-plain p e = rw (no-lone p (eqb-false (getD p (length p - 1) 0) quote e)) (fine-behind (bytesCheck p))
 
 both-fine : (c : Checked) (t : Bool) (why : Refusal) → (c else when t (Refused why) Fine) ≡ Fine → (c ≡ Fine) × (t ≡ false)
 both-fine Fine true why e = absurd (let z : _≡_ {A = ℕ} 0 1 = cc in omega arith)

@@ -2,6 +2,7 @@
 use meaning::Checked;
 use meaning::Refusal;
 use parts::next_part;
+use parts::quoted::ends_in_quote;
 ghost use mathlib.Core.Path.{_≡_};
 ghost use Rattle.meaning.specs.Answers.{bytesCheck, endsInLoneQuote, patternCheck};
 ghost use Rattle.meaning.specs.Splitting.{contents};
@@ -41,8 +42,8 @@ fn ends_in_lone_quote(pattern: &[u8]) -> bool
     place < n
 }
 
-// Refusals 1, 2 and 3, in this order.
-pub fn pattern_check(pattern: &[u8]) -> Checked
+// Refusals 1, 2 and 3, in this order, of a pattern that may end in a quote.
+pub fn quoted_check(pattern: &[u8]) -> Checked
     ensures { λ r. ⌜ r ≡ patternCheck (now (pattern .entry)) ⌝ }
 {
     let checked = bytes_check(pattern);
@@ -55,4 +56,15 @@ pub fn pattern_check(pattern: &[u8]) -> Checked
             Checked::Fine
         }
     }
+}
+
+// The same of any pattern: by the bytes alone where the last one is no quote. It is small enough that writer and reader have it
+// in place.
+pub fn pattern_check(pattern: &[u8]) -> Checked
+    ensures { λ r. ⌜ r ≡ patternCheck (now (pattern .entry)) ⌝ }
+{
+    if ends_in_quote(pattern) {
+        return quoted_check(pattern);
+    }
+    bytes_check(pattern)
 }

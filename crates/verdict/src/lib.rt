@@ -16,7 +16,7 @@ use meaning::Pair;
 use meaning::Verdict;
 use needs::part_need;
 use parts::next_part;
-use pattern_checks::pattern_check;
+use pattern_checks::quoted_check;
 use trust::Need;
 
 // Whether what the parts from a place on can write meets a need.
@@ -97,7 +97,7 @@ fn first_failing(pattern: &[u8]) -> Verdict
 fn trust_check(pattern: &[u8], year: i32) -> Checked
     ensures { λ r. ⌜ r ≡ trustCheck (now (pattern .entry)) year ⌝ }
 {
-    let of_pattern = pattern_check(pattern);
+    let of_pattern = quoted_check(pattern);
     let of_year = current_year_check(year);
     or_else(of_pattern, of_year)
 }

@@ -1,5 +1,4 @@
--- `match_name` meets its contract: the table of the list's number, t, holds the list's names. The answers
--- stand size by size, l where the number is known.
+-- The table of the list's number holds the list's names: t where it is known, l where its number is.
 use borrow.Author.Needs.{needs}
 use Rattle.tables.proofs.Laws.{match-told}
 use Rattle.names_in.proofs.match_name.Statement.{statement}
@@ -11,12 +10,8 @@ match-name-spec =
     (tie.spec
     (λ c κs. search needs)
     (λ c κs. search needs) (λ c. search needs) (λ c. search needs) (λ c κs. search needs)
-    (λ c. let t = c .before .before .before .before .before in let l = t .before .before in match-told (t .two .ensures) (l .table-of .ensures .1) _ (c .first-name .ensures))
+    (λ c. let t = c .before .before .before .before .before in let l = t .before .before in match-told (t .seven .ensures) (rw (t .before .if1 .taken) at (l .table-of .ensures .1)) _ (c .first-name .ensures))
     (λ c κs. search needs) (λ c. search needs) (λ c. search needs) (λ c κs. search needs)
-    (λ c. let t = c .before .before .before .before .before in let l = t .before .before .before in match-told (t .four .ensures) (l .table-of .ensures .1) _ (c .first-name2 .ensures))
-    (λ c κs. search needs) (λ c. search needs) (λ c. search needs) (λ c κs. search needs)
-    (λ c. let t = c .before .before .before .before .before in let l = t .before .before .before .before in match-told (t .six .ensures) (rw (t .before .if3 .taken) at (l .table-of .ensures .1)) _ (c .first-name3 .ensures))
-    (λ c κs. search needs) (λ c. search needs) (λ c. search needs) (λ c κs. search needs)
-    (λ c. let t = c .before .before .before .before .before in let l = t .before .before .before .before .before in match-told (t .seven .ensures) (l .table-of .ensures .1) _ (c .first-name4 .ensures))
-    (λ c κs. search needs) (λ c. search needs) (λ c. search needs) (λ c κs. search needs)
-    (λ c. let t = c .before .before .before .before .before in let l = t .before .before .before .before .before in match-told (t .twelve .ensures) (l .table-of .ensures .1) _ (c .first-name5 .ensures)))
+    (λ c. let t = c .before .before .before .before .before in let l = t .before .before .before in match-told (t .twelve .ensures) (rw (t .before .if2 .taken) at (l .table-of .ensures .1)) _ (c .first-name2 .ensures))
+    (λ c κs. search needs)
+    (λ c. let l = c .before .before .before in rw (l .table-of .ensures .1) at (c .match-in .ensures)))

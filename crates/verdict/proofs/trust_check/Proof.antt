@@ -6,8 +6,8 @@ use Rattle.meaning.specs.Trust.{trustCheck}
 use Rattle.verdict.proofs.trust_check.Statement.{statement}
 use Rattle.verdict.proofs.trust_check.Tie as tie
 
-pattern-check-requires : tie.Need-pattern-check-requires
-pattern-check-requires c κs = search needs
+quoted-check-requires : tie.Need-quoted-check-requires
+quoted-check-requires c κs = search needs
 
 current-year-check-requires : tie.Need-current-year-check-requires
 current-year-check-requires c κs = search needs
@@ -17,9 +17,9 @@ or-else-requires c κs = search needs
 
 returns : tie.Need-returns
 unfolding trustCheck
-returns c = rw (c .or-else .ensures, c .before .current-year-check .ensures, c .before .before .pattern-check .ensures, toZ-ofZ w32 (c .before .before .before .before .args .year) (c .before .before .before .before .fits .year))
+returns c = rw (c .or-else .ensures, c .before .current-year-check .ensures, c .before .before .quoted-check .ensures, toZ-ofZ w32 (c .before .before .before .before .args .year) (c .before .before .before .before .fits .year))
 
 pub trust-check-spec : {M : Type 1} → statement M
 trust-check-spec =
     tie.close
-    (tie.spec pattern-check-requires current-year-check-requires or-else-requires returns)
+    (tie.spec quoted-check-requires current-year-check-requires or-else-requires returns)

@@ -1,17 +1,12 @@
--- The digits of the numbers that patterns have most, at a count of one or two, and what M reads at a higher one.
+-- The digits of the numbers that patterns have most, at a count of one or two.
 use mathlib.Core.List.{List, [], _∷_}
 use Prim.Native.Nat.{ℕ, _+_, _-_, _*_}
 use lib.Dec.{eqb, ltb}
 use lib.ListN.{drop}
 use Rattle.meaning.specs.Bytes.{when, isDigit}
-use Rattle.meaning.specs.Names.{english}
-use Rattle.meaning.specs.Readers.{Reader}
-use Rattle.meaning.specs.Reading.{passed, matchedName}
-use Rattle.meaning.specs.declared.Carried.{Carried}
-use Rattle.meaning.specs.declared.NameList.the-variants.{MonthAbbreviated, MonthWide}
 use Rattle.short_rules.specs.ShortRules.{isShort, shortMost}
 use Rattle.short_rules.specs.declared.Short.{Short}
-use Rattle.part_reads.specs.declared.digits.Digits.{Digits}
+use Rattle.short_reads.specs.declared.Digits.{Digits}
 
 -- one digit or two in front of a text: the number, and the bytes that it takes; 100, which no such number is, stands for none
 abbrev pub digitFirst : List ℕ → ℕ
@@ -29,10 +24,6 @@ shortDigits least most s =
     when (eqb (digitFirst s) 100) (found 100 0)
     (when (eqb most 1) (found (digitFirst s) 1) (secondDigits (digitFirst s) least (drop 1 s)))
 
--- those of a number that patterns have most; that they are what its rule reads is the law `short-read` of proofs/Runs
+-- those of a number that patterns have most; that they are what its rule reads is the law `short-read` of `part_reads`
 abbrev pub digitsOf : Short → ℕ → List ℕ → Digits
 digitsOf short c s = when (isShort short) (shortDigits c (shortMost short c) s) (found 100 0)
-
-abbrev pub monthRead : ℕ → Reader Carried
-monthRead c s =
-    when (eqb c 3) (matchedName english MonthAbbreviated s) (when (eqb c 5) (passed 1 s) (matchedName english MonthWide s))

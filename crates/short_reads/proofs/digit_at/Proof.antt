@@ -6,8 +6,8 @@ use lib.Seq.{drop-cons}
 use mathlib.Core.Path.{sym, _∙_}
 use native.Mathlib.Omega.{arith}
 use Rattle.laws.proofs.Digits.{digit-bounds}
-use Rattle.part_reads.proofs.digits.digit_at.Statement.{statement}
-use Rattle.part_reads.proofs.digits.digit_at.Tie as tie
+use Rattle.short_reads.proofs.digit_at.Statement.{statement}
+use Rattle.short_reads.proofs.digit_at.Tie as tie
 
 shared-slice-read-b : tie.Need-shared-slice-read-b
 shared-slice-read-b c = search needs

@@ -1,9 +1,12 @@
-// One digit or two in front of a text, each byte looked at once.
+// The numbers that patterns have most, read at a count of one or two: one digit or two in front of a text, each byte looked at
+// once.
 ghost use mathlib.Core.Path.{_≡_};
 ghost use Prim.Native.Nat.{_<_};
 ghost use lib.ListN.{drop};
-ghost use Rattle.part_reads.specs.ShortReads.{digitFirst, secondDigits, shortDigits};
+ghost use Rattle.short_rules.specs.ShortRules.{isShort, shortMost};
+ghost use Rattle.short_reads.specs.ShortReads.{digitFirst, secondDigits, shortDigits, digitsOf};
 use numerals::is_digit;
+use short_rules::Short;
 
 // The number that they are, and the bytes that they take.
 pub struct Digits {
@@ -47,7 +50,7 @@ fn second_digit(a: u32, least: u8, text: &[u8], at: usize) -> Digits
     NONE
 }
 
-pub fn short_digits(least: u8, most: u8, text: &[u8], at: usize) -> Digits
+fn short_digits(least: u8, most: u8, text: &[u8], at: usize) -> Digits
     ensures { λ r. ⌜ r ≡ shortDigits least most (drop at (now (text .entry))) ⌝ }
 {
     let a = digit_at(text, at);
@@ -58,4 +61,40 @@ pub fn short_digits(least: u8, most: u8, text: &[u8], at: usize) -> Digits
         return Digits { size: a, taken: 1 };
     }
     second_digit(a, least, text, at + 1)
+}
+
+fn is_short(short: Short) -> bool
+    ensures { λ r. ⌜ r ≡ isShort short ⌝ }
+{
+    match short {
+        Short::Month => true,
+        Short::Day => true,
+        Short::Hour => true,
+        Short::Minute => true,
+        Short::Second => true,
+        Short::Other => false,
+    }
+}
+
+fn short_most(short: Short, count: u8) -> u8
+    ensures { λ r. ⌜ r ≡ shortMost short count ⌝ }
+{
+    match short {
+        Short::Month => count,
+        Short::Day => 2,
+        Short::Hour => 2,
+        Short::Minute => 2,
+        Short::Second => 2,
+        Short::Other => 2,
+    }
+}
+
+// The digits of a short number, if it is one.
+pub fn parse_short(short: Short, count: u8, text: &[u8], at: usize) -> Digits
+    ensures { λ r. ⌜ r ≡ digitsOf short count (drop at (now (text .entry))) ⌝ }
+{
+    if is_short(short) {
+        return short_digits(count, short_most(short, count), text, at);
+    }
+    NONE
 }

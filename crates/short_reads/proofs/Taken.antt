@@ -20,8 +20,8 @@ use Rattle.meaning.specs.declared.Carried.the-variants.{Value}
 use Rattle.meaning.specs.declared.ParseUnit.{ParseUnit}
 use Rattle.meaning.specs.declared.Quantity.{Quantity}
 use Rattle.meaning.specs.declared.Rule.the-variants.{Number}
-use Rattle.part_reads.specs.ShortReads.{digitFirst, found, secondDigits, shortDigits}
-use Rattle.part_reads.specs.declared.digits.Digits.{Digits}
+use Rattle.short_reads.specs.ShortReads.{digitFirst, found, secondDigits, shortDigits}
+use Rattle.short_reads.specs.declared.Digits.{Digits}
 
 -- the digit in front
 pub first-small : (s : List ℕ) → (digitFirst s ≡ 100 → ⊥) → digitFirst s < 10

@@ -6,10 +6,10 @@ use lib.ListN.{drop}
 use lib.Seq.{drop-drop}
 use mathlib.Core.Path.{_∙_}
 use native.Mathlib.Omega.{arith}
-use Rattle.part_reads.specs.ShortReads.{shortDigits}
-use Rattle.part_reads.proofs.Taken.{first-small, first-within}
-use Rattle.part_reads.proofs.digits.short_digits.Statement.{statement}
-use Rattle.part_reads.proofs.digits.short_digits.Tie as tie
+use Rattle.short_reads.specs.ShortReads.{shortDigits}
+use Rattle.short_reads.proofs.Taken.{first-small, first-within}
+use Rattle.short_reads.proofs.short_digits.Statement.{statement}
+use Rattle.short_reads.proofs.short_digits.Tie as tie
 
 digit-at-requires : tie.Need-digit-at-requires
 digit-at-requires c κs = search needs

@@ -1,8 +1,8 @@
 -- Those of its rule, if it is short.
 use borrow.Author.Needs.{needs}
 use mathlib.Core.Path.{sym, _∙_}
-use Rattle.part_reads.proofs.run.parse_short.Statement.{statement}
-use Rattle.part_reads.proofs.run.parse_short.Tie as tie
+use Rattle.short_reads.proofs.parse_short.Statement.{statement}
+use Rattle.short_reads.proofs.parse_short.Tie as tie
 
 is-short-requires : tie.Need-is-short-requires
 is-short-requires c κs = search needs

@@ -2,9 +2,9 @@
 use borrow.Author.Needs.{needs}
 use borrow.Author.Tests.{ne-eqb, lt-ltb, le-ltb}
 use native.Mathlib.Omega.{arith}
-use Rattle.part_reads.specs.ShortReads.{secondDigits}
-use Rattle.part_reads.proofs.digits.second_digit.Statement.{statement}
-use Rattle.part_reads.proofs.digits.second_digit.Tie as tie
+use Rattle.short_reads.specs.ShortReads.{secondDigits}
+use Rattle.short_reads.proofs.second_digit.Statement.{statement}
+use Rattle.short_reads.proofs.second_digit.Tie as tie
 
 digit-at-requires : tie.Need-digit-at-requires
 digit-at-requires c κs = search needs
