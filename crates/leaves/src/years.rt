@@ -17,7 +17,10 @@ pub fn zero_padded_i(z: i32, k: usize, out: &mut [u8], at: usize) -> usize
 {
     let negative = is_negative(z);
     let n = size(z);
-    put_marked(b'-', negative, n, k, out, at)
+    if negative {
+        return put_marked(b'-', true, n, k, out, at);
+    }
+    zero_padded(n, k, out, at)
 }
 
 // yy: the year's last two digits, or the whole year where its text has at most two bytes.

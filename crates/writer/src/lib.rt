@@ -37,7 +37,8 @@ fn format_tight(pair: Pair, pattern: &[u8], f: Fields, out: &mut [u8]) -> Wrote
 pub fn format_with(pair: Pair, pattern: &[u8], f: Fields, out: &mut [u8]) -> Wrote
     ensures { λ r. ⌜ Writes pair english (now (pattern .entry)) f (now (out .entry)) r (now (out .exit)) ⌝ }
 {
-    let checked = or_else(pattern_check(pattern), fields_check(f));
+    let of_fields = fields_check(f);
+    let checked = or_else(pattern_check(pattern), of_fields);
     if let Checked::Refused(why) = checked {
         return Wrote::Refused(why);
     }

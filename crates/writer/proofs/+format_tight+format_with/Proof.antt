@@ -56,10 +56,10 @@ tight-calls t = (with-below t, with.Post, put-bytes.Asked, put-bytes.Learnt)
 
 abbrev with-calls : ℕ → with-lts.Claims
 with-calls t = (
-  pattern-check.Asked,
-  pattern-check.Learnt,
   fields-check.Asked,
   fields-check.Learnt,
+  pattern-check.Asked,
+  pattern-check.Learnt,
   or-else.Asked,
   or-else.Learnt,
   format-parts.Asked,
@@ -151,7 +151,7 @@ module _ (t : ℕ) where
   checked : (c : with-lts.After-or-else (with-calls t) (with-at t) with.Post) →
       let a = c .before .before .before .before .before .args in
       c .or-else .result ≡ (patternCheck (now (a .pattern)) else fieldsCheck (a .f))
-  checked c = rw (← c .before .before .pattern-check .ensures, ← c .before .fields-check .ensures) (c .or-else .ensures)
+  checked c = rw (← c .before .pattern-check .ensures, ← c .before .before .fields-check .ensures) (c .or-else .ensures)
 
   fine : (c : with-lts.After-enum-told (with-calls t) (with-at t) with.Post) →
       let a = c .before .before .before .before .before .before .before .args in
@@ -167,11 +167,11 @@ module _ (t : ℕ) where
       let a = c .before .before .before .before .before .before .before .before .args in
       omega (arith, eight-bytes (a .pair) (now (a .pattern)) (a .f) (fine (c .before) .1))
 
-  with-pattern-check-requires : with-lts.Need-pattern-check-requires (with-calls t) (with-at t) with.Post
-  with-pattern-check-requires c κs = search needs
-
   with-fields-check-requires : with-lts.Need-fields-check-requires (with-calls t) (with-at t) with.Post
   with-fields-check-requires c κs = search needs
+
+  with-pattern-check-requires : with-lts.Need-pattern-check-requires (with-calls t) (with-at t) with.Post
+  with-pattern-check-requires c κs = search needs
 
   with-or-else-requires : with-lts.Need-or-else-requires (with-calls t) (with-at t) with.Post
   with-or-else-requires c κs = search needs
@@ -232,8 +232,8 @@ pub +format-tight+format-with-spec : {M : Type 1} → statement M
     (tight-returns-2 t)
     (tight-returns-3 t))
     (λ t. with-lts.spec (with-calls t) (with-at t) with.Post
-    (with-pattern-check-requires t)
     (with-fields-check-requires t)
+    (with-pattern-check-requires t)
     (with-or-else-requires t)
     (with-enum-known-checked t)
     (with-returns t)
