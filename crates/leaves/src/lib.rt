@@ -1,4 +1,3 @@
-// The leaves of writing: literals, years and zones, each laid at a place of a lent output.
+// The leaves of writing: literals and years, each laid at a place of a lent output.
 pub mod literals;
 pub mod years;
-pub mod zones;

@@ -12,7 +12,6 @@ ghost use Rattle.meaning.specs.declared.Checked.the-variants.{Fine};
 use laying::put_byte;
 use leaves::years::two_digit_year;
 use leaves::years::zero_padded_i;
-use leaves::zones::format_zone;
 use meaning::Fields;
 use meaning::NameList;
 use meaning::Quantity;
@@ -21,6 +20,7 @@ use names_out::format_name;
 use numbers_out::zero_padded;
 use values::place_of;
 use values::quantity_of;
+use zones_out::format_zone;
 
 fn put_quantity(quantity: Quantity, k: u8, f: Fields, out: &mut [u8], at: usize) -> usize
     requires { ⌜ fieldsCheck f ≡ Fine ⌝ }

@@ -4,8 +4,8 @@ use lib.ListN.{length, length-set}
 use lib.Seq.{sets}
 use mathlib.Core.Path.{_≡_, refl, sym, _∙_}
 use native.Mathlib.Omega.{arith}
-use Rattle.numbers_out.proofs.lay_digits.Statement.{statement}
-use Rattle.numbers_out.proofs.lay_digits.Tie as tie
+use Rattle.digits_out.proofs.lay_digits.Statement.{statement}
+use Rattle.digits_out.proofs.lay_digits.Tie as tie
 use Rattle.laws.proofs.Digits.{digits-turn, digits-done}
 use Rattle.meaning.specs.Bytes as text
 

@@ -4,8 +4,8 @@ use lib.ListN.{take, length-take}
 use lib.Seq.{length-take-le}
 use mathlib.Core.Path.{_≡_, sym}
 use native.Mathlib.Omega.{arith}
-use Rattle.numbers_out.proofs.put_digits.Statement.{statement}
-use Rattle.numbers_out.proofs.put_digits.Tie as tie
+use Rattle.digits_out.proofs.put_digits.Statement.{statement}
+use Rattle.digits_out.proofs.put_digits.Tie as tie
 use Rattle.laws.proofs.Digits.{length-digits}
 use Rattle.laws.proofs.Laid.{take-laid}
 use Rattle.meaning.specs.Bytes as text

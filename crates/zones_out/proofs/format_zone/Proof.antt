@@ -1,8 +1,8 @@
 -- Z for no offset where the rule has it, else the signed offset, once the bits are taken away.
 use borrow.Author.Needs.{needs}
 use native.Mathlib.Omega.{arith}
-use Rattle.leaves.proofs.zones.format_zone.Statement.{statement}
-use Rattle.leaves.proofs.zones.format_zone.Tie as tie
+use Rattle.zones_out.proofs.format_zone.Statement.{statement}
+use Rattle.zones_out.proofs.format_zone.Tie as tie
 use Rattle.meaning.specs.Writing.{offsetText}
 use mir.Syntax.{w32}
 use mir.ValLaws.{toZ-ofZ}

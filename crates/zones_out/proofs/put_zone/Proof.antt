@@ -1,7 +1,7 @@
 -- The sign, then the offset.
 use borrow.Author.Needs.{needs}
-use Rattle.leaves.proofs.zones.put_zone.Statement.{statement}
-use Rattle.leaves.proofs.zones.put_zone.Tie as tie
+use Rattle.zones_out.proofs.put_zone.Statement.{statement}
+use Rattle.zones_out.proofs.put_zone.Tie as tie
 use Rattle.laws.proofs.Laid.{laid-then}
 
 sign-of-requires : tie.Need-sign-of-requires

@@ -2,8 +2,8 @@
 use borrow.Author.Needs.{needs}
 use lib.ListN.{length-append}
 use native.Mathlib.Omega.{arith}
-use Rattle.leaves.proofs.zones.put_offset.Statement.{statement}
-use Rattle.leaves.proofs.zones.put_offset.Tie as tie
+use Rattle.zones_out.proofs.put_offset.Statement.{statement}
+use Rattle.zones_out.proofs.put_offset.Tie as tie
 use Rattle.laws.proofs.Laid.{laid-then}
 
 zero-padded-requires : tie.Need-zero-padded-requires

@@ -1,7 +1,7 @@
 -- Both tests.
 use borrow.Author.Needs.{needs}
-use Rattle.leaves.proofs.zones.is_z.Statement.{statement}
-use Rattle.leaves.proofs.zones.is_z.Tie as tie
+use Rattle.zones_out.proofs.is_z.Statement.{statement}
+use Rattle.zones_out.proofs.is_z.Tie as tie
 
 returns : tie.Need-returns
 returns c = rw (c .if1 .taken)

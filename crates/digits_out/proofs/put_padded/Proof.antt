@@ -5,8 +5,8 @@ use lib.ListN.{length-replicate}
 use native.Mathlib.Omega.{arith}
 use Rattle.laws.proofs.Digits.{length-num, num-padded, num-bare, num-wide, width-at-most}
 use Rattle.laws.proofs.Laid.{laid-then}
-use Rattle.numbers_out.proofs.put_padded.Statement.{statement}
-use Rattle.numbers_out.proofs.put_padded.Tie as tie
+use Rattle.digits_out.proofs.put_padded.Statement.{statement}
+use Rattle.digits_out.proofs.put_padded.Tie as tie
 
 width-requires : tie.Need-width-requires
 width-requires c κs = search needs

@@ -1,4 +1,4 @@
-// Zones: the sign, two digits of hours, and the groups of two digits that the rule has.
+// Zones out: the sign, two digits of hours, and the groups of two digits that the rule has.
 ghost use mathlib.Core.List.{_++_, _∷_};
 ghost use mathlib.Core.Path.{_≡_};
 ghost use Prim.Native.Nat.{_+_, _/_, _%_, _≤_};

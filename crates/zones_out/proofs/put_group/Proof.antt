@@ -2,8 +2,8 @@
 use borrow.Author.Needs.{needs}
 use mathlib.Core.Path.{refl}
 use native.Mathlib.Omega.{arith}
-use Rattle.leaves.proofs.zones.put_group.Statement.{statement}
-use Rattle.leaves.proofs.zones.put_group.Tie as tie
+use Rattle.zones_out.proofs.put_group.Statement.{statement}
+use Rattle.zones_out.proofs.put_group.Tie as tie
 
 is-there-requires : tie.Need-is-there-requires
 is-there-requires c κs = search needs

@@ -3,8 +3,8 @@ use borrow.Author.Needs.{needs}
 use lib.Dec.{eqb}
 use mathlib.Core.Bool.{Bool, true, false, not}
 use mathlib.Core.Path.{_≡_, refl}
-use Rattle.leaves.proofs.zones.is_there.Statement.{statement}
-use Rattle.leaves.proofs.zones.is_there.Tie as tie
+use Rattle.zones_out.proofs.is_there.Statement.{statement}
+use Rattle.zones_out.proofs.is_there.Tie as tie
 use Rattle.meaning.specs.Bytes.{when}
 
 enum-told : tie.Need-enum-told

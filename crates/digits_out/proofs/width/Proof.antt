@@ -4,8 +4,8 @@ use mathlib.Core.Path.{_≡_}
 use native.Mathlib.Omega.{arith}
 use Rattle.laws.proofs.Digits.{width-small, width-turn}
 use Rattle.meaning.specs.Bytes as text
-use Rattle.numbers_out.proofs.width.Statement.{statement}
-use Rattle.numbers_out.proofs.width.Tie as tie
+use Rattle.digits_out.proofs.width.Statement.{statement}
+use Rattle.digits_out.proofs.width.Tie as tie
 
 abbrev Inv-loop : tie.InvT-loop
 Inv-loop n w₀ m₀ w m = (w + text.width m ≡ suc (text.width n)) × (w + m ≤ n + 1)
