@@ -26,7 +26,7 @@ fn agree(pattern: &str, fields: &Fields) -> Result<(), String> {
 }
 
 fn ours_wrote(pattern: &str, fields: &Fields) -> Result<String, u32> {
-    let mut out = [0; 2048];
+    let mut out = [0; ours::ROOM];
     let length = ours::write(pattern.as_bytes(), fields, &mut out)?;
     Ok(String::from_utf8_lossy(&out[..length]).into_owned())
 }

@@ -6,8 +6,11 @@ use harness::Fields;
 use std::hint::black_box;
 
 /// Always enough: 8 bytes for each of the longest pattern.
-const ROOM: usize = 2048;
+pub const ROOM: usize = 2048;
 const VALUES: usize = 15;
+
+/// What a write answers with: the length and 0, or the refusal's details.
+const WROTE: usize = 2;
 
 /// What a reading has in front of the values: bytes taken, mask, number of units.
 const HEAD: usize = 3;
@@ -59,11 +62,18 @@ pub struct Reading {
 }
 
 /// The length of the text, or the number of the refusal.
+pub fn write(pattern: &[u8], f: &Fields, out: &mut [u8; ROOM]) -> Result<usize, u32> {
+    let mut answer = [0; WROTE];
+    let number = write_into(pattern, f, out, &mut answer);
+    accepted(number, || answer[0] as usize)
+}
+
+/// Rows by one pointer each: of a slice that goes through a black box both halves are stored, and a load of the two together
+/// has to wait for them.
 #[inline(always)]
-pub fn write(pattern: &[u8], f: &Fields, out: &mut [u8]) -> Result<usize, u32> {
-    let mut answer = [0; 2];
+fn write_into(pattern: &[u8], f: &Fields, out: &mut [u8; ROOM], answer: &mut [i64; WROTE]) -> u32 {
     // SAFETY: each pointer goes with the length of the slice that it comes from.
-    let number = unsafe {
+    unsafe {
         sheet_write(
             pattern.as_ptr(),
             pattern.len(),
@@ -80,8 +90,7 @@ pub fn write(pattern: &[u8], f: &Fields, out: &mut [u8]) -> Result<usize, u32> {
             answer.as_mut_ptr(),
             answer.len(),
         )
-    };
-    accepted(number, || answer[0] as usize)
+    }
 }
 
 pub fn read(pattern: &[u8], text: &[u8]) -> Result<Reading, u32> {
@@ -95,7 +104,7 @@ pub fn read(pattern: &[u8], text: &[u8]) -> Result<Reading, u32> {
 }
 
 #[inline(always)]
-fn read_into(pattern: &[u8], text: &[u8], answer: &mut [i64]) -> u32 {
+fn read_into(pattern: &[u8], text: &[u8], answer: &mut [i64; HEAD + VALUES]) -> u32 {
     // SAFETY: each pointer goes with the length of the slice that it comes from.
     unsafe {
         sheet_read(
@@ -111,7 +120,7 @@ fn read_into(pattern: &[u8], text: &[u8], answer: &mut [i64]) -> u32 {
 }
 
 #[inline(always)]
-fn check_into(pattern: &[u8], answer: &mut [i64]) -> u32 {
+fn check_into(pattern: &[u8], answer: &mut [i64; VERDICT]) -> u32 {
     // SAFETY: each pointer goes with the length of the slice that it comes from.
     unsafe {
         sheet_check(
@@ -141,7 +150,7 @@ pub struct Ours<'a> {
     pattern: &'a [u8],
     records: &'a [Record],
     texts: Vec<Vec<u8>>,
-    out: Vec<u8>,
+    out: Box<[u8; ROOM]>,
 }
 
 impl<'a> Ours<'a> {
@@ -150,7 +159,7 @@ impl<'a> Ours<'a> {
             pattern: pattern.as_bytes(),
             records,
             texts: Vec::new(),
-            out: vec![0; ROOM],
+            out: Box::new([0; ROOM]),
         };
         this.texts = (0..RECORDS).map(|record| this.text(record)).collect::<Option<_>>()?;
         Some(this)
@@ -164,12 +173,14 @@ impl Contender for Ours<'_> {
     }
 
     fn write_calls(&mut self, calls: usize) {
+        let mut answer = [0; WROTE];
         for call in 0..calls {
             let fields = &self.records[call % RECORDS].fields;
-            let _ = black_box(write(
+            black_box(write_into(
                 black_box(self.pattern),
                 black_box(fields),
-                black_box(&mut self.out),
+                black_box(&mut *self.out),
+                black_box(&mut answer),
             ));
         }
     }

@@ -2,6 +2,7 @@
 -- the loops that count and lay them. Reading a written number back is in Numbers.
 use mathlib.Core.Bool.{true, false}
 use mathlib.Core.List.{List, [], _∷_, _++_, append-assoc, append-nil}
+use mathlib.Core.Logic.{_⊎_, ⊎-elim}
 use mathlib.Core.Path.{_≡_, refl, sym, ap, _∙_}
 use Prim.Native.Nat.{ℕ, zero, suc, _+_, _-_, _*_, _/_, _%_, _^_, _≤_, _<_, max}
 use native.Mathlib.Nat.{add-zero, pow-suc, pow-le-pow-right, lt-of-lt-of-le, div-lt-iff-lt-mul}
@@ -207,11 +208,12 @@ num-one k n h small =
     let d : n % 10 ≡ n = omega arith in
     rw (e, digits, d)
 
-pub num-two : (k n : ℕ) → k < 2 → 10 ≤ n → n < 100 → num k n ≡ digits 2 n
+pub num-two : (k n : ℕ) → k ≤ 2 → n < 100 → (10 ≤ n) ⊎ (2 ≤ k) → num k n ≡ digits 2 n
 unfolding num
-num-two k n h large small =
-    let w = width-small (n / 10) (omega arith) in
-    let e : max k (width n) ≡ 2 = omega (arith, width-turn n large, w) in
+num-two k n few small h =
+    let e : max k (width n) ≡ 2 = ⊎-elim
+    (λ large. omega (arith, width-turn n large, width-small (n / 10) (omega arith)))
+    (λ two. omega (arith, width-at-most 2 n (omega arith) (omega arith))) h in
     rw e
 
 pub num-bare : (k n : ℕ) → k ≤ width n → num k n ≡ digits (width n) n

@@ -25,11 +25,10 @@ pub fn put_short(n: u32, k: usize, out: &mut [u8], at: usize) -> usize
     requires { ⌜ (n < 100) × (k ≤ 2) × (at + length (text.num k n) ≤ length (now out)) ⌝ }
     ensures { λ r. ⌜ Laid (now (out .entry)) (now (out .exit)) at r (text.num k n) ⌝ }
 {
-    if k == 2 {
-        return put_two(n, out, at);
-    }
-    if n < 10 {
-        return put_byte(48 + n as u8, out, at);
+    if k < 2 {
+        if n < 10 {
+            return put_byte(48 + n as u8, out, at);
+        }
     }
     put_two(n, out, at)
 }

@@ -2,7 +2,6 @@
 // up.
 ghost use mathlib.Core.Path.{_≡_};
 ghost use Prim.Native.Nat.{_+_, _≤_, _<_};
-ghost use lib.Dec.{eqb};
 ghost use lib.ListN.{length};
 ghost use Rattle.laws.specs.Laid.{Laid};
 ghost use Rattle.meaning.specs.Answers.{fieldsCheck};
@@ -11,37 +10,23 @@ ghost use Rattle.meaning.specs.Names.{english};
 ghost use Rattle.meaning.specs.Rules.{roleOf};
 ghost use Rattle.meaning.specs.Writing.{quantityOf, runStep, stepText};
 ghost use Rattle.meaning.specs.declared.Checked.the-variants.{Fine};
+ghost use Rattle.runs.specs.NamesOf.{monthNames, weekdayNames};
 ghost use Rattle.short_rules.specs.ShortRules.{isShort, shortQuantity};
 use laying::put_times;
 use leaves::years::zero_padded_i;
 use meaning::Fields;
 use meaning::NameList;
 use meaning::Pair;
-use meaning::Quantity;
 use meaning::Role;
+use names_out::format_name;
 use numbers_out::put_short;
 use rules::role_of;
 use short_rules::Short;
 use short_rules::short_of;
 use symbol_texts::format_rule;
-use symbol_texts::put_name_of;
-use values::quantity_of;
+use values::second_of_day;
 
-fn short_quantity(short: Short) -> Quantity
-    ensures { λ r. ⌜ r ≡ shortQuantity short ⌝ }
-{
-    match short {
-        Short::Month => Quantity::Month,
-        Short::Day => Quantity::Day,
-        Short::Hour => Quantity::Hour0To23,
-        Short::Minute => Quantity::Minute,
-        Short::Second => Quantity::Second,
-        Short::Other => Quantity::Day,
-    }
-}
-
-// The number that a short one writes: 100, which no such number is, stands for none. The times share one call, so that what
-// they have in common is not computed for the month and the day.
+// The number that a short one writes: 100, which no such number is, stands for none.
 fn short_number(short: Short, f: Fields) -> u32
     requires { ⌜ fieldsCheck f ≡ Fine ⌝ }
     ensures { λ r. ⌜ r ≡ when (isShort short) (quantityOf (shortQuantity short) f) 100 ⌝ }
@@ -49,8 +34,10 @@ fn short_number(short: Short, f: Fields) -> u32
     match short {
         Short::Month => f.month,
         Short::Day => f.day,
+        Short::Hour => second_of_day(f.nanos) / 3600,
+        Short::Minute => second_of_day(f.nanos) % 3600 / 60,
+        Short::Second => second_of_day(f.nanos) % 60,
         Short::Other => 100,
-        _ => quantity_of(short_quantity(short), f),
     }
 }
 
@@ -68,7 +55,7 @@ fn put_symbol(pair: Pair, b: u8, count: usize, f: Fields, out: &mut [u8], at: us
 }
 
 fn month_names(count: usize) -> NameList
-    ensures { λ r. ⌜ r ≡ when (eqb count 3) NameList.MonthAbbreviated (when (eqb count 5) NameList.MonthNarrow NameList.MonthWide) ⌝ }
+    ensures { λ r. ⌜ r ≡ monthNames count ⌝ }
 {
     if count == 3 {
         return NameList::MonthAbbreviated;
@@ -80,7 +67,7 @@ fn month_names(count: usize) -> NameList
 }
 
 fn weekday_names(count: usize) -> NameList
-    ensures { λ r. ⌜ r ≡ when (eqb count 3) NameList.WdayAbbreviated (when (eqb count 4) NameList.WdayWide (when (eqb count 5) NameList.WdayNarrow NameList.WdayShort)) ⌝ }
+    ensures { λ r. ⌜ r ≡ weekdayNames count ⌝ }
 {
     if count == 3 {
         return NameList::WdayAbbreviated;
@@ -104,13 +91,13 @@ fn put_longer(pair: Pair, b: u8, count: usize, f: Fields, out: &mut [u8], at: us
         return zero_padded_i(f.year, count, out, at);
     }
     if b == b'M' {
-        return put_name_of(month_names(count), f, out, at);
+        return format_name(month_names(count), (f.month - 1) as usize, out, at);
     }
     if 6 < count {
         return put_symbol(pair, b, count, f, out, at);
     }
     if b == b'e' {
-        return put_name_of(weekday_names(count), f, out, at);
+        return format_name(weekday_names(count), f.wday as usize, out, at);
     }
     put_symbol(pair, b, count, f, out, at)
 }
@@ -120,15 +107,15 @@ pub fn put_run(pair: Pair, b: u8, count: usize, f: Fields, out: &mut [u8], at: u
     requires { ⌜ (0 < count) × (at + length (stepText english f (runStep (roleOf pair b count) b count)) ≤ length (now out)) ⌝ }
     ensures { λ r. ⌜ Laid (now (out .entry)) (now (out .exit)) at r (stepText english f (runStep (roleOf pair b count) b count)) ⌝ }
 {
-    if b < b'A' {
-        return put_times(b, count, out, at);
-    }
-    if 2 < count {
+    if b'A' <= b {
+        if count < 3 {
+            let n = short_number(short_of(pair, b), f);
+            if n < 100 {
+                return put_short(n, count, out, at);
+            }
+            return put_symbol(pair, b, count, f, out, at);
+        }
         return put_longer(pair, b, count, f, out, at);
     }
-    let n = short_number(short_of(pair, b), f);
-    if 100 <= n {
-        return put_symbol(pair, b, count, f, out, at);
-    }
-    put_short(n, count, out, at)
+    put_times(b, count, out, at)
 }

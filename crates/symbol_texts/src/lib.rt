@@ -31,7 +31,7 @@ fn put_quantity(quantity: Quantity, k: u8, f: Fields, out: &mut [u8], at: usize)
     zero_padded(n, k as usize, out, at)
 }
 
-pub fn put_name_of(names: NameList, f: Fields, out: &mut [u8], at: usize) -> usize
+fn put_name_of(names: NameList, f: Fields, out: &mut [u8], at: usize) -> usize
     requires { ⌜ fieldsCheck f ≡ Fine ⌝ }
     requires { ⌜ at + length (nameText english names f) ≤ length (now out) ⌝ }
     ensures { λ r. ⌜ Laid (now (out .entry)) (now (out .exit)) at r (nameText english names f) ⌝ }

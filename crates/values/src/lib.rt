@@ -11,7 +11,7 @@ use meaning::Fields;
 use meaning::NameList;
 use meaning::Quantity;
 
-fn second_of_day(nanos: u64) -> u32
+pub fn second_of_day(nanos: u64) -> u32
     requires { ⌜ nanos ≤ 86399999999999 ⌝ }
     ensures { λ r. ⌜ r ≡ nanos / 1000000000 ⌝ }
 {

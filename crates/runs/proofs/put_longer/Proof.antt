@@ -3,7 +3,8 @@ use borrow.Author.Needs.{needs}
 use mir.Syntax.{w32}
 use mir.ValLaws.{toZ-ofZ}
 use native.Mathlib.Omega.{arith}
-use Rattle.runs.proofs.Runs.{year-run, month-run, weekday-run}
+use Rattle.laws.proofs.Fields.{allowed}
+use Rattle.runs.proofs.Runs.{year-run, month-run, weekday-run, month-there, weekday-there}
 use Rattle.runs.proofs.put_longer.Statement.{statement}
 use Rattle.runs.proofs.put_longer.Tie as tie
 
@@ -28,21 +29,31 @@ returns c =
 month-names-requires : tie.Need-month-names-requires
 month-names-requires c κs = search needs
 
-put-name-of-requires : tie.Need-put-name-of-requires
-put-name-of-requires c κs =
+sub-format-name : tie.Need-sub-format-name
+sub-format-name c =
     let a = c .before .before .before .before .before in
+    omega (arith, allowed (a .args .f) (a .pre .0))
+
+cast-format-name : tie.Need-cast-format-name
+cast-format-name c = search needs
+
+format-name-requires : tie.Need-format-name-requires
+format-name-requires c κs =
+    let m = c .before .before in
+    let a = m .before .before .before .before in
+    let there = month-there (a .args .count) (a .args .f) (allowed (a .args .f) (a .pre .0)) in
     let text = month-run (a .args .pair) (a .args .count) (a .args .f) (a .pre .1 .0) in
-    (a .pre .0, rw (c .before .month-names .ensures, ← text, ← c .before .before .if2 .taken) (a .pre .1 .1))
+    rw (m .month-names .ensures) (there, rw (← text, ← m .before .if2 .taken) (a .pre .1 .1))
 
 same-length-2 : tie.Need-same-length-2
 same-length-2 c = search needs
 
 returns-2 : tie.Need-returns-2
 returns-2 c =
-    let m = c .before .before .before in
-    let a = m .before .before .before .before .before in
+    let m = c .before .before .before .before .before in
+    let a = m .before .before .before .before in
     let text = month-run (a .args .pair) (a .args .count) (a .args .f) (a .pre .1 .0) in
-    rw (m .before .before .if2 .taken, text, ← m .before .month-names .ensures) (c .before .before .put-name-of .ensures)
+    rw (m .before .if2 .taken, text, ← m .month-names .ensures) (c .before .before .format-name .ensures)
 
 put-symbol-requires : tie.Need-put-symbol-requires
 put-symbol-requires c κs = search needs
@@ -56,21 +67,26 @@ returns-3 c = search needs
 weekday-names-requires : tie.Need-weekday-names-requires
 weekday-names-requires c κs = search needs
 
-put-name-of-requires-2 : tie.Need-put-name-of-requires-2
-put-name-of-requires-2 c κs =
-    let a = c .before .before .before .before .before .before .before in
-    let text = weekday-run (a .args .pair) (a .args .count) (a .args .f) (a .pre .1 .0) (omega (arith, c .before .before .before .if3 .left)) in
-    (a .pre .0, rw (c .before .weekday-names .ensures, ← text, ← c .before .before .if4 .taken) (a .pre .1 .1))
+cast-format-name-2 : tie.Need-cast-format-name-2
+cast-format-name-2 c = search needs
+
+format-name-requires-2 : tie.Need-format-name-requires-2
+format-name-requires-2 c κs =
+    let m = c .before .before in
+    let a = m .before .before .before .before .before .before in
+    let there = weekday-there (a .args .count) (a .args .f) (allowed (a .args .f) (a .pre .0)) in
+    let text = weekday-run (a .args .pair) (a .args .count) (a .args .f) (a .pre .1 .0) (omega (arith, m .before .before .if3 .left)) in
+    rw (m .weekday-names .ensures) (there, rw (← text, ← m .before .if4 .taken) (a .pre .1 .1))
 
 same-length-4 : tie.Need-same-length-4
 same-length-4 c = search needs
 
 returns-4 : tie.Need-returns-4
 returns-4 c =
-    let m = c .before .before .before in
-    let a = m .before .before .before .before .before .before .before in
-    let text = weekday-run (a .args .pair) (a .args .count) (a .args .f) (a .pre .1 .0) (omega (arith, m .before .before .before .if3 .left)) in
-    rw (m .before .before .if4 .taken, text, ← m .before .weekday-names .ensures) (c .before .before .put-name-of2 .ensures)
+    let m = c .before .before .before .before .before in
+    let a = m .before .before .before .before .before .before in
+    let text = weekday-run (a .args .pair) (a .args .count) (a .args .f) (a .pre .1 .0) (omega (arith, m .before .before .if3 .left)) in
+    rw (m .before .if4 .taken, text, ← m .weekday-names .ensures) (c .before .before .format-name2 .ensures)
 
 put-symbol-requires-2 : tie.Need-put-symbol-requires-2
 put-symbol-requires-2 c κs = search needs
@@ -89,14 +105,17 @@ put-longer-spec =
     same-length
     returns
     month-names-requires
-    put-name-of-requires
+    sub-format-name
+    cast-format-name
+    format-name-requires
     same-length-2
     returns-2
     put-symbol-requires
     same-length-3
     returns-3
     weekday-names-requires
-    put-name-of-requires-2
+    cast-format-name-2
+    format-name-requires-2
     same-length-4
     returns-4
     put-symbol-requires-2

@@ -1,26 +1,10 @@
--- The month and the day as they stand, the times by their quantity.
-use mathlib.Core.Bool.{true}
-use mathlib.Core.List.{[], _∷_}
-use mathlib.Core.Path.{_≡_, refl}
+-- Each arm is its quantity, within the bounds of an allowed record.
 use borrow.Author.Needs.{needs}
-use denote.Enum.Declared.{tagOf}
-use types.Run.{OneOf, miss}
+use native.Mathlib.Omega.{arith}
+use Rattle.laws.proofs.Fields.{allowed}
 use Rattle.meaning.specs.Writing.{quantityOf}
-use Rattle.short_rules.proofs.Short.{the-type}
-use Rattle.short_rules.specs.ShortRules.{isShort}
-use Rattle.short_rules.specs.declared.Short.{Short}
-use Rattle.short_rules.specs.declared.Short.the-variants.{Month, Day, Hour, Minute, Second, Other}
 use Rattle.runs.proofs.short_number.Statement.{statement}
 use Rattle.runs.proofs.short_number.Tie as tie
-
--- the numbers of the times among the variants
-among-times : (s : Short) → OneOf (2 ∷ 3 ∷ 4 ∷ []) (tagOf the-type s) → isShort s ≡ true
-among-times Month k = refl
-among-times Day k = refl
-among-times Hour k = refl
-among-times Minute k = refl
-among-times Second k = refl
-among-times Other k = absurd (miss (2 ∷ 3 ∷ 4 ∷ []) 5 tt k)
 
 enum-told : tie.Need-enum-told
 enum-told c = search needs
@@ -31,11 +15,23 @@ enum-told-2 c = search needs
 enum-told-3 : tie.Need-enum-told-3
 enum-told-3 c = search needs
 
-short-quantity-requires : tie.Need-short-quantity-requires
-short-quantity-requires c κs = search needs
+second-of-day-requires : tie.Need-second-of-day-requires
+second-of-day-requires c κs = omega (arith, allowed (c .before .before .args .f) (c .before .before .pre))
 
-quantity-of-requires : tie.Need-quantity-of-requires
-quantity-of-requires c κs = search needs
+enum-told-4 : tie.Need-enum-told-4
+enum-told-4 c = search needs
+
+second-of-day-requires-2 : tie.Need-second-of-day-requires-2
+second-of-day-requires-2 c κs = omega (arith, allowed (c .before .before .args .f) (c .before .before .pre))
+
+enum-told-5 : tie.Need-enum-told-5
+enum-told-5 c = search needs
+
+second-of-day-requires-3 : tie.Need-second-of-day-requires-3
+second-of-day-requires-3 c κs = omega (arith, allowed (c .before .before .args .f) (c .before .before .pre))
+
+enum-told-6 : tie.Need-enum-told-6
+enum-told-6 c = search needs
 
 returns : tie.Need-returns
 unfolding quantityOf
@@ -46,12 +42,19 @@ unfolding quantityOf
 returns-2 c = rw (c .enum-told2 .given .1)
 
 returns-3 : tie.Need-returns-3
-returns-3 c = search needs
+unfolding quantityOf
+returns-3 c = rw (c .before .enum-told3 .given .1, c .second-of-day .ensures)
 
 returns-4 : tie.Need-returns-4
-returns-4 c =
-    let short = among-times (c .before .before .before .args .short) (c .before .before .match .keys4) in
-    rw (short, ← c .before .short-quantity .ensures) (c .quantity-of .ensures)
+unfolding quantityOf
+returns-4 c = rw (c .before .enum-told4 .given .1, c .second-of-day2 .ensures)
+
+returns-5 : tie.Need-returns-5
+unfolding quantityOf
+returns-5 c = rw (c .before .enum-told5 .given .1, c .second-of-day3 .ensures)
+
+returns-6 : tie.Need-returns-6
+returns-6 c = search needs
 
 pub short-number-spec : {M : Type 1} → statement M
 short-number-spec =
@@ -60,9 +63,15 @@ short-number-spec =
     enum-told
     enum-told-2
     enum-told-3
-    short-quantity-requires
-    quantity-of-requires
+    second-of-day-requires
+    enum-told-4
+    second-of-day-requires-2
+    enum-told-5
+    second-of-day-requires-3
+    enum-told-6
     returns
     returns-2
     returns-3
-    returns-4)
+    returns-4
+    returns-5
+    returns-6)
