@@ -4,33 +4,16 @@ ghost use Prim.Native.Nat.{_≤_};
 ghost use lib.ListN.{length};
 use answers::answer;
 use libc::STDIN_FILENO;
-use libc::STDOUT_FILENO;
 use lines::line_end;
 use lines::move_down;
 use lines::read_behind;
+use program_rows::with_room;
+use program_rows::write_out;
 
 // What a read leaves: so many bytes of a line that has not ended, or the end of the input.
 struct Rest {
     held: usize,
     ended: bool,
-}
-
-fn write_out(out: &[u8], n: usize)
-    requires { ⌜ n ≤ length (now out) ⌝ }
-{
-    io::write_all(STDOUT_FILENO, &out[..n]);
-}
-
-// The place for an answer: the output is written out where it may have no room for one.
-fn with_room(out: &[u8], at: usize) -> usize
-    requires { ⌜ at ≤ length (now out) ⌝ }
-    ensures { λ r. ⌜ r ≤ 49151 ⌝ }
-{
-    if at <= 49151 {
-        return at;
-    }
-    write_out(out, at);
-    0
 }
 
 // The answer to a line and a line's end, behind the answers before.

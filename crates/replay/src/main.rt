@@ -8,6 +8,7 @@ use libc::STDOUT_FILENO;
 use lines::line_end;
 use lines::move_down;
 use lines::read_behind;
+use program_rows::recording_end;
 
 struct Tally {
     replayed: u64,
@@ -57,17 +58,6 @@ fn replay(request: &[u8], expected: &[u8], out: &mut [u8], tally: Tally) -> Tall
         return counted;
     }
     difference(request, expected, &out[..n], counted)
-}
-
-// Where the recording that starts at a place ends: a comment with its line, a request with the line behind it.
-fn recording_end(bytes: &[u8], at: usize, end: usize) -> usize
-    requires { ⌜ (at ≤ end) × (end < length (now bytes)) ⌝ }
-    ensures { λ r. ⌜ (end ≤ r) × (r ≤ length (now (bytes .entry))) ⌝ }
-{
-    if bytes[at] == b'#' {
-        return end;
-    }
-    line_end(bytes, end + 1)
 }
 
 // Replays each recording that has ended, and gives the place behind the last.

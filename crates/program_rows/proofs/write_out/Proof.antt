@@ -3,18 +3,15 @@ use mathlib.Core.Path.{sym}
 use lib.Seq.{length-take-le}
 use borrow.Author.Needs.{needs}
 use denote.Ref.{now}
-use Rattle.ask.proofs.write_out.Statement.{statement}
-use Rattle.ask.proofs.write_out.Tie as tie
+use Rattle.program_rows.proofs.write_out.Statement.{statement}
+use Rattle.program_rows.proofs.write_out.Tie as tie
 
--- src/main.rt:20:34
 slice-aggregate-write-all : tie.Need-slice-aggregate-write-all
 slice-aggregate-write-all c = let a = c .before .before .args in sym (length-take-le (a .n) (now (a .out)) (search needs))
 
--- src/main.rt:20:5
 write-all-requires : tie.Need-write-all-requires
 write-all-requires c κs = search needs
 
--- src/main.rt:17:1
 returns : tie.Need-returns
 returns c = search needs
 
