@@ -10,20 +10,15 @@ ghost use Rattle.meaning.specs.Names.{english};
 ghost use Rattle.meaning.specs.Rules.{roleOf};
 ghost use Rattle.meaning.specs.Writing.{quantityOf, runStep, stepText};
 ghost use Rattle.meaning.specs.declared.Checked.the-variants.{Fine};
-ghost use Rattle.runs.specs.NamesOf.{monthNames, weekdayNames};
 ghost use Rattle.short_rules.specs.ShortRules.{isShort, shortQuantity};
 use laying::put_times;
-use leaves::years::zero_padded_i;
+use longer_runs::put_longer;
+use longer_runs::put_symbol;
 use meaning::Fields;
-use meaning::NameList;
 use meaning::Pair;
-use meaning::Role;
-use names_out::format_name;
 use numbers_out::put_short;
-use rules::role_of;
 use short_rules::Short;
 use short_rules::short_of;
-use symbol_texts::format_rule;
 use values::second_of_day;
 
 // The number that a short one writes: 100, which no such number is, stands for none.
@@ -41,67 +36,7 @@ fn short_number(short: Short, f: Fields) -> u32
     }
 }
 
-// By the table.
-fn put_symbol(pair: Pair, b: u8, count: usize, f: Fields, out: &mut [u8], at: usize) -> usize
-    requires { ⌜ fieldsCheck f ≡ Fine ⌝ }
-    requires { ⌜ at + length (stepText english f (runStep (roleOf pair b count) b count)) ≤ length (now out) ⌝ }
-    ensures { λ r. ⌜ Laid (now (out .entry)) (now (out .exit)) at r (stepText english f (runStep (roleOf pair b count) b count)) ⌝ }
-{
-    let role = role_of(pair, b, count);
-    match role {
-        Role::Literal => put_times(b, count, out, at),
-        Role::Symbol(rule) => format_rule(rule, f, out, at),
-    }
-}
-
-fn month_names(count: usize) -> NameList
-    ensures { λ r. ⌜ r ≡ monthNames count ⌝ }
-{
-    if count == 3 {
-        return NameList::MonthAbbreviated;
-    }
-    if count == 5 {
-        return NameList::MonthNarrow;
-    }
-    NameList::MonthWide
-}
-
-fn weekday_names(count: usize) -> NameList
-    ensures { λ r. ⌜ r ≡ weekdayNames count ⌝ }
-{
-    if count == 3 {
-        return NameList::WdayAbbreviated;
-    }
-    if count == 4 {
-        return NameList::WdayWide;
-    }
-    if count == 5 {
-        return NameList::WdayNarrow;
-    }
-    NameList::WdayShort
-}
-
-// More than two bytes.
-fn put_longer(pair: Pair, b: u8, count: usize, f: Fields, out: &mut [u8], at: usize) -> usize
-    requires { ⌜ fieldsCheck f ≡ Fine ⌝ }
-    requires { ⌜ (2 < count) × (at + length (stepText english f (runStep (roleOf pair b count) b count)) ≤ length (now out)) ⌝ }
-    ensures { λ r. ⌜ Laid (now (out .entry)) (now (out .exit)) at r (stepText english f (runStep (roleOf pair b count) b count)) ⌝ }
-{
-    if b == b'y' {
-        return zero_padded_i(f.year, count, out, at);
-    }
-    if b == b'M' {
-        return format_name(month_names(count), (f.month - 1) as usize, out, at);
-    }
-    if 6 < count {
-        return put_symbol(pair, b, count, f, out, at);
-    }
-    if b == b'e' {
-        return format_name(weekday_names(count), f.wday as usize, out, at);
-    }
-    put_symbol(pair, b, count, f, out, at)
-}
-
+// Letters at a count of one or two, which patterns have most, are asked for first.
 pub fn put_run(pair: Pair, b: u8, count: usize, f: Fields, out: &mut [u8], at: usize) -> usize
     requires { ⌜ fieldsCheck f ≡ Fine ⌝ }
     requires { ⌜ (0 < count) × (at + length (stepText english f (runStep (roleOf pair b count) b count)) ≤ length (now out)) ⌝ }

@@ -1,8 +1,8 @@
 -- The bytes themselves, or the text of their rule.
 use borrow.Author.Needs.{needs}
 use lib.ListN.{length-replicate}
-use Rattle.runs.proofs.put_symbol.Statement.{statement}
-use Rattle.runs.proofs.put_symbol.Tie as tie
+use Rattle.longer_runs.proofs.put_symbol.Statement.{statement}
+use Rattle.longer_runs.proofs.put_symbol.Tie as tie
 use Rattle.meaning.specs.Writing.{stepText}
 
 role-of-requires : tie.Need-role-of-requires

@@ -1,8 +1,8 @@
 -- The letter, then the quarter.
 use borrow.Author.Needs.{needs}
-use Rattle.symbol_texts.proofs.put_letter_quarter.Statement.{statement}
-use Rattle.symbol_texts.proofs.put_letter_quarter.Tie as tie
 use Rattle.laws.proofs.Laid.{laid-then}
+use Rattle.symbol_pieces.proofs.put_letter_quarter.Statement.{statement}
+use Rattle.symbol_pieces.proofs.put_letter_quarter.Tie as tie
 
 put-byte-requires : tie.Need-put-byte-requires
 put-byte-requires c κs = search needs

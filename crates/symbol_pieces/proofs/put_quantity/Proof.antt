@@ -1,7 +1,7 @@
 -- The quantity, padded.
 use borrow.Author.Needs.{needs}
-use Rattle.symbol_texts.proofs.put_quantity.Statement.{statement}
-use Rattle.symbol_texts.proofs.put_quantity.Tie as tie
+use Rattle.symbol_pieces.proofs.put_quantity.Statement.{statement}
+use Rattle.symbol_pieces.proofs.put_quantity.Tie as tie
 
 quantity-of-requires : tie.Need-quantity-of-requires
 quantity-of-requires c κs = search needs

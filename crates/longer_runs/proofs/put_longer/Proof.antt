@@ -4,9 +4,9 @@ use mir.Syntax.{w32}
 use mir.ValLaws.{toZ-ofZ}
 use native.Mathlib.Omega.{arith}
 use Rattle.laws.proofs.Fields.{allowed}
-use Rattle.runs.proofs.Runs.{year-run, month-run, weekday-run, month-there, weekday-there}
-use Rattle.runs.proofs.put_longer.Statement.{statement}
-use Rattle.runs.proofs.put_longer.Tie as tie
+use Rattle.longer_runs.proofs.LongerRuns.{year-run, month-run, weekday-run, month-there, weekday-there}
+use Rattle.longer_runs.proofs.put_longer.Statement.{statement}
+use Rattle.longer_runs.proofs.put_longer.Tie as tie
 
 zero-padded-i-requires : tie.Need-zero-padded-i-requires
 zero-padded-i-requires c κs =

@@ -1,10 +1,10 @@
 -- The name is there, and it is written.
 use borrow.Author.Needs.{needs}
-use Rattle.symbol_texts.proofs.put_name_of.Statement.{statement}
-use Rattle.symbol_texts.proofs.put_name_of.Tie as tie
 use Rattle.laws.proofs.Fields.{allowed}
 use Rattle.laws.proofs.Places.{place-there}
 use Rattle.meaning.specs.Writing.{nameText}
+use Rattle.symbol_pieces.proofs.put_name_of.Statement.{statement}
+use Rattle.symbol_pieces.proofs.put_name_of.Tie as tie
 
 place-of-requires : tie.Need-place-of-requires
 place-of-requires c κs = search needs
