@@ -2,15 +2,15 @@
 ghost use Prim.Native.Nat.{_+_, _≤_};
 ghost use lib.ListN.{length};
 ghost use Rattle.io.specs.Counts.{Counts};
-use answer_pieces::answer_refused;
 use answer_pieces::put_counted;
-use answer_pieces::put_detail;
 use fields::signed::is_negative;
 use fields::signed::size;
 use laying::put_bytes;
 use meaning::Fields;
 use meaning::Verdict;
 use refusals::Detail;
+use refused_answers::answer_refused;
+use refused_answers::put_detail;
 use request_bytes::BYTES_ROOM;
 use request_bytes::bytes_at;
 use requests::signed_at;

@@ -1,13 +1,12 @@
--- Lowercase hex, two digits a byte: what is a digit, the bytes that digits stand for, and the digits of bytes.
+-- Lowercase hex, two digits a byte: what is a digit, and the bytes that digits stand for.
 use mathlib.Core.Bool.{Bool, true, false}
 use mathlib.Core.List.{List, [], _∷_}
 use mathlib.Core.Path.{_≡_}
 use Prim.Native.Char.{Char, code}
-use Prim.Native.Nat.{ℕ, _+_, _*_, _-_, _/_, _%_}
+use Prim.Native.Nat.{ℕ, _+_, _*_, _-_}
 use lib.Dec.{leb, ltb}
 use lib.ListN.{length}
 use lib.Seq.{sets}
-use Rattle.io.specs.Digits.{glyph}
 use Rattle.hex.specs.declared.Decoded.{Decoded}
 use Rattle.hex.specs.declared.Decoded.the-variants.{Bad, Length}
 use Rattle.meaning.specs.Bytes.{when, both}
@@ -31,10 +30,6 @@ unfoldable pub fromHex : List ℕ → List ℕ
 fromHex [] = []
 fromHex (a ∷ []) = []
 fromHex (a ∷ (b ∷ s)) = (digitValue a * 16 + digitValue b) ∷ fromHex s
-
-unfoldable pub toHex : List ℕ → List ℕ
-toHex [] = []
-toHex (b ∷ s) = glyph (b / 16) ∷ (glyph (b % 16) ∷ toHex s)
 
 abbrev pub decoded : List ℕ → Decoded
 decoded word = when (isHex word) (Length (length (fromHex word))) Bad

@@ -2,7 +2,6 @@
 ghost use Prim.Native.Nat.{_≤_};
 ghost use lib.ListN.{length};
 ghost use Rattle.io.specs.Counts.{Counts};
-use answer_pieces::answer_refused;
 use meaning::Checked;
 use meaning::Offset;
 use meaning::Pair;
@@ -11,6 +10,7 @@ use offsets::parse_offset;
 use read_pieces::put_offset;
 use read_pieces::put_reading;
 use read_pieces::put_refused;
+use refused_answers::answer_refused;
 use request_bytes::BYTES_ROOM;
 use request_bytes::bytes_at;
 use requests::signed_at;

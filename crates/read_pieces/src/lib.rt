@@ -2,9 +2,7 @@
 ghost use Prim.Native.Nat.{_+_, _≤_};
 ghost use lib.ListN.{length};
 ghost use Rattle.io.specs.Counts.{Counts};
-use answer_pieces::answer_refused;
 use answer_pieces::put_counted;
-use answer_pieces::put_detail;
 use fields::signed::is_negative;
 use fields::signed::size;
 use fields::signed::size_of;
@@ -12,6 +10,8 @@ use laying::put_bytes;
 use meaning::Reading;
 use meaning::Refusal;
 use refusals::Detail;
+use refused_answers::answer_refused;
+use refused_answers::put_detail;
 use spelling::put_number;
 
 fn put_value(value: i64, out: &mut [u8], at: usize) -> usize

@@ -2,7 +2,6 @@
 ghost use Prim.Native.Nat.{_+_, _≤_};
 ghost use lib.ListN.{length};
 ghost use Rattle.io.specs.Counts.{Counts};
-use answer_pieces::answer_refused;
 use answer_pieces::put_counted;
 use laying::put_byte;
 use laying::put_bytes;
@@ -12,6 +11,7 @@ use meaning::Part;
 use meaning::Refusal;
 use meaning::Split;
 use pattern::parse_format_string;
+use refused_answers::answer_refused;
 use request_bytes::BYTES_ROOM;
 use request_bytes::bytes_at;
 use spelling::put_size;

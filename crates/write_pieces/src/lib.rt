@@ -4,11 +4,11 @@ ghost use Prim.Native.Nat.{_≤_};
 ghost use lib.ListN.{length};
 ghost use Rattle.io.specs.Counts.{Counts};
 ghost use Rattle.write_pieces.specs.Marks.{markAt, Filled, FirstAltered, lengthOf};
-use answer_pieces::answer_refused;
 use answer_pieces::put_counted;
-use hex::put_hex;
+use hex_out::put_hex;
 use laying::put_byte;
 use meaning::Wrote;
+use refused_answers::answer_refused;
 
 // The byte that fills a place of the output: none of a text, and another one than its neighbours'.
 fn mark(place: usize) -> u8

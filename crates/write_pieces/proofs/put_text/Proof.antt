@@ -3,7 +3,7 @@ use native.Mathlib.Omega.{arith}
 use borrow.Author.Needs.{needs}
 use denote.Ref.{now}
 use Rattle.io.proofs.Counting.{counts}
-use Rattle.hex.proofs.HexDigits.{hex-length}
+use Rattle.hex_out.proofs.ToHex.{hex-length}
 use Rattle.write_pieces.proofs.put_text.Statement.{statement}
 use Rattle.write_pieces.proofs.put_text.Tie as tie
 

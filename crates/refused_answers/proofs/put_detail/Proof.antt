@@ -1,9 +1,9 @@
 -- A space and at most 21 bytes.
 use native.Mathlib.Omega.{arith}
-use Rattle.answer_pieces.proofs.Signs.{sign-small}
+use Rattle.refused_answers.proofs.Signs.{sign-small}
 use borrow.Author.Needs.{needs}
-use Rattle.answer_pieces.proofs.put_detail.Statement.{statement}
-use Rattle.answer_pieces.proofs.put_detail.Tie as tie
+use Rattle.refused_answers.proofs.put_detail.Statement.{statement}
+use Rattle.refused_answers.proofs.put_detail.Tie as tie
 
 put-byte-requires : tie.Need-put-byte-requires
 put-byte-requires c κs = search needs

@@ -4,9 +4,9 @@ use native.Mathlib.Omega.{arith}
 use lib.ListN.{length, length-set}
 use borrow.Author.Needs.{needs}
 use denote.Ref.{now}
-use Rattle.hex.proofs.HexDigits.{Spelling, spelling-starts, spelling-goes-on, spelling-ends}
-use Rattle.hex.proofs.put_hex.Statement.{statement}
-use Rattle.hex.proofs.put_hex.Tie as tie
+use Rattle.hex_out.proofs.ToHex.{Spelling, spelling-starts, spelling-goes-on, spelling-ends}
+use Rattle.hex_out.proofs.put_hex.Statement.{statement}
+use Rattle.hex_out.proofs.put_hex.Tie as tie
 
 abbrev Inv-loop : tie.InvT-loop
 Inv-loop src out₀ at next₀ i₀ out next i = Spelling src out₀ out at next i

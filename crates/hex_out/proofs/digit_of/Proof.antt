@@ -1,7 +1,7 @@
 use Rattle.laws.proofs.Tests.{chosen}
 use borrow.Author.Needs.{needs}
-use Rattle.hex.proofs.digit_of.Statement.{statement}
-use Rattle.hex.proofs.digit_of.Tie as tie
+use Rattle.hex_out.proofs.digit_of.Statement.{statement}
+use Rattle.hex_out.proofs.digit_of.Tie as tie
 
 add-result : tie.Need-add-result
 add-result c = search needs

@@ -1,8 +1,8 @@
 -- At most 28 and twice 22 bytes.
 use borrow.Author.Needs.{needs}
 use Rattle.io.proofs.Counting.{counts}
-use Rattle.answer_pieces.proofs.answer_refused.Statement.{statement}
-use Rattle.answer_pieces.proofs.answer_refused.Tie as tie
+use Rattle.refused_answers.proofs.answer_refused.Statement.{statement}
+use Rattle.refused_answers.proofs.answer_refused.Tie as tie
 
 tell-requires : tie.Need-tell-requires
 tell-requires c κs = search needs
