@@ -8,9 +8,9 @@ use lib.Dec.{ltb}
 use lib.IntN.{pos}
 use lib.ListN.{length, take, drop, length-take, length-drop}
 use borrow.Author.Tests.{lt-ltb, le-ltb}
-use Rattle.words.specs.Decimal.{numberOf}
+use Rattle.decimals.specs.Decimal.{numberOf}
 use Rattle.words.specs.Words.{IsWord}
-use Rattle.words.specs.declared.numbers.Number.{Number}
+use Rattle.decimals.specs.declared.Number.{Number}
 use Rattle.meaning.specs.Bytes.{when}
 use Rattle.meaning.specs.Numerals.{integer}
 use Rattle.requests.specs.Words.{endFrom, wordFrom, numbered, numberAt, counted, countAt, signed, signedAt}

@@ -7,13 +7,12 @@ use lib.Dec.{ltb}
 use lib.IntN.{pos}
 use lib.ListN.{length, take, drop}
 use Rattle.bytes.specs.Bytes.{indexOf, slice}
-use Rattle.words.specs.Decimal.{numberOf}
-use Rattle.words.specs.declared.numbers.Number.{Number}
-use Rattle.words.specs.declared.numbers.Number.the-variants.{Bad, Is}
+use Rattle.decimals.specs.Decimal.{numberOf}
+use Rattle.decimals.specs.declared.Number.{Number}
+use Rattle.decimals.specs.declared.Number.the-variants.{Bad, Is}
 use Rattle.meaning.specs.Bytes.{when}
 use Rattle.meaning.specs.Numerals.{integer}
 use Rattle.requests.specs.declared.CountAt.{CountAt}
-use Rattle.requests.specs.declared.FieldsAt.{FieldsAt}
 use Rattle.requests.specs.declared.NumberAt.{NumberAt}
 use Rattle.requests.specs.declared.SignedAt.{SignedAt}
 
@@ -48,29 +47,3 @@ signed n end =
 
 unfoldable pub signedAt : List ℕ → ℕ → SignedAt
 signedAt line at = signed (numberAt line at) (length line)
-
--- the eight fields, each up to what its type holds
-unfoldable pub fieldsAt : List ℕ → ℕ → FieldsAt
-fieldsAt line at =
-    let year = signedAt line at in
-    let month = countAt line (year .next) 4294967295 in
-    let day = countAt line (month .next) 4294967295 in
-    let doy = countAt line (day .next) 4294967295 in
-    let week = countAt line (doy .next) 4294967295 in
-    let wday = countAt line (week .next) 4294967295 in
-    let nanos = countAt line (wday .next) 18446744073709551615 in
-    let offset = signedAt line (nanos .next) in
-    record {
-      fields =
-          record {
-            year = year .value;
-            month = month .value;
-            day = day .value;
-            doy = doy .value;
-            week = week .value;
-            wday = wday .value;
-            nanos = nanos .value;
-            offset = offset .value;
-          };
-      next = offset .next;
-    }

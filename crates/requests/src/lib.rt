@@ -5,10 +5,9 @@ ghost use Prim.Native.Nat.{_≤_};
 ghost use lib.IntN.{pos, negℤ};
 ghost use Rattle.meaning.specs.Bytes.{when};
 ghost use Rattle.meaning.specs.Numerals.{integer};
-ghost use Rattle.requests.specs.Words.{numberAt, countAt, signedAt, fieldsAt};
-use meaning::Fields;
-use words::numbers::Number;
-use words::numbers::number_of;
+ghost use Rattle.requests.specs.Words.{numberAt, countAt, signedAt};
+use decimals::Number;
+use decimals::number_of;
 use words::word_from;
 
 pub struct NumberAt {
@@ -24,11 +23,6 @@ pub struct CountAt {
 
 pub struct SignedAt {
     pub value: i32,
-    pub next: usize,
-}
-
-pub struct FieldsAt {
-    pub fields: Fields,
     pub next: usize,
 }
 
@@ -111,33 +105,5 @@ pub fn signed_at(line: &[u8], at: usize) -> SignedAt
     SignedAt {
         value: integer_of(number.negative, number.size),
         next: number.next,
-    }
-}
-
-// The eight fields, each up to what its type holds.
-pub fn fields_at(line: &[u8], at: usize) -> FieldsAt
-    ensures { λ r. ⌜ r ≡ fieldsAt (now (line .entry)) at ⌝ }
-{
-    let year = signed_at(line, at);
-    let month = count_at(line, year.next, 4294967295);
-    let day = count_at(line, month.next, 4294967295);
-    let doy = count_at(line, day.next, 4294967295);
-    let week = count_at(line, doy.next, 4294967295);
-    let wday = count_at(line, week.next, 4294967295);
-    let nanos = count_at(line, wday.next, 18446744073709551615);
-    let offset = signed_at(line, nanos.next);
-    let fields = Fields {
-        year: year.value,
-        month: month.value as u32,
-        day: day.value as u32,
-        doy: doy.value as u32,
-        week: week.value as u32,
-        wday: wday.value as u32,
-        nanos: nanos.value,
-        offset: offset.value,
-    };
-    FieldsAt {
-        fields: fields,
-        next: offset.next,
     }
 }

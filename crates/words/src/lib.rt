@@ -1,7 +1,4 @@
-// The words of a line, separated by one space, and decimal numbers as words. A word that is missing is empty, and so is one
-// between two spaces.
-pub mod numbers;
-
+// The words of a line, separated by one space. A word that is missing is empty, and so is one between two spaces.
 ghost use mathlib.Core.Path.{_≡_};
 ghost use Prim.Native.Nat.{min};
 ghost use Rattle.words.specs.Words.{IsWord};

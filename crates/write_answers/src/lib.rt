@@ -8,8 +8,8 @@ use meaning::Pair;
 use meaning::Wrote;
 use request_bytes::BYTES_ROOM;
 use request_bytes::bytes_at;
+use request_fields::fields_at;
 use requests::count_at;
-use requests::fields_at;
 use write_pieces::answer_wrote;
 use write_pieces::fill;
 

@@ -4,10 +4,10 @@ use mathlib.Core.Path.{ap, sym, _∙_}
 use native.Mathlib.Omega.{arith}
 use borrow.Author.Needs.{needs}
 use denote.Ref.{now}
-use Rattle.words.proofs.Decimals.{number-of-none, number-of-negative, number-of-bare}
-use Rattle.words.specs.Decimal.{signed}
-use Rattle.words.proofs.numbers.number_of.Statement.{statement}
-use Rattle.words.proofs.numbers.number_of.Tie as tie
+use Rattle.decimals.proofs.Decimals.{number-of-none, number-of-negative, number-of-bare}
+use Rattle.decimals.specs.Decimal.{signed}
+use Rattle.decimals.proofs.number_of.Statement.{statement}
+use Rattle.decimals.proofs.number_of.Tie as tie
 
 returns : tie.Need-returns
 returns c = sym (number-of-none (now (c .before .before .args .word)) (omega arith))

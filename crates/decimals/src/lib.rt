@@ -1,6 +1,6 @@
 // Decimal numbers: `-` before a negative one, then at least one digit.
 ghost use mathlib.Core.Path.{_≡_};
-ghost use Rattle.words.specs.Decimal as decimal;
+ghost use Rattle.decimals.specs.Decimal as decimal;
 
 // The size that digits stand for, where it fits.
 pub enum Size {

@@ -5,10 +5,10 @@ use native.Mathlib.Omega.{arith}
 use lib.ListN.{length, drop}
 use borrow.Author.Needs.{needs}
 use denote.Ref.{now}
-use Rattle.words.proofs.Decimals.{below-digits, above-digits, too-large, next-digit, no-digit-left, size-behind-none, no-digit}
-use Rattle.words.specs.Decimal.{sizeBehind}
-use Rattle.words.proofs.numbers.size_of.Statement.{statement}
-use Rattle.words.proofs.numbers.size_of.Tie as tie
+use Rattle.decimals.proofs.Decimals.{below-digits, above-digits, too-large, next-digit, no-digit-left, size-behind-none, no-digit}
+use Rattle.decimals.specs.Decimal.{sizeBehind}
+use Rattle.decimals.proofs.size_of.Statement.{statement}
+use Rattle.decimals.proofs.size_of.Tie as tie
 
 abbrev Inv-loop : tie.InvT-loop
 Inv-loop digits n₀ i₀ n i = (i ≤ length digits) × (n ≤ 18446744073709551615) × (sizeBehind 0 digits ≡ sizeBehind n (drop i digits))

@@ -8,9 +8,9 @@ use lib.Dec.{leb}
 use lib.ListN.{length, getD, take, drop, drop-of-length-le}
 use lib.Seq.{drop-cons, take-all}
 use borrow.Author.Tests.{eq-eqb, ne-eqb, le-leb, lt-leb}
-use Rattle.words.specs.Decimal.{sizeBehind, sizeOf, signed, numberOf}
-use Rattle.words.specs.declared.numbers.Size.the-variants.{Bad, Is}
-use Rattle.words.specs.declared.numbers.Number.the-variants as number
+use Rattle.decimals.specs.Decimal.{sizeBehind, sizeOf, signed, numberOf}
+use Rattle.decimals.specs.declared.Size.the-variants.{Bad, Is}
+use Rattle.decimals.specs.declared.Number.the-variants as number
 use Rattle.meaning.specs.Bytes.{both}
 use Rattle.meaning.specs.Numerals.{allDigits, decimal}
 

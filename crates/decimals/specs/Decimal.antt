@@ -3,10 +3,10 @@ use mathlib.Core.Bool.{Bool, true, false}
 use mathlib.Core.List.{List, [], _∷_}
 use Prim.Native.Nat.{ℕ}
 use lib.Dec.{eqb, leb}
-use Rattle.words.specs.declared.numbers.Number.{Number}
-use Rattle.words.specs.declared.numbers.Size.{Size}
-use Rattle.words.specs.declared.numbers.Size.the-variants as size
-use Rattle.words.specs.declared.numbers.Number.the-variants as number
+use Rattle.decimals.specs.declared.Number.{Number}
+use Rattle.decimals.specs.declared.Size.{Size}
+use Rattle.decimals.specs.declared.Size.the-variants as size
+use Rattle.decimals.specs.declared.Number.the-variants as number
 use Rattle.meaning.specs.Bytes.{when, both, minus}
 use Rattle.meaning.specs.Numerals.{allDigits, decimal}
 

@@ -1,9 +1,9 @@
 -- A size keeps its value, with the sign before it.
 use mathlib.Core.Path.{ap, sym}
-use Rattle.words.specs.Decimal.{signed}
+use Rattle.decimals.specs.Decimal.{signed}
 use borrow.Author.Needs.{needs}
-use Rattle.words.proofs.numbers.signed.Statement.{statement}
-use Rattle.words.proofs.numbers.signed.Tie as tie
+use Rattle.decimals.proofs.signed.Statement.{statement}
+use Rattle.decimals.proofs.signed.Tie as tie
 
 enum-told : tie.Need-enum-told
 enum-told c = search needs

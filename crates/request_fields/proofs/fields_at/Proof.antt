@@ -1,9 +1,9 @@
 -- Each word from where the one before it left off.
 use mir.Facts.{toZ-ofZ}
-use Rattle.requests.specs.Words.{fieldsAt}
+use Rattle.request_fields.specs.Fields.{fieldsAt}
 use borrow.Author.Needs.{needs}
-use Rattle.requests.proofs.fields_at.Statement.{statement}
-use Rattle.requests.proofs.fields_at.Tie as tie
+use Rattle.request_fields.proofs.fields_at.Statement.{statement}
+use Rattle.request_fields.proofs.fields_at.Tie as tie
 
 signed-at-requires : tie.Need-signed-at-requires
 signed-at-requires c κs = search needs
