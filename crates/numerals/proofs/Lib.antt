@@ -1,3 +1,2 @@
 pub mod Sizing
 pub mod Integers
-pub mod Reaches

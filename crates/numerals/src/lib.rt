@@ -1,10 +1,9 @@
-// Numbers in: the test of a digit, one number reader with a sign rule, and how many bytes a number takes.
+// Numbers in: the test of a digit, and one number reader with a sign rule.
 ghost use mathlib.Core.Path.{_≡_};
-ghost use Prim.Native.Nat.{_-_, _^_, _≤_, _<_};
-ghost use lib.ListN.{length, drop};
+ghost use Prim.Native.Nat.{_^_, _<_};
 ghost use Rattle.meaning.specs.Bytes.{isDigit};
 ghost use Rattle.meaning.specs.Numerals as numerals;
-ghost use Rattle.meaning.specs.Readers.{takeNumber, reach};
+ghost use Rattle.meaning.specs.Readers.{takeNumber};
 ghost use Rattle.numerals.specs.Numbers.{numberIn, gotNumber};
 use meaning::Numeral;
 use meaning::Sign;
@@ -102,28 +101,4 @@ pub fn integer_of(negative: bool, size: u64) -> i64
 {
     let n = size as i64;
     if negative { 0 - n } else { n }
-}
-
-// Document 01's "greedy": so many bytes at least, and at most, as digits follow.
-pub fn extent(least: u8, most: u8, text: &[u8], at: usize) -> usize
-    requires { ⌜ at ≤ length (now text) ⌝ }
-    ensures { λ r. ⌜ r ≡ reach (most - least) least (drop at (now (text .entry))) ⌝ }
-{
-    let left = text.len() - at;
-    let bound = most as usize;
-    let mut k = least as usize;
-    while k < bound {
-        if left <= k {
-            return k;
-        }
-        let b = text[at + k];
-        if b < b'0' {
-            return k;
-        }
-        if b'9' < b {
-            return k;
-        }
-        k += 1;
-    }
-    k
 }

@@ -1,18 +1,14 @@
-// The pieces of the answers of a read and of parse_offset: a reading, one that is refused, an offset.
+// The pieces of the answers of a read: a reading, and one that is refused.
 ghost use Prim.Native.Nat.{_+_, _≤_};
 ghost use lib.ListN.{length};
 ghost use Rattle.io.specs.Counts.{Counts};
 use answer_pieces::put_counted;
-use fields::signed::is_negative;
-use fields::signed::size;
 use fields::signed::size_of;
-use laying::put_bytes;
 use meaning::Reading;
 use meaning::Refusal;
 use refusals::Detail;
 use refused_answers::answer_refused;
 use refused_answers::put_detail;
-use spelling::put_number;
 
 fn put_value(value: i64, out: &mut [u8], at: usize) -> usize
     requires { ⌜ at + 22 ≤ length (now out) ⌝ }
@@ -62,12 +58,4 @@ pub fn put_refused(reading: Reading, why: Refusal, out: &mut [u8]) -> usize
         return n;
     }
     answer_refused(why, out)
-}
-
-pub fn put_offset(seconds: i32, out: &mut [u8]) -> usize
-    requires { ⌜ 16384 ≤ length (now out) ⌝ }
-    ensures { λ r. ⌜ Counts r (now (out .exit)) ⌝ }
-{
-    let words = put_bytes(b"offset ", out, 0);
-    put_number(is_negative(seconds), size(seconds) as u64, out, words)
 }

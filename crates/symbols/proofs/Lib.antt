@@ -1,2 +1,1 @@
-pub mod NameParts
 pub mod Within

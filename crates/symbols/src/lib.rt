@@ -1,3 +1,2 @@
-// Reading, document 01's column Reads: what a name carries, and what a symbol reads by its rule.
-pub mod names;
+// Reading, document 01's column Reads: what a symbol reads by its rule.
 pub mod rule;

@@ -5,9 +5,9 @@ use denote.Ref.{now}
 use lib.ListN.{drop}
 use mathlib.Core.Path.{_≡_}
 use native.Mathlib.Nat.{add-zero}
+use Rattle.extents.proofs.Reaches.{digit-there}
 use Rattle.meaning.specs.Bytes.{digitAt}
 use Rattle.meaning.specs.Reading.{colonLength}
-use Rattle.numerals.proofs.Reaches.{digit-there}
 use Rattle.zones.proofs.Zoning.{colon-short}
 use Rattle.zones.proofs.zone_group.Statement.{statement}
 use Rattle.zones.proofs.zone_group.Tie as tie

@@ -5,7 +5,7 @@ use lib.ListN.{drop}
 use Rattle.meaning.specs.Names.{names, english}
 use Rattle.meaning.specs.Readers.{letters}
 use Rattle.meaning.specs.Reading.{readRule}
-use Rattle.symbols.proofs.NameParts.{part-named, letters-below}
+use Rattle.name_reads.proofs.NameParts.{part-named, letters-below}
 use Rattle.symbols.proofs.rule.parse_rule.Statement.{statement}
 use Rattle.symbols.proofs.rule.parse_rule.Tie as tie
 

@@ -4,8 +4,8 @@ use borrow.Author.Needs.{needs}
 use native.Mathlib.Numerals.{add-one}
 use native.Mathlib.Omega.{arith}
 use Rattle.numerals.proofs.Integers.{widened}
-use Rattle.symbols.proofs.names.month_at.Statement.{statement}
-use Rattle.symbols.proofs.names.month_at.Tie as tie
+use Rattle.name_reads.proofs.month_at.Statement.{statement}
+use Rattle.name_reads.proofs.month_at.Tie as tie
 
 add-month : tie.Need-add-month
 add-month c = search needs

@@ -1,7 +1,7 @@
 -- The test, as the definition has it.
 use Rattle.laws.proofs.Tests.{chosen}
-use Rattle.symbols.proofs.names.period_at.Statement.{statement}
-use Rattle.symbols.proofs.names.period_at.Tie as tie
+use Rattle.name_reads.proofs.period_at.Statement.{statement}
+use Rattle.name_reads.proofs.period_at.Tie as tie
 
 returns : tie.Need-returns
 returns c = search chosen

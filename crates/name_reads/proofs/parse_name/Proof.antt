@@ -4,9 +4,9 @@ use denote.Ref.{now}
 use lib.ListN.{drop}
 use Rattle.meaning.specs.Names.{names, english}
 use Rattle.meaning.specs.Readers.{matchName}
-use Rattle.symbols.proofs.NameParts.{part-named, match-below}
-use Rattle.symbols.proofs.names.parse_name.Statement.{statement}
-use Rattle.symbols.proofs.names.parse_name.Tie as tie
+use Rattle.name_reads.proofs.NameParts.{part-named, match-below}
+use Rattle.name_reads.proofs.parse_name.Statement.{statement}
+use Rattle.name_reads.proofs.parse_name.Tie as tie
 
 match-name-requires : tie.Need-match-name-requires
 match-name-requires c κs = search needs

@@ -6,9 +6,9 @@ use mathlib.Core.Path.{_≡_}
 use native.Mathlib.Omega.{arith}
 use Rattle.laws.proofs.Digits.{digit-yes, digit-below, digit-above}
 use Rattle.meaning.specs.Readers.{reach}
-use Rattle.numerals.proofs.Reaches.{reach-more, reach-stops, reach-done, no-digit}
-use Rattle.numerals.proofs.extent.Statement.{statement}
-use Rattle.numerals.proofs.extent.Tie as tie
+use Rattle.extents.proofs.Reaches.{reach-more, reach-stops, reach-done, no-digit}
+use Rattle.extents.proofs.extent.Statement.{statement}
+use Rattle.extents.proofs.extent.Tie as tie
 
 abbrev Inv-loop : tie.InvT-loop
 Inv-loop least most text at left bound k₀ k = reach (most - k) k (drop at text) ≡ reach (most - least) least (drop at text)

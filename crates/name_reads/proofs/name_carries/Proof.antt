@@ -3,8 +3,8 @@ use borrow.Author.Needs.{needs}
 use Rattle.meaning.specs.Bytes.{bytes}
 use Rattle.meaning.specs.Names.{names, english}
 use Rattle.meaning.specs.Reading.{nameCarries}
-use Rattle.symbols.proofs.names.name_carries.Statement.{statement}
-use Rattle.symbols.proofs.names.name_carries.Tie as tie
+use Rattle.name_reads.proofs.name_carries.Statement.{statement}
+use Rattle.name_reads.proofs.name_carries.Tie as tie
 
 enum-told : tie.Need-enum-told
 enum-told c = search needs

@@ -13,7 +13,7 @@ use Rattle.meaning.specs.declared.NameList.{NameList}
 use Rattle.parse.proofs.Moves.{letters-few, letters-match}
 use Rattle.parse.proofs.Parts.{madeOf, made}
 use Rattle.parse.specs.Steps.{matchedAt, partAt}
-use Rattle.symbols.specs.Matches.{namedBy, indexBelow}
+use Rattle.name_reads.specs.Matches.{namedBy, indexBelow}
 
 named-got : (l : NameList) (at : ℕ) (g : Got ℕ) → partAt at (madeOf (nameCarries l) g) ≡ namedBy l (matchedAt at g)
 named-got l at (got n i) = refl

@@ -1,7 +1,7 @@
 -- What the match found, with what it carries.
 use borrow.Author.Needs.{needs}
-use Rattle.symbols.proofs.names.named.Statement.{statement}
-use Rattle.symbols.proofs.names.named.Tie as tie
+use Rattle.name_reads.proofs.named.Statement.{statement}
+use Rattle.name_reads.proofs.named.Tie as tie
 
 enum-known-matched : tie.Need-enum-known-matched
 enum-known-matched c = search needs

@@ -5,7 +5,7 @@ ghost use lib.ListN.{length, drop};
 ghost use Rattle.meaning.specs.Names.{names, english};
 ghost use Rattle.meaning.specs.Reading as reading;
 ghost use Rattle.parse.specs.Steps.{partAt};
-ghost use Rattle.symbols.specs.Matches.{namedBy, indexBelow};
+ghost use Rattle.name_reads.specs.Matches.{namedBy, indexBelow};
 use meaning::Carried;
 use meaning::NameList;
 use meaning::ParseUnit;

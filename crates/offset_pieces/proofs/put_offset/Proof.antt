@@ -1,9 +1,9 @@
 -- A word of 7 bytes and at most 21.
 use borrow.Author.Needs.{needs}
 use native.Mathlib.Omega.{arith}
+use Rattle.offset_pieces.proofs.put_offset.Statement.{statement}
+use Rattle.offset_pieces.proofs.put_offset.Tie as tie
 use Rattle.refused_answers.proofs.Signs.{sign-small}
-use Rattle.read_pieces.proofs.put_offset.Statement.{statement}
-use Rattle.read_pieces.proofs.put_offset.Tie as tie
 use Rattle.io.proofs.Counting.{counts}
 
 slice-aggregate-put-bytes : tie.Need-slice-aggregate-put-bytes
