@@ -1,4 +1,4 @@
-// Document 01, "The field record and the numbers": the signs and sizes of numbers, the checks of a record and of the current
-// year.
+// The field record: signs and sizes, what is in range (refusals 4 and 14), and what a record gives to write.
 pub mod checks;
 pub mod signed;
+pub mod values;

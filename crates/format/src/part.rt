@@ -1,24 +1,22 @@
-// What a part writes, and all parts of a pattern one after the other.
+// What a part writes.
 ghost use mathlib.Core.Path.{_≡_};
 ghost use Prim.Native.Nat.{_+_, _≤_};
 ghost use lib.ListN.{length};
 ghost use Rattle.laws.specs.Laid.{Laid};
 ghost use Rattle.meaning.specs.Answers.{fieldsCheck};
 ghost use Rattle.meaning.specs.Names.{english};
-ghost use Rattle.meaning.specs.Whole.{text};
 ghost use Rattle.meaning.specs.Writing.{stepOf, stepText};
 ghost use Rattle.meaning.specs.declared.Checked.the-variants.{Fine};
-ghost use Rattle.parts.proofs.Laws.{Next};
-ghost use Rattle.parts.specs.First.{contentOf};
-use laying::put_times;
-use leaves::literals::put_open;
-use leaves::literals::put_unescaped;
+ghost use Rattle.pattern.specs.First.{contentOf};
+ghost use Rattle.pattern.specs.Next.{Next};
+use crate::literals::put_open;
+use crate::literals::put_unescaped;
+use crate::run::put_run;
+use digits::laying::put_times;
 use meaning::Fields;
 use meaning::Kind;
 use meaning::Pair;
 use meaning::Part;
-use parts::next_part;
-use runs::put_run;
 
 pub fn format_part(
     pair: Pair,
@@ -49,20 +47,4 @@ pub fn format_part(
             put_open(&pattern[from..], out, at)
         }
     }
-}
-
-// All parts, where there is room for their text.
-pub fn format_parts(pair: Pair, pattern: &[u8], f: Fields, out: &mut [u8]) -> usize
-    requires { ⌜ fieldsCheck f ≡ Fine ⌝ }
-    requires { ⌜ length (text pair english (now pattern) f) ≤ length (now out) ⌝ }
-    ensures { λ r. ⌜ Laid (now (out .entry)) (now (out .exit)) 0 r (text pair english (now (pattern .entry)) f) ⌝ }
-{
-    let mut at = 0;
-    let mut place = 0;
-    while place < pattern.len() {
-        let part = next_part(pattern, place);
-        at = format_part(pair, pattern, part, f, out, at);
-        place += part.length;
-    }
-    at
 }

@@ -1,2 +1,2 @@
-pub mod Sizing
 pub mod Integers
+pub mod Sizing

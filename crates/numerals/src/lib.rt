@@ -1,4 +1,6 @@
-// Numbers in: the test of a digit, and one number reader with a sign rule.
+// Numbers in: the test of a digit, the one number reader, how far a greedy number goes.
+pub mod extents;
+
 ghost use mathlib.Core.Path.{_≡_};
 ghost use Prim.Native.Nat.{_^_, _<_};
 ghost use Rattle.meaning.specs.Bytes.{isDigit};

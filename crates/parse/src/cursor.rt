@@ -10,9 +10,9 @@ use meaning::Carried;
 use meaning::NameList;
 use meaning::Numeral;
 use meaning::Trouble;
+use names::tables::Found;
 use numerals::Number;
 use numerals::read_number;
-use tables::Found;
 
 pub struct Cursor {
     pub at: usize,
@@ -91,7 +91,7 @@ impl Cursor {
         ensures { λ r. ⌜ r ≡ steps.matchedAt (self .at) (reads.matchName (names english list) (drop (self .at) (now (text .entry)))) ⌝ }
     {
         let at = self.at;
-        match names_in::match_name(list, &text[at..]) {
+        match names::matching::match_name(list, &text[at..]) {
             Found::Name { index, length } => Matched::Name {
                 index,
                 next: Cursor { at: at + length },
@@ -116,7 +116,7 @@ impl Cursor {
             };
         }
         let end = at + k;
-        match names_in::match_name(list, &text[at..end]) {
+        match names::matching::match_name(list, &text[at..end]) {
             Found::Name { index, length } => Matched::Name {
                 index,
                 next: Cursor { at: at + length },

@@ -1,3 +1,10 @@
-// Reading, document 01's column Reads, from below: the cursor and its steps.
+// Column Reads: everything that a part reads, from the cursor to the part.
 pub mod cursor;
+pub mod named;
+pub mod part;
+pub mod rule;
+pub mod run;
+pub mod short;
 pub mod steps;
+pub mod years;
+pub mod zones;

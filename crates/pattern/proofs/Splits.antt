@@ -13,7 +13,7 @@ use Rattle.meaning.specs.declared.Checked.the-variants.{Fine, Refused}
 use Rattle.meaning.specs.declared.Part.{Part}
 use Rattle.meaning.specs.declared.Refusal.{Refusal}
 use Rattle.meaning.specs.declared.Split.{Split}
-use Rattle.parts.proofs.Laws.{Next}
+use Rattle.pattern.specs.Next.{Next}
 
 -- The first entries are the parts before a place, and no part uses the others.
 pub record Filled (p : List ℕ) (entries : List Part) (used at : ℕ) : Type 0 where

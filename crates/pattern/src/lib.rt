@@ -1,17 +1,21 @@
-// A whole pattern: all its parts at once.
+// "Splitting": a pattern part by part, its refusals 1, 2 and 3, and all its parts at once.
+pub mod checks;
+pub mod parts;
+pub mod quoted;
+
+ghost use mathlib.Core.Path.{_≡_};
+ghost use Prim.Native.Nat.{_≤_};
+ghost use lib.ListN.{length};
+ghost use Rattle.meaning.specs.Promises.{Splits};
+ghost use Rattle.meaning.specs.Splitting.{parts, noPart};
+ghost use Rattle.meaning.specs.Whole.{splitInto};
+ghost use Rattle.meaning.specs.declared.Checked.the-variants.{Fine};
+use crate::checks::bytes_check;
+use crate::parts::next_part;
 use meaning::Checked;
 use meaning::Kind;
 use meaning::Part;
 use meaning::Split;
-use parts::next_part;
-use pattern_checks::bytes_check;
-ghost use mathlib.Core.Path.{_≡_};
-ghost use Prim.Native.Nat.{_≤_};
-ghost use lib.ListN.{length};
-ghost use Rattle.meaning.specs.Splitting.{parts, noPart};
-ghost use Rattle.meaning.specs.Promises.{Splits};
-ghost use Rattle.meaning.specs.Whole.{splitInto};
-ghost use Rattle.meaning.specs.declared.Checked.the-variants.{Fine};
 
 // What an entry of a split holds that no part uses.
 fn no_part() -> Part

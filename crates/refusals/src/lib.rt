@@ -1,7 +1,7 @@
 // "Answer numbers" of document 01: a refusal's number and what it returns.
 ghost use mathlib.Core.Path.{_≡_};
-ghost use Rattle.refusals.specs.Told.{unsigned, oneDetail, detailsOf};
 ghost use Rattle.meaning.specs.Answers.{troubleNumber, number, details};
+ghost use Rattle.refusals.specs.Told.{unsigned, oneDetail, detailsOf};
 use fields::signed::is_negative;
 use fields::signed::size;
 use meaning::Refusal;

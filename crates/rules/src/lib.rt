@@ -1,11 +1,16 @@
-// The table of "What each symbol does": from a byte and its count to what a run does, which the writer and the reader share.
+// The table of symbols in code: from a byte and its count to what it does. Writer, reader and check share it.
+pub mod date;
+pub mod numbers;
+pub mod short;
+pub mod time;
+
 ghost use mathlib.Core.Path.{_≡_};
 ghost use Rattle.meaning.specs.Rules as table;
 ghost use Rattle.rules.specs.Letters.{isAmong};
-use date_rules::date_role;
+use crate::date::date_role;
+use crate::time::time_role;
 use meaning::Pair;
 use meaning::Role;
-use time_rules::time_role;
 
 fn is_date_symbol(b: u8) -> bool
     ensures { λ r. ⌜ r ≡ isAmong table.dateSymbols b ⌝ }

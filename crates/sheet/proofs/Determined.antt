@@ -6,7 +6,7 @@ use lib.IntN.{ℤ}
 use Rattle.laws.proofs.Determined.{determined}
 use Rattle.meaning.specs.declared.Fields.{Fields}
 use Rattle.meaning.specs.declared.Pair.{Pair}
-use Rattle.rows.specs.Rows.{Answer, Given}
+use Rattle.sheet.specs.Rows.{Answer, Given}
 use Rattle.sheet.specs.Sheet.{SheetWrites, SheetReads, SheetParsesOffset, SheetSplits}
 
 given-coincide : {answer : Answer} {old new new′ : List ℤ} {r r′ : ℕ} → Given answer old new r → Given answer old new′ r′ → (r ≡ r′) × (new ≡ new′)

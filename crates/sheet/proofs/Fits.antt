@@ -36,12 +36,12 @@ use Rattle.meaning.specs.declared.Pair.the-variants.{Full}
 use Rattle.meaning.specs.declared.Refusal.the-variants.{LoneQuote, FieldRange, NoRoom, TextTooLong, TextByte, InPart, OffsetLength, OffsetRange, CurrentYear}
 use Rattle.meaning.specs.declared.Verdict.{Verdict}
 use Rattle.meaning.specs.declared.Verdict.the-variants as verdict
-use Rattle.parts.proofs.First.{contents-first, first-sized}
-use Rattle.parts.specs.First.{firstContent}
-use Rattle.rows.proofs.Fits.{else-fits, unless-fits, byte-fits, bytes-fit}
-use Rattle.rows.specs.Fits.{Count, CheckedFits, WroteFits, ReadFits, OffsetFits, VerdictFits}
-use Rattle.parse.proofs.Within.{Within}
-use Rattle.symbols.proofs.Within.{within-step}
+use Rattle.pattern.proofs.parts.First.{contents-first, first-sized}
+use Rattle.pattern.specs.First.{firstContent}
+use Rattle.sheet.proofs.entries.Fits.{else-fits, unless-fits, byte-fits, bytes-fit}
+use Rattle.sheet.specs.Fits.{Count, CheckedFits, WroteFits, ReadFits, OffsetFits, VerdictFits}
+use Rattle.parse.proofs.steps.Within.{Within}
+use Rattle.parse.proofs.rule.Within.{within-step}
 
 -- the checks
 

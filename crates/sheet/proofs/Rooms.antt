@@ -5,7 +5,7 @@ use Prim.Native.Nat.{ℕ, _≤_, _<_}
 use borrow.Author.Tests.{le-leb, lt-leb}
 use lib.IntN.{ℤ}
 use lib.ListN.{length}
-use Rattle.rows.specs.Rows.{Answer, Given}
+use Rattle.sheet.specs.Rows.{Answer, Given}
 use Rattle.sheet.specs.Sheet.{has, ifRoom}
 
 module _ (n : ℕ) (row : List ℤ) (answer : Answer) where

@@ -14,7 +14,7 @@ use Rattle.meaning.specs.Whole.{split, write, output, read, parseOffset}
 use Rattle.meaning.specs.declared.Fields.{Fields}
 use Rattle.meaning.specs.declared.Pair.{Pair}
 use Rattle.meaning.specs.declared.Verdict.{Verdict}
-use Rattle.rows.specs.Rows.{Answer, Given, laid, wroteAnswer, readAnswer, offsetAnswer, verdictAnswer, splitAnswer, splitNumbers}
+use Rattle.sheet.specs.Rows.{Answer, Given, laid, wroteAnswer, readAnswer, offsetAnswer, verdictAnswer, splitAnswer, splitNumbers}
 
 -- whether a row has so many entries
 abbrev pub has : {A : Type 0} → ℕ → List A → Bool

@@ -1,16 +1,22 @@
 // The functions for C and Rust. Each returns 0 where it accepts and document 01's number where it refuses, and lays its answer
 // over the start of a lent row. Where a lent row is too small for the answer it returns 100 and alters nothing.
+pub mod answers;
+pub mod entries;
+pub mod readings;
+pub mod splits;
+pub mod verdicts;
+
 ghost use Rattle.sheet.specs.Sheet.{SheetWrites, SheetReads, SheetParsesOffset, SheetSplits, SheetChecks};
+use crate::answers::give_offset;
+use crate::answers::give_wrote;
+use crate::readings::give_reading;
+use crate::splits::give_split;
+use crate::verdicts::give_verdict;
 use meaning::Fields;
 use meaning::Pair;
-use offsets::parse_offset;
+use reader::offset::parse_offset;
 use reader::parse_with;
-use reading_rows::give_reading;
-use rows::answers::give_offset;
-use rows::answers::give_wrote;
-use split_rows::give_split;
 use verdict::verdict_on;
-use verdict_rows::give_verdict;
 use writer::format_with;
 
 fn write(pair: Pair, pattern: &[u8], f: Fields, out: &mut [u8], row: &mut [i64]) -> u32

@@ -1,22 +1,25 @@
 // Demand 3, the pattern check: whether every part comes back for every allowed record, or the first that does not, with a
 // record that shows it.
+pub mod lookahead;
+pub mod needs;
+
 ghost use mathlib.Core.Path.{_≡_};
 ghost use lib.ListN.{drop};
 ghost use Rattle.meaning.specs.Names.{english};
 ghost use Rattle.meaning.specs.Trust.{Says, trustCheck};
 ghost use Rattle.meaning.specs.Writing.{steps};
 ghost use Rattle.trust.specs.Check as trust;
+use crate::lookahead::digit_first;
+use crate::lookahead::digit_second;
+use crate::needs::part_need;
 use fields::checks::current_year_check;
 use fields::checks::or_else;
-use lookahead::digit_first;
-use lookahead::digit_second;
 use meaning::Checked;
 use meaning::Fields;
 use meaning::Pair;
 use meaning::Verdict;
-use needs::part_need;
-use parts::next_part;
-use pattern_checks::quoted_check;
+use pattern::checks::quoted_check;
+use pattern::parts::next_part;
 use trust::Need;
 
 // Whether what the parts from a place on can write meets a need.

@@ -1,19 +1,22 @@
 // The public writer: the checks 1, 2, 3, 4, 5 in that order, then the text.
+pub mod date;
+pub mod walk;
+
 ghost use mathlib.Core.Path.{_≡_};
 ghost use Rattle.meaning.specs.Answers.{patternCheck, fieldsCheck};
 ghost use Rattle.meaning.specs.Names.{english};
 ghost use Rattle.meaning.specs.Promises.{Writes};
 ghost use Rattle.meaning.specs.declared.Checked.the-variants.{Fine};
+use crate::walk::format_parts;
+use digits::laying::put_bytes;
 use fields::checks::fields_check;
 use fields::checks::or_else;
-use format::part::format_parts;
-use laying::put_bytes;
 use meaning::Checked;
 use meaning::Fields;
 use meaning::Pair;
 use meaning::Refusal;
 use meaning::Wrote;
-use pattern_checks::pattern_check;
+use pattern::checks::pattern_check;
 
 // Where 8 bytes for each of the pattern do not fit, the text is written into a row in which they do, and from there into the
 // output, or refused with the bytes that are needed.

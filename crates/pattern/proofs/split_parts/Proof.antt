@@ -4,7 +4,7 @@ use native.Mathlib.Omega.{arith}
 use lib.ListN.{length}
 use borrow.Author.Needs.{needs}
 use denote.Ref.{now}
-use Rattle.parts.proofs.Laws.{next}
+use Rattle.pattern.proofs.parts.Next.{next}
 use Rattle.pattern.proofs.Splits.{Filled, filled-start, filled-turn, filled-split}
 use Rattle.pattern.proofs.split_parts.Statement.{statement}
 use Rattle.pattern.proofs.split_parts.Tie as tie

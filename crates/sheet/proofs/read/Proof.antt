@@ -5,7 +5,7 @@ use mir.Syntax.{w32}
 use mir.ValLaws.{toZ-ofZ}
 use Rattle.meaning.specs.Names.{english}
 use Rattle.meaning.specs.Whole.{read}
-use Rattle.rows.specs.Rows.{readAnswer}
+use Rattle.sheet.specs.Rows.{readAnswer}
 use Rattle.sheet.proofs.Fits.{read-fits}
 use Rattle.sheet.proofs.Rooms.{room, no-room}
 use borrow.Author.Needs.{needs}

@@ -2,7 +2,7 @@
 use denote.Ref.{now}
 use native.Mathlib.Omega.{arith}
 use Rattle.meaning.specs.Whole.{parseOffset}
-use Rattle.rows.specs.Rows.{offsetAnswer}
+use Rattle.sheet.specs.Rows.{offsetAnswer}
 use Rattle.sheet.proofs.Fits.{offset-fits}
 use Rattle.sheet.proofs.Rooms.{room, no-room}
 use borrow.Author.Needs.{needs}

@@ -10,12 +10,12 @@ use native.Mathlib.Numerals.{add-one}
 use native.Mathlib.Omega.{arith}
 use Rattle.meaning.specs.Writing.{stepOf, steps}
 use Rattle.meaning.specs.declared.Pair.the-variants.{Full}
-use Rattle.parts.proofs.Laws.{next, starts-here}
-use Rattle.parts.specs.First.{contentOf}
+use Rattle.pattern.proofs.parts.Next.{next, starts-here}
+use Rattle.pattern.specs.First.{contentOf}
 use Rattle.trust.proofs.Turns.{failing-on, failing-here}
 use Rattle.trust.specs.Check.{meets, firstFailing}
 use Rattle.trust.specs.Needs.{stepNeed}
-use Rattle.parts.proofs.Walks.{steps-next, steps-done}
+use Rattle.pattern.proofs.parts.Walks.{steps-next, steps-done}
 use Rattle.verdict.proofs.first_failing.Statement.{statement}
 use Rattle.verdict.proofs.first_failing.Tie as tie
 

@@ -11,17 +11,17 @@ use denote.Ref.{now}
 use lib.ListN.{length, take}
 use Rattle.fields.proofs.checks.fields_check.Reads as fields-check
 use Rattle.fields.proofs.checks.or_else.Reads as or-else
-use Rattle.format.proofs.part.format_parts.Reads as format-parts
+use Rattle.writer.proofs.walk.format_parts.Reads as format-parts
 use Rattle.laws.proofs.Checks.{else-fine}
 use Rattle.laws.proofs.Sizes.{eight-bytes, text-fits}
-use Rattle.laying.proofs.put_bytes.Reads as put-bytes
+use Rattle.digits.proofs.laying.put_bytes.Reads as put-bytes
 use Rattle.meaning.specs.Answers.{_else_, patternCheck, fieldsCheck}
 use Rattle.meaning.specs.Names.{english}
 use Rattle.meaning.specs.Whole.{text}
 use Rattle.meaning.specs.declared.Checked.the-variants.{Fine}
 use Rattle.meaning.specs.declared.Wrote.the-variants as wrote
-use Rattle.pattern_checks.proofs.LoneQuote.{fine-pattern}
-use Rattle.pattern_checks.proofs.pattern_check.Reads as pattern-check
+use Rattle.pattern.proofs.checks.LoneQuote.{fine-pattern}
+use Rattle.pattern.proofs.checks.pattern_check.Reads as pattern-check
 use Rattle.writer.proofs.Answers.{refused, with-room, found, no-room}
 use Rattle.writer.proofs.format_tight.Kinds as tight-kinds
 use Rattle.writer.proofs.format_tight.Reads as tight

@@ -5,7 +5,7 @@ use mathlib.Core.Path.{_≡_, refl}
 use mir.Syntax.{w32}
 use mir.ValLaws.{toZ-ofZ}
 use Rattle.meaning.specs.Answers.{within}
-use Rattle.fields.proofs.Ranges.{Passed, inside, outside, none-out}
+use Rattle.fields.proofs.checks.Ranges.{Passed, inside, outside, none-out}
 use Rattle.fields.proofs.checks.field_out.Statement.{statement}
 use Rattle.fields.proofs.checks.field_out.Tie as tie
 

@@ -1,7 +1,7 @@
 -- Refused for the first field that is out of its range.
 use borrow.Author.Needs.{needs}
 use borrow.Author.Tests.{ne-eqb}
-use Rattle.fields.proofs.Ranges.{refused-for}
+use Rattle.fields.proofs.checks.Ranges.{refused-for}
 use Rattle.fields.proofs.checks.fields_check.Statement.{statement}
 use Rattle.fields.proofs.checks.fields_check.Tie as tie
 

@@ -3,13 +3,13 @@ use borrow.Author.Needs.{needs}
 use denote.Ref.{now}
 use Prim.Native.Nat.{_+_, _-_}
 use lib.ListN.{length, length-replicate}
-use Rattle.parts.proofs.Walks.{rest-all}
+use Rattle.pattern.proofs.parts.Walks.{rest-all}
 use mathlib.Core.Path.{_≡_}
 use native.Mathlib.Omega.{arith}
 use Rattle.format.proofs.part.format_part.Statement.{statement}
 use Rattle.format.proofs.part.format_part.Tie as tie
 use Rattle.meaning.specs.Writing.{stepOf, stepText}
-use Rattle.format.proofs.Laws.{open-step}
+use Rattle.format.proofs.part.OpenStep.{open-step}
 
 enum-told : tie.Need-enum-told
 enum-told c = search needs

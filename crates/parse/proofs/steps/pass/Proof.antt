@@ -2,7 +2,7 @@
 use borrow.Author.Needs.{needs}
 use denote.Ref.{now}
 use lib.ListN.{drop}
-use Rattle.parse.proofs.Parts.{part-passed}
+use Rattle.parse.proofs.steps.Parts.{part-passed}
 use Rattle.parse.proofs.steps.pass.Statement.{statement}
 use Rattle.parse.proofs.steps.pass.Tie as tie
 

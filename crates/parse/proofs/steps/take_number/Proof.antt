@@ -3,7 +3,7 @@ use borrow.Author.Needs.{needs}
 use denote.Ref.{now}
 use lib.ListN.{drop}
 use Rattle.numerals.proofs.Integers.{widened}
-use Rattle.parse.proofs.Parts.{part-number}
+use Rattle.parse.proofs.steps.Parts.{part-number}
 use Rattle.parse.proofs.steps.take_number.Statement.{statement}
 use Rattle.parse.proofs.steps.take_number.Tie as tie
 

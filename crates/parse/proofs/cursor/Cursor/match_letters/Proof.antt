@@ -6,10 +6,10 @@ use lib.ListN.{length, drop, length-drop}
 use lib.ListN.{take, length-take}
 use mathlib.Core.Path.{_≡_, sym, _∙_}
 use native.Mathlib.Omega.{arith}
-use Rattle.tables.proofs.Answers.{found-name, found-within}
+use Rattle.names.proofs.tables.Answers.{found-name, found-within}
 use Rattle.meaning.specs.Names.{names, english}
 use Rattle.meaning.specs.Readers.{matchName}
-use Rattle.parse.proofs.Moves.{matched-name, matched-nothing, letters-match, letters-few}
+use Rattle.parse.proofs.cursor.Moves.{matched-name, matched-nothing, letters-match, letters-few}
 use Rattle.parse.proofs.cursor.Cursor.match_letters.Statement.{statement}
 use Rattle.parse.proofs.cursor.Cursor.match_letters.Tie as tie
 

@@ -4,11 +4,11 @@ use denote.Ref.{now}
 use lib.ListN.{drop, length-drop}
 use mathlib.Core.Path.{sym, _∙_}
 use native.Mathlib.Omega.{arith}
-use Rattle.tables.proofs.Answers.{found-name, found-within}
+use Rattle.names.proofs.tables.Answers.{found-name, found-within}
 use Rattle.meaning.specs.Names.{names, english}
 use Rattle.meaning.specs.Readers.{matchName}
-use Rattle.parse.proofs.Moves.{matched-name, matched-nothing}
-use Rattle.parts.proofs.Walks.{rest-all}
+use Rattle.parse.proofs.cursor.Moves.{matched-name, matched-nothing}
+use Rattle.pattern.proofs.parts.Walks.{rest-all}
 use Rattle.parse.proofs.cursor.Cursor.match_name.Statement.{statement}
 use Rattle.parse.proofs.cursor.Cursor.match_name.Tie as tie
 

@@ -4,7 +4,7 @@ use denote.Ref.{now}
 use lib.ListN.{drop, length-drop}
 use mathlib.Core.Path.{sym}
 use native.Mathlib.Omega.{arith}
-use Rattle.parse.proofs.Moves.{skipped-few, skipped-past}
+use Rattle.parse.proofs.cursor.Moves.{skipped-few, skipped-past}
 use Rattle.parse.proofs.cursor.Cursor.skip.Statement.{statement}
 use Rattle.parse.proofs.cursor.Cursor.skip.Tie as tie
 

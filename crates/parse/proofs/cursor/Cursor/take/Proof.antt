@@ -4,8 +4,8 @@ use denote.Ref.{now}
 use lib.ListN.{drop, length-drop}
 use mathlib.Core.Path.{sym, _∙_}
 use native.Mathlib.Omega.{arith}
-use Rattle.parse.proofs.Moves.{taken-by, taken-within}
-use Rattle.parts.proofs.Walks.{rest-all}
+use Rattle.parse.proofs.cursor.Moves.{taken-by, taken-within}
+use Rattle.pattern.proofs.parts.Walks.{rest-all}
 use Rattle.parse.proofs.cursor.Cursor.take.Statement.{statement}
 use Rattle.parse.proofs.cursor.Cursor.take.Tie as tie
 

@@ -1,0 +1,95 @@
+// Numbers out: padded decimals laid into a lent output, those of up to four digits at once.
+ghost use mathlib.Core.List.{_++_, _∷_, []};
+ghost use mathlib.Core.Path.{_≡_};
+ghost use Prim.Native.Nat.{_+_, _≤_, _<_, max};
+ghost use lib.Dec.{eqb};
+ghost use lib.ListN.{length};
+ghost use Rattle.laws.specs.Laid.{Laid};
+ghost use Rattle.meaning.specs.Bytes as text;
+use crate::laying::put_byte;
+use crate::padded::put_padded;
+
+// Two digits, which most numbers of a date have, from a row of two.
+fn put_two(n: u32, out: &mut [u8], at: usize) -> usize
+    requires { ⌜ (n < 100) × (at + 2 ≤ length (now out)) ⌝ }
+    ensures { λ r. ⌜ Laid (now (out .entry)) (now (out .exit)) at r (text.digits 2 n) ⌝ }
+{
+    let row = [48 + (n / 10) as u8, 48 + (n % 10) as u8];
+    out[at] = row[0];
+    out[at + 1] = row[1];
+    at + 2
+}
+
+// One digit or two.
+pub fn put_short(n: u32, k: usize, out: &mut [u8], at: usize) -> usize
+    requires { ⌜ (n < 100) × (k ≤ 2) × (at + length (text.num k n) ≤ length (now out)) ⌝ }
+    ensures { λ r. ⌜ Laid (now (out .entry)) (now (out .exit)) at r (text.num k n) ⌝ }
+{
+    if k < 2 {
+        if n < 10 {
+            return put_byte(48 + n as u8, out, at);
+        }
+    }
+    put_two(n, out, at)
+}
+
+// Four digits, which most years have.
+fn put_four(n: u32, out: &mut [u8], at: usize) -> usize
+    requires { ⌜ (n < 10000) × (at + 4 ≤ length (now out)) ⌝ }
+    ensures { λ r. ⌜ Laid (now (out .entry)) (now (out .exit)) at r (text.digits 4 n) ⌝ }
+{
+    let next = put_two(n / 100, out, at);
+    put_two(n % 100, out, next)
+}
+
+// Whether the padded number has four digits.
+fn has_four(n: u32, k: usize) -> bool
+    ensures { λ r. ⌜ r ≡ eqb (max k (text.width n)) 4 ⌝ }
+{
+    if 4 < k {
+        return false;
+    }
+    if 10000 <= n {
+        return false;
+    }
+    if k == 4 {
+        return true;
+    }
+    1000 <= n
+}
+
+// More than two digits.
+fn put_long(n: u32, k: usize, out: &mut [u8], at: usize) -> usize
+    requires { ⌜ at + length (text.num k n) ≤ length (now out) ⌝ }
+    ensures { λ r. ⌜ Laid (now (out .entry)) (now (out .exit)) at r (text.num k n) ⌝ }
+{
+    if has_four(n, k) {
+        return put_four(n, out, at);
+    }
+    put_padded(n, k, out, at)
+}
+
+pub fn zero_padded(n: u32, k: usize, out: &mut [u8], at: usize) -> usize
+    requires { ⌜ at + length (text.num k n) ≤ length (now out) ⌝ }
+    ensures { λ r. ⌜ Laid (now (out .entry)) (now (out .exit)) at r (text.num k n) ⌝ }
+{
+    if 2 < k {
+        return put_long(n, k, out, at);
+    }
+    if 100 <= n {
+        return put_long(n, k, out, at);
+    }
+    put_short(n, k, out, at)
+}
+
+// A byte, a minus or a colon, where it is wanted, and a padded number behind it.
+pub fn put_marked(mark: u8, wanted: bool, n: u32, k: usize, out: &mut [u8], at: usize) -> usize
+    requires { ⌜ at + length (text.when wanted (mark ∷ []) [] ++ text.num k n) ≤ length (now out) ⌝ }
+    ensures { λ r. ⌜ Laid (now (out .entry)) (now (out .exit)) at r (text.when wanted (mark ∷ []) [] ++ text.num k n) ⌝ }
+{
+    if wanted {
+        let next = put_byte(mark, out, at);
+        return zero_padded(n, k, out, next);
+    }
+    zero_padded(n, k, out, at)
+}

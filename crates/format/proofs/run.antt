@@ -1,0 +1,2 @@
+pub mod LongerRuns
+pub mod Runs

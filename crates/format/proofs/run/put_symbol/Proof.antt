@@ -1,0 +1,51 @@
+-- The bytes themselves, or the text of their rule.
+use borrow.Author.Needs.{needs}
+use lib.ListN.{length-replicate}
+use Rattle.format.proofs.run.put_symbol.Statement.{statement}
+use Rattle.format.proofs.run.put_symbol.Tie as tie
+use Rattle.meaning.specs.Writing.{stepText}
+
+role-of-requires : tie.Need-role-of-requires
+role-of-requires c κs = search needs
+
+enum-told : tie.Need-enum-told
+enum-told c = search needs
+
+put-times-requires : tie.Need-put-times-requires
+unfolding stepText
+put-times-requires c κs = rw length-replicate at (rw (← c .before .before .before .role-of .ensures, c .before .enum-told .given .1) at (c .before .before .before .before .before .pre .1))
+
+enum-known-role : tie.Need-enum-known-role
+enum-known-role c = search needs
+
+format-rule-requires : tie.Need-format-rule-requires
+unfolding stepText
+format-rule-requires c κs = (c .before .before .before .before .before .before .pre .0, rw (← c .before .before .before .before .role-of .ensures, c .before .before .role .given .1) at (c .before .before .before .before .before .before .pre .1))
+
+same-length : tie.Need-same-length
+same-length c = search needs
+
+returns : tie.Need-returns
+unfolding stepText
+returns c = rw (← c .before .before .before .before .before .before .role-of .ensures, c .before .before .before .before .enum-told .given .1) (c .before .before .put-times .ensures)
+
+same-length-2 : tie.Need-same-length-2
+same-length-2 c = search needs
+
+returns-2 : tie.Need-returns-2
+unfolding stepText
+returns-2 c = rw (← c .before .before .before .before .before .before .before .role-of .ensures, c .before .before .before .before .before .role .given .1) (c .before .before .format-rule .ensures)
+
+pub put-symbol-spec : {M : Type 1} → statement M
+put-symbol-spec =
+    tie.close
+    (tie.spec
+    role-of-requires
+    enum-told
+    put-times-requires
+    enum-known-role
+    format-rule-requires
+    same-length
+    returns
+    same-length-2
+    returns-2)

@@ -1,0 +1,47 @@
+// What symbols write: a quantity, a name, a quarter with its letter.
+ghost use mathlib.Core.List.{_∷_};
+ghost use mathlib.Core.Path.{_≡_};
+ghost use Prim.Native.Nat.{_+_, _≤_};
+ghost use lib.ListN.{length};
+ghost use Rattle.laws.specs.Laid.{Laid};
+ghost use Rattle.meaning.specs.Answers.{fieldsCheck};
+ghost use Rattle.meaning.specs.Bytes.{num};
+ghost use Rattle.meaning.specs.Names.{english};
+ghost use Rattle.meaning.specs.Writing.{quantityOf, nameText};
+ghost use Rattle.meaning.specs.declared.Checked.the-variants.{Fine};
+use digits::laying::put_byte;
+use digits::numbers::zero_padded;
+use fields::values::place_of;
+use fields::values::quantity_of;
+use meaning::Fields;
+use meaning::NameList;
+use meaning::Quantity;
+use names::writing::format_name;
+
+pub fn put_quantity(quantity: Quantity, k: u8, f: Fields, out: &mut [u8], at: usize) -> usize
+    requires { ⌜ fieldsCheck f ≡ Fine ⌝ }
+    requires { ⌜ at + length (num k (quantityOf quantity f)) ≤ length (now out) ⌝ }
+    ensures { λ r. ⌜ Laid (now (out .entry)) (now (out .exit)) at r (num k (quantityOf quantity f)) ⌝ }
+{
+    let n = quantity_of(quantity, f);
+    zero_padded(n, k as usize, out, at)
+}
+
+pub fn put_name_of(names: NameList, f: Fields, out: &mut [u8], at: usize) -> usize
+    requires { ⌜ fieldsCheck f ≡ Fine ⌝ }
+    requires { ⌜ at + length (nameText english names f) ≤ length (now out) ⌝ }
+    ensures { λ r. ⌜ Laid (now (out .entry)) (now (out .exit)) at r (nameText english names f) ⌝ }
+{
+    let place = place_of(names, f);
+    format_name(names, place, out, at)
+}
+
+// Q and the quarter.
+pub fn put_letter_quarter(f: Fields, out: &mut [u8], at: usize) -> usize
+    requires { ⌜ fieldsCheck f ≡ Fine ⌝ }
+    requires { ⌜ at + length (81 ∷ num 1 (quantityOf Quantity.Quarter f)) ≤ length (now out) ⌝ }
+    ensures { λ r. ⌜ Laid (now (out .entry)) (now (out .exit)) at r (81 ∷ num 1 (quantityOf Quantity.Quarter f)) ⌝ }
+{
+    let next = put_byte(b'Q', out, at);
+    put_quantity(Quantity::Quarter, 1, f, out, next)
+}

@@ -1,0 +1,104 @@
+// Zones out: the sign, two digits of hours, and the groups of two digits that the rule has.
+ghost use mathlib.Core.List.{_++_, _∷_};
+ghost use mathlib.Core.Path.{_≡_};
+ghost use Prim.Native.Nat.{_+_, _/_, _%_, _≤_};
+ghost use lib.Dec.{eqb};
+ghost use lib.ListN.{length};
+ghost use Rattle.laws.specs.Laid.{Laid};
+ghost use Rattle.meaning.specs.Bytes.{when, both, num, minus, plus};
+ghost use Rattle.meaning.specs.Writing.{isThere, groupText, zoneText};
+use digits::laying::put_byte;
+use digits::numbers::put_marked;
+use digits::numbers::zero_padded;
+use fields::signed::is_negative;
+use fields::signed::size;
+use meaning::Group;
+
+fn is_there(group: Group, n: u32) -> bool
+    ensures { λ r. ⌜ r ≡ isThere group n ⌝ }
+{
+    match group {
+        Group::Never => false,
+        Group::NotZero => n != 0,
+        Group::Always => true,
+    }
+}
+
+fn put_group(colon: bool, group: Group, n: u32, out: &mut [u8], at: usize) -> usize
+    requires { ⌜ at + length (groupText colon group n) ≤ length (now out) ⌝ }
+    ensures { λ r. ⌜ Laid (now (out .entry)) (now (out .exit)) at r (groupText colon group n) ⌝ }
+{
+    if is_there(group, n) {
+        return put_marked(b':', colon, n, 2, out, at);
+    }
+    at
+}
+
+// Behind the sign: hours, minutes, seconds.
+fn put_offset(
+    colon: bool,
+    minutes: Group,
+    seconds: Group,
+    n: u32,
+    out: &mut [u8],
+    at: usize,
+) -> usize
+    requires { ⌜ at + length (num 2 (n / 3600) ++ groupText colon minutes (n % 3600 / 60) ++ groupText colon seconds (n % 60)) ≤ length (now out) ⌝ }
+    ensures { λ r. ⌜ Laid (now (out .entry)) (now (out .exit)) at r (num 2 (n / 3600) ++ groupText colon minutes (n % 3600 / 60) ++ groupText colon seconds (n % 60)) ⌝ }
+{
+    let a = zero_padded(n / 3600, 2, out, at);
+    let b = put_group(colon, minutes, n % 3600 / 60, out, a);
+    put_group(colon, seconds, n % 60, out, b)
+}
+
+fn sign_of(negative: bool) -> u8
+    ensures { λ r. ⌜ r ≡ when negative minus plus ⌝ }
+{
+    if negative { b'-' } else { b'+' }
+}
+
+fn put_zone(
+    negative: bool,
+    n: u32,
+    colon: bool,
+    minutes: Group,
+    seconds: Group,
+    out: &mut [u8],
+    at: usize,
+) -> usize
+    requires { ⌜ at + length (when negative minus plus ∷ num 2 (n / 3600) ++ groupText colon minutes (n % 3600 / 60) ++ groupText colon seconds (n % 60)) ≤ length (now out) ⌝ }
+    ensures { λ r. ⌜ Laid (now (out .entry)) (now (out .exit)) at r (when negative minus plus ∷ num 2 (n / 3600) ++ groupText colon minutes (n % 3600 / 60) ++ groupText colon seconds (n % 60)) ⌝ }
+{
+    let next = put_byte(sign_of(negative), out, at);
+    put_offset(colon, minutes, seconds, n, out, next)
+}
+
+fn is_z(utc: bool, n: u32) -> bool
+    ensures { λ r. ⌜ r ≡ both utc (eqb n 0) ⌝ }
+{
+    if utc { n == 0 } else { false }
+}
+
+// X with offset 0 writes Z at any count.
+pub fn format_zone(
+    z: i32,
+    utc: bool,
+    colon: bool,
+    minutes: Group,
+    seconds: Group,
+    out: &mut [u8],
+    at: usize,
+) -> usize
+    requires { ⌜ at + length (zoneText utc colon minutes seconds z) ≤ length (now out) ⌝ }
+    ensures { λ r. ⌜ Laid (now (out .entry)) (now (out .exit)) at r (zoneText utc colon minutes seconds z) ⌝ }
+{
+    let negative = is_negative(z);
+    let n = size(z);
+    if is_z(utc, n) {
+        return put_byte(b'Z', out, at);
+    }
+    if negative {
+        return put_zone(true, n, colon, minutes, seconds, out, at);
+    }
+    put_zone(false, n, colon, minutes, seconds, out, at)
+}

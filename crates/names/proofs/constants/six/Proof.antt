@@ -1,0 +1,13 @@
+-- Each table computes to its list's names.
+use mathlib.Core.Path.{refl}
+use Rattle.meaning.specs.Bytes.{bytes}
+use Rattle.meaning.specs.Names.{names, english}
+use Rattle.names.proofs.constants.six.Statement.{statement}
+use Rattle.names.proofs.constants.six.Tie as tie
+
+pub six-spec : {M : Type 1} → statement M
+unfolding names english bytes
+six-spec =
+    tie.close
+    (tie.spec
+    (λ c. record { whole = tt; held = refl }))

@@ -1,0 +1,45 @@
+// Names out: the English names of document 01, written by their list.
+ghost use mathlib.Core.List.{[]};
+ghost use Prim.Native.Nat.{_+_, _<_, _≤_};
+ghost use lib.ListN.{length, getD};
+ghost use Rattle.laws.specs.Laid.{Laid};
+ghost use Rattle.meaning.specs.Names.{names, english};
+use crate::tables::put_name;
+use meaning::NameList;
+
+// Writes a name of a list at a place and gives the next place.
+pub fn format_name(list: NameList, index: usize, out: &mut [u8], at: usize) -> usize
+    requires { ⌜ index < length (names english list) ⌝ }
+    requires { ⌜ at + length (getD (names english list) index []) ≤ length (now out) ⌝ }
+    ensures { λ r. ⌜ Laid (now (out .entry)) (now (out .exit)) at r (getD (names english list) index []) ⌝ }
+{
+    let table = crate::constants::table_of(list);
+    if table < 5 {
+        let t = crate::constants::two(table);
+        let rows = t.rows;
+        let lens = t.lens;
+        return put_name(&rows, &lens, index, out, at);
+    }
+    if table < 9 {
+        let t = crate::constants::four(table);
+        let rows = t.rows;
+        let lens = t.lens;
+        return put_name(&rows, &lens, index, out, at);
+    }
+    if table == 9 {
+        let t = crate::constants::six();
+        let rows = t.rows;
+        let lens = t.lens;
+        return put_name(&rows, &lens, index, out, at);
+    }
+    if table < 14 {
+        let t = crate::constants::seven(table);
+        let rows = t.rows;
+        let lens = t.lens;
+        return put_name(&rows, &lens, index, out, at);
+    }
+    let t = crate::constants::twelve(table);
+    let rows = t.rows;
+    let lens = t.lens;
+    put_name(&rows, &lens, index, out, at)
+}

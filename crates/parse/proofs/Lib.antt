@@ -1,3 +1,0 @@
-pub mod Moves
-pub mod Parts
-pub mod Within

@@ -1,0 +1,75 @@
+-- No reader takes more than there is, and none stops behind it: a year, a name, a rule, a part.
+use mathlib.Core.List.{List}
+use mathlib.Core.Path.{_≡_, refl}
+use Prim.Native.Nat.{ℕ, _-_, _≤_}
+use native.Mathlib.Omega.{arith}
+use lib.Dec.{eqb, ltb}
+use lib.ListN.{length, take, length-take}
+use Rattle.laws.proofs.Tests.{when-is}
+use Rattle.meaning.specs.Names.{Book, names}
+use Rattle.meaning.specs.Readers.{Got, got, stopped, _>>=_, skip, takeNumber, takeCount, takeYear, reach, matchName, letters, zoneSign}
+use Rattle.meaning.specs.Reading.{readRule, readStep, passed, takenYear, minusFirst, zoneBehind, zoneSize}
+use Rattle.meaning.specs.Writing.{Step, literal, field}
+use Rattle.meaning.specs.declared.Carried.{Carried}
+use Rattle.meaning.specs.declared.Rule.{Rule}
+use Rattle.meaning.specs.declared.Rule.the-variants.{Number, SkippedNumber, LetterQuarter, SkippedName, MatchedName, Letters, Years, FixedYear, TwoDigitYear, Zone}
+use Rattle.meaning.specs.declared.Trouble.the-variants.{NoName}
+use Rattle.parse.proofs.steps.Within.{Within, within-on, within-skip, within-take, within-count}
+use Rattle.names.proofs.tables.Answers.{found-within, found-nothing}
+use Rattle.parse.proofs.zones.Within.{within-sign, within-zone}
+
+within-year : (k : ℕ) (s : List ℕ) → Within (length s) (takeYear k s)
+within-year k s = within-on (takeNumber _ k s) _ s (within-take _ k s) (λ n t. omega arith)
+
+known-within : (l : List (List ℕ)) (s : List ℕ) (g : Got ℕ) → matchName l s ≡ g → Within (length s) g
+known-within l s (got n i) e = found-within l s e .1
+known-within l s (stopped why i) e =
+    let none : matchName l s ≡ stopped NoName 0 = found-nothing l s (rw e) in
+    let start : i ≡ 0 = cc in
+    omega arith
+
+within-match : (l : List (List ℕ)) (s : List ℕ) → Within (length s) (matchName l s)
+within-match l s = known-within l s (matchName l s) refl
+
+wider : {A : Type 0} (g : Got A) (room more : ℕ) → room ≤ more → Within room g → Within more g
+wider (got n a) room more h k = omega arith
+wider (stopped why i) room more h k = omega arith
+
+within-letters : (k : ℕ) (l : List (List ℕ)) (s : List ℕ) → Within (length s) (letters k l s)
+unfolding letters matchName
+within-letters k l s =
+    when-is (λ (g : Got ℕ). Within (length s) g) (ltb (length s) k) (λ _. omega arith)
+    (λ _. wider (matchName l (take k s)) (length (take k s)) (length s) (omega (arith, length-take k s)) (within-match l (take k s)))
+
+-- a rule, a part
+
+within-passed : (k : ℕ) (s : List ℕ) → Within (length s) (passed k s)
+within-passed k s = within-on (skip k s) _ s (within-skip k s) (λ _ t. omega arith)
+
+within-full-year : (k : ℕ) (s : List ℕ) → Within (length s) (takenYear k s)
+within-full-year k s = within-on (takeYear k s) _ s (within-year k s) (λ z t. omega arith)
+
+within-rule : (book : Book) (now : ℕ) (rule : Rule) (s : List ℕ) → Within (length s) (readRule book now rule s)
+unfolding readRule
+within-rule book now (Number q least most u z) s =
+    let k = reach (most - least) least s in within-on (takeCount k s) _ s (within-count k s) (λ n t. omega arith)
+within-rule book now (SkippedNumber q least most) s = within-passed _ s
+within-rule book now LetterQuarter s = within-passed 2 s
+within-rule book now (SkippedName l n) s = within-passed n s
+within-rule book now (MatchedName l) s =
+    within-on (matchName (names book l) s) _ s (within-match (names book l) s) (λ i t. omega arith)
+within-rule book now (Letters l n) s =
+    within-on (letters n (names book l) s) _ s (within-letters n (names book l) s) (λ i t. omega arith)
+within-rule book now (Years k) s = within-full-year _ s
+within-rule book now (FixedYear k) s = within-full-year _ s
+within-rule book now TwoDigitYear s =
+    when-is (λ (g : Got Carried). Within (length s) g) (eqb (minusFirst s) 1) (λ _. within-full-year 3 s)
+    (λ _. within-on (takeYear 2 s) _ s (within-year 2 s) (λ z t. omega arith))
+within-rule book now (Zone z c minutes seconds) s =
+    within-on ((zoneSign z >>= zoneBehind (zoneSize c minutes seconds)) s) _ s
+    (within-on (zoneSign z s) _ s (within-sign z s) (λ g t. within-zone c minutes seconds g t)) (λ o t. omega arith)
+
+pub within-step : (book : Book) (now : ℕ) (step : Step) (s : List ℕ) → Within (length s) (readStep book now step s)
+unfolding readStep
+within-step book now (literal w lost) s = within-passed (length w) s
+within-step book now (field rule) s = within-rule book now rule s

@@ -1,0 +1,46 @@
+-- The checks, one after the other, once the bits of the year are taken away.
+use borrow.Author.Needs.{needs}
+use mir.Syntax.{w32}
+use mir.ValLaws.{toZ-ofZ}
+use Rattle.meaning.specs.Whole.{readCheck}
+use Rattle.reader.proofs.checks.read_check.Statement.{statement}
+use Rattle.reader.proofs.checks.read_check.Tie as tie
+
+pattern-check-requires : tie.Need-pattern-check-requires
+pattern-check-requires c κs = search needs
+
+current-year-check-requires : tie.Need-current-year-check-requires
+current-year-check-requires c κs = search needs
+
+text-check-requires : tie.Need-text-check-requires
+text-check-requires c κs = search needs
+
+or-else-requires : tie.Need-or-else-requires
+or-else-requires c κs = search needs
+
+or-else-requires-2 : tie.Need-or-else-requires-2
+or-else-requires-2 c κs = search needs
+
+returns : tie.Need-returns
+unfolding readCheck
+returns c =
+    let a = c .before .before .before .before .before .before .before in
+    rw (
+      c .or-else2 .ensures,
+      c .before .or-else .ensures,
+      c .before .before .text-check .ensures,
+      c .before .before .before .current-year-check .ensures,
+      c .before .before .before .before .pattern-check .ensures,
+      toZ-ofZ w32 (a .args .current-year) (a .fits .current-year),
+    )
+
+pub read-check-spec : {M : Type 1} → statement M
+read-check-spec =
+    tie.close
+    (tie.spec
+    pattern-check-requires
+    current-year-check-requires
+    text-check-requires
+    or-else-requires
+    or-else-requires-2
+    returns)

@@ -1,0 +1,64 @@
+// What is asked of a text before its parts are read: refusals 1, 2, 3, 14, 6, 7.
+ghost use mathlib.Core.Path.{_≡_};
+ghost use Rattle.meaning.specs.Answers.{textCheck};
+ghost use Rattle.meaning.specs.Whole as whole;
+ghost use Rattle.reader.specs.Largest.{largestOf};
+use fields::checks::current_year_check;
+use fields::checks::or_else;
+use meaning::Checked;
+use meaning::Refusal;
+use pattern::checks::pattern_check;
+
+// The largest byte: with no way out of its turns, so that they can go several at once.
+fn largest(text: &[u8]) -> u8
+    ensures { λ r. ⌜ r ≡ largestOf (now (text .entry)) ⌝ }
+{
+    let mut most = 0u8;
+    let mut i = 0;
+    while i < text.len() {
+        let b = text[i];
+        most = if most < b { b } else { most };
+        i += 1;
+    }
+    most
+}
+
+// 6 and 7, byte by byte.
+fn search_text(text: &[u8]) -> Checked
+    ensures { λ r. ⌜ r ≡ textCheck (now (text .entry)) ⌝ }
+{
+    let n = text.len();
+    if 2048 < n {
+        return Checked::Refused(Refusal::TextTooLong(n));
+    }
+    let mut i = 0;
+    while i < n {
+        if 127 < text[i] {
+            return Checked::Refused(Refusal::TextByte(i));
+        }
+        i += 1;
+    }
+    Checked::Fine
+}
+
+// 6 and 7: where no byte is above 127, none has to be searched for.
+pub fn text_check(text: &[u8]) -> Checked
+    ensures { λ r. ⌜ r ≡ textCheck (now (text .entry)) ⌝ }
+{
+    if text.len() <= 2048 {
+        if largest(text) <= 127 {
+            return Checked::Fine;
+        }
+    }
+    search_text(text)
+}
+
+// All of them, in their order.
+pub fn read_check(pattern: &[u8], text: &[u8], current_year: i32) -> Checked
+    ensures { λ r. ⌜ r ≡ whole.readCheck (now (pattern .entry)) (now (text .entry)) «current_year» ⌝ }
+{
+    let of_pattern = pattern_check(pattern);
+    let of_year = current_year_check(current_year);
+    let of_text = text_check(text);
+    or_else(of_pattern, or_else(of_year, of_text))
+}

@@ -1,0 +1,94 @@
+// Document 01, "parse_offset (RFC 3339 form)": the checks 6 and 7, then Z, and the refusals 12, 9, 9, 13.
+ghost use mathlib.Core.Path.{_≡_};
+ghost use Prim.Native.Nat.{_+_, _≤_};
+ghost use lib.Dec.{eqb};
+ghost use lib.ListN.{length, getD};
+ghost use Rattle.meaning.specs.Bytes.{plus};
+ghost use Rattle.meaning.specs.Promises.{ParsesOffset};
+ghost use Rattle.meaning.specs.Whole as whole;
+ghost use Rattle.numerals.specs.Numbers.{numberIn};
+use crate::checks::text_check;
+use meaning::Checked;
+use meaning::Numeral;
+use meaning::Offset;
+use meaning::Refusal;
+use meaning::Trouble;
+use numerals::Number;
+use numerals::read_number;
+
+// Two bytes at a place, as a number.
+fn two_at(text: &[u8], at: usize) -> Number
+    requires { ⌜ at + 2 ≤ length (now text) ⌝ }
+    ensures { λ r. ⌜ r ≡ numberIn (whole.twoAt at (now (text .entry))) ⌝ }
+{
+    read_number(Numeral::Count, 2, &text[at..])
+}
+
+// "hour to 23, minute to 59".
+fn seconds(ahead: bool, hour: u32, minute: u32) -> Offset
+    ensures { λ r. ⌜ r ≡ whole.seconds ahead hour minute ⌝ }
+{
+    if 23 < hour {
+        return Offset::Refused(Refusal::OffsetRange(1));
+    }
+    if 59 < minute {
+        return Offset::Refused(Refusal::OffsetRange(2));
+    }
+    let n = (hour * 3600 + minute * 60) as i32;
+    if ahead {
+        Offset::Seconds(n)
+    } else {
+        Offset::Seconds(0 - n)
+    }
+}
+
+fn no_number(place: usize) -> Offset
+    ensures { λ r. ⌜ r ≡ Offset.Refused (Refusal.InPart Trouble.NoNumber 0 place) ⌝ }
+{
+    Offset::Refused(Refusal::InPart {
+        trouble: Trouble::NoNumber,
+        part: 0,
+        place,
+    })
+}
+
+// Six bytes: a sign, where only a plus is positive, the hour, a byte that is not looked at, the minute.
+fn hour_and_minute(text: &[u8]) -> Offset
+    requires { ⌜ length (now text) ≡ 6 ⌝ }
+    ensures { λ r. ⌜ r ≡ whole.hourAndMinute (eqb (getD (now (text .entry)) 0 0) plus) (whole.twoAt 1 (now (text .entry))) (whole.twoAt 4 (now (text .entry))) ⌝ }
+{
+    let first = two_at(text, 1);
+    let Number::Value {
+        negative: _,
+        size: hour,
+    } = first
+    else {
+        return no_number(1);
+    };
+    let second = two_at(text, 4);
+    let Number::Value {
+        negative: _,
+        size: minute,
+    } = second
+    else {
+        return no_number(4);
+    };
+    seconds(text[0] == b'+', hour, minute)
+}
+
+// "Z first gives 0 with the rest unread; then length 6".
+pub fn parse_offset(text: &[u8]) -> Offset
+    ensures { λ r. ⌜ ParsesOffset (now (text .entry)) r ⌝ }
+{
+    if let Checked::Refused(why) = text_check(text) {
+        return Offset::Refused(why);
+    }
+    let n = text.len();
+    if 0 < n && text[0] == b'Z' {
+        return Offset::Seconds(0);
+    }
+    if n != 6 {
+        return Offset::Refused(Refusal::OffsetLength(n));
+    }
+    hour_and_minute(text)
+}

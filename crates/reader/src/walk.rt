@@ -1,0 +1,60 @@
+// Reading: the walk over the parts of a pattern. The cursor moves on through the text, and the values are kept by unit.
+ghost use mathlib.Core.List.{[]};
+ghost use mathlib.Core.Path.{_≡_};
+ghost use Rattle.meaning.specs.Names.{english};
+ghost use Rattle.meaning.specs.Whole.{walk, walkReading};
+ghost use Rattle.meaning.specs.Writing.{steps};
+use crate::record::no_reading;
+use crate::record::unit_number;
+use meaning::Carried;
+use meaning::Checked;
+use meaning::Pair;
+use meaning::Reading;
+use meaning::Refusal;
+use parse::cursor::Cursor;
+use parse::cursor::PartRead;
+use parse::part::parse_part;
+use pattern::parts::next_part;
+
+// All parts in order; the first that can't be read refuses the whole.
+pub fn parse_parts(pair: Pair, pattern: &[u8], text: &[u8], current_year: u32) -> Reading
+    ensures { λ r. ⌜ r ≡ walkReading (walk english «current_year» 0 0 (steps pair (now (pattern .entry))) (now (text .entry)) []) ⌝ }
+{
+    let mut values = [0i64; 15];
+    let mut mask: u16 = 0;
+    let mut at = 0;
+    let mut place = 0;
+    let mut i = 0;
+    while place < pattern.len() {
+        let part = next_part(pattern, place);
+        match parse_part(pair, pattern, part, current_year, text, Cursor { at }) {
+            PartRead::Stopped {
+                trouble,
+                place: stop,
+            } => {
+                return no_reading(Checked::Refused(Refusal::InPart {
+                    trouble,
+                    part: i,
+                    place: stop,
+                }));
+            }
+            PartRead::Got { carried, next } => {
+                if let Carried::Value(unit, value) = carried {
+                    let k = unit_number(unit);
+                    values[k] = value;
+                    mask = mask | (1u16 << k);
+                }
+                at = next.at;
+            }
+        }
+        place += part.length;
+        i += 1;
+    }
+    Reading {
+        checked: Checked::Fine,
+        taken: at,
+        values,
+        mask,
+        units: u16::count_ones(mask),
+    }
+}

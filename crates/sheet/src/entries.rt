@@ -1,0 +1,42 @@
+// Numbers laid into a lent row.
+ghost use mathlib.Core.Path.{_≡_};
+ghost use Prim.Native.Nat.{_+_, _≤_};
+ghost use lib.IntN.{pos};
+ghost use lib.ListN.{length, replicate};
+ghost use lib.Seq.{sets};
+ghost use Rattle.sheet.specs.Fits.{Count};
+
+pub fn lay(numbers: &[i64], row: &mut [i64], at: usize)
+    requires { ⌜ at + length (now numbers) ≤ length (now row) ⌝ }
+    ensures { λ _. ⌜ now (row .exit) ≡ sets (now (row .entry)) at (now (numbers .entry)) ⌝ }
+{
+    let mut j = 0;
+    while j < numbers.len() {
+        row[at + j] = numbers[j];
+        j += 1;
+    }
+}
+
+pub fn lay_zeros(times: usize, row: &mut [i64], at: usize)
+    requires { ⌜ at + times ≤ length (now row) ⌝ }
+    ensures { λ _. ⌜ now (row .exit) ≡ sets (now (row .entry)) at (replicate times (pos 0)) ⌝ }
+{
+    let mut j = 0;
+    while j < times {
+        row[at + j] = 0;
+        j += 1;
+    }
+}
+
+pub fn entry(n: u64) -> i64
+    requires { ⌜ Count n ⌝ }
+    ensures { λ r. ⌜ r ≡ pos n ⌝ }
+{
+    n as i64
+}
+
+pub fn signed_entry(z: i32) -> i64
+    ensures { λ r. ⌜ r ≡ z ⌝ }
+{
+    z as i64
+}

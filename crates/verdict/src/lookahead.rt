@@ -1,0 +1,265 @@
+// What the parts behind a part can give: a digit as the first byte, or as the second.
+ghost use mathlib.Core.Path.{_≡_};
+ghost use Prim.Native.Nat.{_≤_};
+ghost use lib.ListN.{length, drop};
+ghost use Rattle.meaning.specs.Bytes.{digitAt};
+ghost use Rattle.meaning.specs.Rules.{roleOf};
+ghost use Rattle.meaning.specs.Writing.{runStep, stepOf, steps};
+ghost use Rattle.pattern.specs.First.{unescaped, contentOf};
+ghost use Rattle.pattern.specs.Next.{Next};
+ghost use Rattle.trust.specs.Ahead as ahead;
+ghost use Rattle.verdict.specs.Insides.{insideSecond};
+use crate::needs::most_digits;
+use meaning::Kind;
+use meaning::NameList;
+use meaning::Pair;
+use meaning::Part;
+use meaning::Quantity;
+use meaning::Role;
+use meaning::Rule;
+use numerals::is_digit;
+use pattern::parts::next_part;
+use pattern::quoted::bytes_of;
+use rules::role_of;
+use trust::Opening;
+
+// How the names of a list begin: only the quarters' with a digit; some are one byte.
+fn opening_of(list: NameList) -> Opening
+    ensures { λ r. ⌜ r ≡ ahead.opening list ⌝ }
+{
+    match list {
+        NameList::EraAbbreviated => Opening::Word,
+        NameList::EraNarrow => Opening::OneLetter,
+        NameList::EraWide => Opening::Word,
+        NameList::QuarterWide => Opening::Digit,
+        NameList::MonthAbbreviated => Opening::Word,
+        NameList::MonthWide => Opening::Word,
+        NameList::MonthNarrow => Opening::OneLetter,
+        NameList::WdayAbbreviated => Opening::Word,
+        NameList::WdayWide => Opening::Word,
+        NameList::WdayNarrow => Opening::OneLetter,
+        NameList::WdayShort => Opening::Word,
+        NameList::PeriodUpper => Opening::Word,
+        NameList::PeriodLower => Opening::Word,
+        NameList::PeriodDotted => Opening::Word,
+        NameList::PeriodLetter => Opening::OneLetter,
+        NameList::NoonUpper => Opening::Word,
+        NameList::NoonLower => Opening::Word,
+        NameList::NoonDotted => Opening::Word,
+        NameList::NoonLetter => Opening::OneLetter,
+    }
+}
+
+fn name_first(list: NameList) -> bool
+    ensures { λ r. ⌜ r ≡ ahead.nameFirst list ⌝ }
+{
+    match opening_of(list) {
+        Opening::Digit => true,
+        Opening::OneLetter => false,
+        Opening::Word => false,
+    }
+}
+
+fn rule_first(rule: Rule) -> bool
+    ensures { λ r. ⌜ r ≡ ahead.ruleFirst rule ⌝ }
+{
+    match rule {
+        Rule::Number {
+            quantity: _,
+            least: _,
+            most: _,
+            unit: _,
+            zero: _,
+        } => true,
+        Rule::SkippedNumber {
+            quantity: _,
+            least: _,
+            most: _,
+        } => true,
+        Rule::LetterQuarter => false,
+        Rule::SkippedName { names, length: _ } => name_first(names),
+        Rule::MatchedName(names) => name_first(names),
+        Rule::Letters { names, length: _ } => name_first(names),
+        Rule::Years(_) => true,
+        Rule::FixedYear(_) => true,
+        Rule::TwoDigitYear => true,
+        Rule::Zone {
+            utc: _,
+            colon: _,
+            minutes: _,
+            seconds: _,
+        } => false,
+    }
+}
+
+fn name_second(list: NameList, behind: bool) -> bool
+    ensures { λ r. ⌜ r ≡ ahead.nameSecond list behind ⌝ }
+{
+    match opening_of(list) {
+        Opening::Digit => false,
+        Opening::OneLetter => behind,
+        Opening::Word => false,
+    }
+}
+
+fn number_second(quantity: Quantity, least: u8, behind: bool) -> bool
+    ensures { λ r. ⌜ r ≡ ahead.numberSecond quantity least behind ⌝ }
+{
+    if 2 <= least {
+        return true;
+    }
+    if 2 <= most_digits(quantity) {
+        return true;
+    }
+    behind
+}
+
+fn rule_second(rule: Rule, behind: bool) -> bool
+    ensures { λ r. ⌜ r ≡ ahead.ruleSecond rule behind ⌝ }
+{
+    match rule {
+        Rule::Number {
+            quantity,
+            least,
+            most: _,
+            unit: _,
+            zero: _,
+        } => number_second(quantity, least, behind),
+        Rule::SkippedNumber {
+            quantity,
+            least,
+            most: _,
+        } => number_second(quantity, least, behind),
+        Rule::LetterQuarter => true,
+        Rule::SkippedName { names, length: _ } => name_second(names, behind),
+        Rule::MatchedName(names) => name_second(names, behind),
+        Rule::Letters { names, length: _ } => name_second(names, behind),
+        Rule::Years(_) => true,
+        Rule::FixedYear(_) => true,
+        Rule::TwoDigitYear => true,
+        Rule::Zone {
+            utc: _,
+            colon: _,
+            minutes: _,
+            seconds: _,
+        } => true,
+    }
+}
+
+fn run_first(b: u8, count: usize) -> bool
+    requires { ⌜ 1 ≤ count ⌝ }
+    ensures { λ r. ⌜ r ≡ ahead.stepFirst (runStep (roleOf Pair.Full b count) b count) ⌝ }
+{
+    match role_of(Pair::Full, b, count) {
+        Role::Literal => is_digit(b),
+        Role::Symbol(rule) => rule_first(rule),
+    }
+}
+
+fn run_second(b: u8, count: usize, behind: bool) -> bool
+    ensures { λ r. ⌜ r ≡ ahead.stepSecond (runStep (roleOf Pair.Full b count) b count) behind ⌝ }
+{
+    match role_of(Pair::Full, b, count) {
+        Role::Literal => {
+            if count < 2 {
+                return behind;
+            }
+            is_digit(b)
+        }
+        Role::Symbol(rule) => rule_second(rule, behind),
+    }
+}
+
+// The first byte of an inside stands for itself, and the second element begins one or two bytes behind it.
+fn inside_first(src: &[u8]) -> bool
+    ensures { λ r. ⌜ r ≡ digitAt 0 (unescaped (now (src .entry))) ⌝ }
+{
+    if src.len() == 0 {
+        return false;
+    }
+    is_digit(src[0])
+}
+
+fn inside_second(src: &[u8], behind: bool) -> bool
+    ensures { λ r. ⌜ r ≡ insideSecond (unescaped (now (src .entry))) behind ⌝ }
+{
+    if src.len() == 0 {
+        return behind;
+    }
+    let i = bytes_of(src[0]);
+    if src.len() <= i {
+        return behind;
+    }
+    is_digit(src[i])
+}
+
+fn part_first(pattern: &[u8], part: Part) -> bool
+    requires { ⌜ Next (now pattern) (part .start) part ⌝ }
+    ensures { λ r. ⌜ r ≡ ahead.stepFirst (stepOf Pair.Full (contentOf (now (pattern .entry)) part)) ⌝ }
+{
+    let kind = part.kind;
+    let start = part.start;
+    let n = part.length;
+    match kind {
+        Kind::Run => run_first(pattern[start], n),
+        Kind::Quotes => false,
+        Kind::Quoted => {
+            let from = start + 1;
+            let to = start + n - 1;
+            inside_first(&pattern[from..to])
+        }
+        Kind::Open => {
+            let from = start + 1;
+            inside_first(&pattern[from..])
+        }
+    }
+}
+
+fn part_second(pattern: &[u8], part: Part, behind: bool) -> bool
+    requires { ⌜ Next (now pattern) (part .start) part ⌝ }
+    ensures { λ r. ⌜ r ≡ ahead.stepSecond (stepOf Pair.Full (contentOf (now (pattern .entry)) part)) behind ⌝ }
+{
+    let kind = part.kind;
+    let start = part.start;
+    let n = part.length;
+    match kind {
+        Kind::Run => run_second(pattern[start], n, behind),
+        Kind::Quotes => {
+            if n < 4 {
+                return behind;
+            }
+            false
+        }
+        Kind::Quoted => {
+            let from = start + 1;
+            let to = start + n - 1;
+            inside_second(&pattern[from..to], behind)
+        }
+        Kind::Open => {
+            let from = start + 1;
+            inside_second(&pattern[from..], behind)
+        }
+    }
+}
+
+// Whether the first byte of what the parts from a place on write can be a digit.
+pub fn digit_first(pattern: &[u8], place: usize) -> bool
+    ensures { λ r. ⌜ r ≡ ahead.digitFirst (steps Pair.Full (drop place (now (pattern .entry)))) ⌝ }
+{
+    if pattern.len() <= place {
+        return false;
+    }
+    part_first(pattern, next_part(pattern, place))
+}
+
+// The same of the second byte.
+pub fn digit_second(pattern: &[u8], place: usize) -> bool
+    ensures { λ r. ⌜ r ≡ ahead.digitSecond (steps Pair.Full (drop place (now (pattern .entry)))) ⌝ }
+{
+    if pattern.len() <= place {
+        return false;
+    }
+    let part = next_part(pattern, place);
+    let behind = digit_first(pattern, place + part.length);
+    part_second(pattern, part, behind)
+}

@@ -1,0 +1,160 @@
+// What a part needs of the text behind it.
+ghost use mathlib.Core.Path.{_≡_};
+ghost use Rattle.laws.specs.Widths.{mostDigits};
+ghost use Rattle.meaning.specs.Bytes.{when};
+ghost use Rattle.meaning.specs.Rules.{roleOf};
+ghost use Rattle.meaning.specs.Writing.{runStep, stepOf};
+ghost use Rattle.pattern.specs.First.{contentOf};
+ghost use Rattle.pattern.specs.Next.{Next};
+ghost use Rattle.trust.specs.Needs as needs;
+use meaning::Group;
+use meaning::Kind;
+use meaning::Pair;
+use meaning::Part;
+use meaning::Quantity;
+use meaning::Role;
+use meaning::Rule;
+use pattern::quoted::ends_in_quote;
+use rules::role_of;
+use trust::Need;
+
+// The most digits that a quantity has.
+pub fn most_digits(quantity: Quantity) -> u8
+    ensures { λ r. ⌜ r ≡ mostDigits quantity ⌝ }
+{
+    match quantity {
+        Quantity::Month => 2,
+        Quantity::Quarter => 1,
+        Quantity::Week => 2,
+        Quantity::Day => 2,
+        Quantity::DayOfYear => 3,
+        Quantity::Weekday => 1,
+        Quantity::WeekdayFromMonday => 1,
+        Quantity::Hour1To12 => 2,
+        Quantity::Hour0To11 => 2,
+        Quantity::Hour0To23 => 2,
+        Quantity::Hour1To24 => 2,
+        Quantity::Minute => 2,
+        Quantity::Second => 2,
+        Quantity::Fraction(digits) => digits,
+    }
+}
+
+fn number_need(quantity: Quantity, least: u8, most: u8) -> Need
+    ensures { λ r. ⌜ r ≡ needs.numberNeed quantity least most ⌝ }
+{
+    if most < most_digits(quantity) {
+        return Need::Broken;
+    }
+    if least < most {
+        return Need::NoDigit;
+    }
+    Need::Nothing
+}
+
+fn group_need(colon: bool, group: Group) -> Need
+    ensures { λ r. ⌜ r ≡ needs.groupNeed colon group ⌝ }
+{
+    match group {
+        Group::Never => Need::Nothing,
+        Group::NotZero => {
+            if colon {
+                return Need::NoSecondDigit;
+            }
+            Need::NoDigit
+        }
+        Group::Always => Need::Nothing,
+    }
+}
+
+fn last_group(minutes: Group, seconds: Group) -> Group
+    ensures { λ r. ⌜ r ≡ needs.lastGroup minutes seconds ⌝ }
+{
+    match seconds {
+        Group::Never => minutes,
+        Group::NotZero => Group::NotZero,
+        Group::Always => Group::Always,
+    }
+}
+
+// "7 is the first count from 5 up that always does."
+fn fixed_year_need(count: usize) -> Need
+    ensures { λ r. ⌜ r ≡ needs.ruleNeed (Rule.FixedYear count) ⌝ }
+{
+    if 7 <= count {
+        return Need::Nothing;
+    }
+    Need::Broken
+}
+
+fn rule_need(rule: Rule) -> Need
+    ensures { λ r. ⌜ r ≡ needs.ruleNeed rule ⌝ }
+{
+    match rule {
+        Rule::Number {
+            quantity,
+            least,
+            most,
+            unit: _,
+            zero: _,
+        } => number_need(quantity, least, most),
+        Rule::SkippedNumber {
+            quantity,
+            least,
+            most,
+        } => number_need(quantity, least, most),
+        Rule::LetterQuarter => Need::Nothing,
+        Rule::SkippedName {
+            names: _,
+            length: _,
+        } => Need::Nothing,
+        Rule::MatchedName(_) => Need::Nothing,
+        Rule::Letters {
+            names: _,
+            length: _,
+        } => Need::Nothing,
+        Rule::Years(_) => Need::NoDigit,
+        Rule::FixedYear(count) => fixed_year_need(count),
+        Rule::TwoDigitYear => Need::Broken,
+        Rule::Zone {
+            utc: _,
+            colon,
+            minutes,
+            seconds,
+        } => group_need(colon, last_group(minutes, seconds)),
+    }
+}
+
+fn run_need(b: u8, count: usize) -> Need
+    ensures { λ r. ⌜ r ≡ needs.stepNeed (runStep (roleOf Pair.Full b count) b count) ⌝ }
+{
+    match role_of(Pair::Full, b, count) {
+        Role::Literal => Need::Nothing,
+        Role::Symbol(rule) => rule_need(rule),
+    }
+}
+
+// A part that loses a byte when it is written does not come back: a read skips that byte too.
+fn loss_need(lost: bool) -> Need
+    ensures { λ r. ⌜ r ≡ when lost Need.Broken Need.Nothing ⌝ }
+{
+    if lost { Need::Broken } else { Need::Nothing }
+}
+
+pub fn part_need(pattern: &[u8], part: Part) -> Need
+    requires { ⌜ Next (now pattern) (part .start) part ⌝ }
+    ensures { λ r. ⌜ r ≡ needs.stepNeed (stepOf Pair.Full (contentOf (now (pattern .entry)) part)) ⌝ }
+{
+    let kind = part.kind;
+    let start = part.start;
+    let n = part.length;
+    match kind {
+        Kind::Run => run_need(pattern[start], n),
+        Kind::Quotes => Need::Nothing,
+        Kind::Quoted => Need::Nothing,
+        Kind::Open => {
+            let from = start + 1;
+            loss_need(ends_in_quote(&pattern[from..]))
+        }
+    }
+}

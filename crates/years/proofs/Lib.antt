@@ -1,2 +1,0 @@
-pub mod YearParts
-pub mod Runs
