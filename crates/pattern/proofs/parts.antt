@@ -1,5 +1,6 @@
 pub mod Answers
 pub mod Elements
+pub mod Few
 pub mod First
 pub mod Inside
 pub mod Next

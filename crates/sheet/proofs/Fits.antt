@@ -9,6 +9,7 @@ use native.Mathlib.Omega.{arith}
 use lib.Dec.{eqb, leb}
 use lib.IntN.{ℤ, pos, negsuc, negℤ, natAbs}
 use lib.ListN.{length, getD, drop, length-drop, length-map}
+use Rattle.pattern.proofs.parts.Few.{few-steps}
 use mir.Syntax.{w32}
 use mir.Val.{SFits}
 use Rattle.laws.proofs.Checks.{write-fine}
@@ -114,31 +115,6 @@ unfolding write
 write-fits pair p f out h k =
     wrote-fits (writeCheck pair english p f (length out)) (text pair english p f) (write-check-fits pair p f (length out) h)
     (λ e. omega (arith, write-fine pair english p f (length out) e .fits))
-
--- parts: no more than bytes
-
-few-more : (most : ℕ) → ((p : List ℕ) → length p ≤ most → length (contents p) ≤ length p)
-    → (p : List ℕ) → length p ≤ suc most → length (contents p) ≤ length p
-unfolding contents
-few-more most few [] h = omega arith
-few-more most few (b ∷ p) h =
-    let n = lengthOf (firstContent (b ∷ p)) in
-    let sized = first-sized (b ∷ p) (omega arith) in
-    let behind = length-drop n (b ∷ p) in
-    rw (contents-first (b ∷ p) (omega arith)) (omega (arith, sized .0, sized .1, few (drop n (b ∷ p)) (omega (arith, sized .0))))
-
-few-none : (p : List ℕ) → length p ≤ 0 → length (contents p) ≤ length p
-unfolding contents
-few-none [] h = omega arith
-few-none (b ∷ p) h = absurd (omega arith)
-
-few-contents : (most : ℕ) → (p : List ℕ) → length p ≤ most → length (contents p) ≤ length p
-few-contents zero = few-none
-few-contents (suc most) = few-more most (few-contents most)
-
-few-steps : (pair : Pair) (p : List ℕ) → length (steps pair p) ≤ length p
-unfolding steps
-few-steps pair p = rw (length-map (contents p) (stepOf pair)) (few-contents (length p) p (omega arith))
 
 -- reading
 
