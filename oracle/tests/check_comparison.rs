@@ -4,7 +4,6 @@ use harness::check::{verdict, CheckRequest, CheckTally};
 use harness::generator::{CheckGenerator, Random};
 use harness::tally::Hold;
 use std::collections::HashSet;
-use std::process::Command;
 
 const ONE_DIGIT: &str = "2025 1 1 1 1 3 0 3600";
 const TWO_DIGITS: &str = "2025 12 31 365 52 3 0 3600";
@@ -95,27 +94,6 @@ fn its_own_verdicts_are_without_difference() {
     }
     tally.hold("check 64", "bad request");
     assert!(tally.differences().are_none(), "{tally}");
-}
-
-#[test]
-fn a_program_that_always_says_yes_is_found_out() {
-    assert_eq!(
-        status_with("while read -r line; do echo yes; done"),
-        Some(1)
-    );
-}
-
-#[test]
-fn a_program_that_says_nothing_is_found_out() {
-    assert_eq!(status_with("cat >/dev/null"), Some(1));
-}
-
-fn status_with(script: &str) -> Option<i32> {
-    let comparer = env!("CARGO_BIN_EXE_compare_check");
-    let run = Command::new(comparer)
-        .args(["--count", "100", "--", "sh", "-c", script])
-        .output();
-    run.expect("the comparer runs").status.code()
 }
 
 #[test]

@@ -1,0 +1,77 @@
+//! From a line to its answer.
+
+use crate::lines::LONGEST;
+use crate::pair::Pair;
+use crate::words::Words;
+use crate::{checking, reading, splitting, writing};
+use sheet::Refusal;
+
+const BAD_REQUEST: &str = "bad request";
+
+pub fn answer(line: &[u8]) -> String {
+    let request = Some(line).filter(|line| line.len() <= LONGEST);
+    request.and_then(answer_to).unwrap_or_else(|| BAD_REQUEST.to_string())
+}
+
+/// By the first word; none where the others are not what it asks for.
+fn answer_to(line: &[u8]) -> Option<String> {
+    let mut words = Words::of(line);
+    match words.word()? {
+        b"split" => splitting::answer(words),
+        b"write" => writing::answer(Pair::Full, words),
+        b"write_date" => writing::answer(Pair::Date, words),
+        b"read" => reading::answer(Pair::Full, words),
+        b"read_date" => reading::answer(Pair::Date, words),
+        b"parse_offset" => reading::answer_offset(words),
+        b"check" => checking::answer(words),
+        _ => None,
+    }
+}
+
+pub fn refused(refusal: &Refusal) -> String {
+    numbered(&format!("refused {}", refusal.number()), refusal.details())
+}
+
+/// A line's start, and numbers behind it.
+pub fn numbered(start: &str, numbers: &[i64]) -> String {
+    let mut line = start.to_string();
+    for number in numbers {
+        line += &format!(" {number}");
+    }
+    line
+}
+
+#[cfg(test)]
+mod tests {
+    use super::{answer, LONGEST};
+
+    #[test]
+    fn the_longest_line_is_a_request() {
+        let line = |bytes: usize| format!("parse_offset {}", "5a".repeat(bytes));
+        let (longest, longer) = (line((LONGEST - 13) / 2), line((LONGEST - 13) / 2 + 1));
+        assert!(longest.len() <= LONGEST && LONGEST < longer.len());
+        assert!(answer(longest.as_bytes()).starts_with("refused 6 "));
+        assert_eq!(answer(longer.as_bytes()), "bad request");
+    }
+
+    #[test]
+    fn a_line_of_other_words_is_no_request() {
+        let lines = [
+            "",
+            " ",
+            "Split 79",
+            "split",
+            "split 79 79",
+            " split 79",
+            "split 79 ",
+            "read 79 39",
+            "check 79",
+        ];
+        for line in lines {
+            assert_eq!(answer(line.as_bytes()), "bad request", "{line}");
+        }
+        assert_eq!(answer(b"split \xff\xff"), "bad request");
+        assert_eq!(answer(b"\xffsplit 79"), "bad request");
+        assert_eq!(answer(b"split 79\r"), "bad request");
+    }
+}

@@ -1,0 +1,129 @@
+//! `write P FIELDS ROOM` and `write_date P FIELDS ROOM`
+
+use crate::answers::refused;
+use crate::hex;
+use crate::marks::{filled, first_altered};
+use crate::pair::Pair;
+use crate::words::Words;
+use sheet::{raw, Refusal};
+
+const MOST_ROOM: usize = 4096;
+
+pub fn answer(pair: Pair, mut words: Words) -> Option<String> {
+    let pattern = words.bytes()?;
+    let fields = words.fields()?;
+    let room = words.number().filter(|room| *room <= MOST_ROOM)?;
+    words.end()?;
+    let mut out = filled(room);
+    let wrote = pair.write_into(&pattern, &fields, &mut out);
+    Some(match pair.write(&pattern, &fields) {
+        made if agree(&wrote, &out, &made) => written(&wrote, &out),
+        made => made.map_or_else(
+            |refusal| refused(&refusal),
+            |text| wrote_text(text.len(), text.as_bytes()),
+        ),
+    })
+}
+
+/// What a writer did with an output that was filled before.
+fn written(wrote: &Result<usize, Refusal>, out: &[u8]) -> String {
+    let length = *wrote.as_ref().unwrap_or(&0);
+    if let Some(place) = first_altered(out, length) {
+        return format!("altered {place}");
+    }
+    match wrote {
+        Ok(length) => wrote_text(*length, text_of(out, *length)),
+        Err(refusal) => refused(refusal),
+    }
+}
+
+/// The reported length is shown as it is, even where there are not so many bytes.
+fn wrote_text(length: usize, text: &[u8]) -> String {
+    format!("wrote {length} {}", hex::encoded(text))
+}
+
+fn text_of(out: &[u8], length: usize) -> &[u8] {
+    &out[..length.min(out.len())]
+}
+
+/// Whether the function that makes its own output does the same as the one that is lent one, but for the room.
+fn agree(wrote: &Result<usize, Refusal>, out: &[u8], made: &Result<String, Refusal>) -> bool {
+    match (wrote, made) {
+        (Ok(length), Ok(text)) => text_of(out, *length) == text.as_bytes(),
+        (Err(refusal), Ok(text)) => refusal.number() == raw::NO_ROOM && refusal.details() == [text.len() as i64],
+        (wrote, made) => wrote.as_ref().err() == made.as_ref().err(),
+    }
+}
+
+#[cfg(test)]
+mod tests {
+    use super::{agree, answer, written};
+    use crate::marks::filled;
+    use crate::pair::Pair;
+    use crate::words::Words;
+    use sheet::Refusal;
+
+    const R: &str = "2025 12 3 337 49 3 25509000120000 19800";
+
+    fn asked(line: &str) -> Option<String> {
+        answer(Pair::Full, Words::of(line.as_bytes()))
+    }
+
+    /// The refusal that the library gives a pattern of such a length, and to no room.
+    fn refusals() -> (Refusal, Refusal) {
+        let fields = Words::of(R.as_bytes()).fields().expect("these are fields");
+        let too_long = sheet::write("d".repeat(257), &fields).unwrap_err();
+        let no_room = sheet::write_into("dd", &fields, &mut []).unwrap_err();
+        (too_long, no_room)
+    }
+
+    #[test]
+    fn room_is_up_to_4096_bytes() {
+        assert_eq!(asked(&format!("6464 {R} 2")).as_deref(), Some("wrote 2 3033"));
+        assert_eq!(asked(&format!("6464 {R} 1")).as_deref(), Some("refused 5 2"));
+        assert_eq!(asked(&format!("- {R} 0")).as_deref(), Some("wrote 0 -"));
+        assert_eq!(asked(&format!("6464 {R} 4096")).as_deref(), Some("wrote 2 3033"));
+        for room in ["4097", "-1", "-0", ""] {
+            assert_eq!(asked(&format!("6464 {R} {room}")), None);
+        }
+    }
+
+    #[test]
+    fn a_byte_that_is_altered_behind_the_text_is_shown() {
+        let mut out = filled(9);
+        out[..2].copy_from_slice(b"03");
+        assert_eq!(written(&Ok(2), &out), "wrote 2 3033");
+        assert_eq!(written(&Ok(1), &out), "altered 1");
+        out[8] = 0;
+        assert_eq!(written(&Ok(2), &out), "altered 8");
+    }
+
+    #[test]
+    fn a_byte_that_a_refused_write_altered_is_shown() {
+        let (too_long, _) = refusals();
+        let mut out = filled(9);
+        assert_eq!(written(&Err(too_long), &out), "refused 1 257");
+        out[4] = b'0';
+        assert_eq!(written(&Err(too_long), &out), "altered 4");
+    }
+
+    #[test]
+    fn a_length_beyond_the_output_is_shown() {
+        assert_eq!(written(&Ok(5), b"03"), "wrote 5 3033");
+    }
+
+    #[test]
+    fn both_ways_to_write_do_the_same() {
+        let (too_long, no_room) = refusals();
+        let text = |text: &str| Ok(text.to_string());
+        assert!(agree(&Ok(2), b"03", &text("03")));
+        assert!(!agree(&Ok(2), b"03", &text("04")));
+        assert!(!agree(&Ok(2), b"03", &text("3")));
+        assert!(agree(&Err(no_room), b"", &text("03")));
+        assert!(!agree(&Err(no_room), b"", &text("3")));
+        assert!(!agree(&Err(too_long), b"", &text("03")));
+        assert!(agree(&Err(too_long), b"", &Err(too_long)));
+        assert!(!agree(&Err(no_room), b"", &Err(too_long)));
+        assert!(!agree(&Ok(0), b"", &Err(too_long)));
+    }
+}
