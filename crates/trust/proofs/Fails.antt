@@ -83,19 +83,19 @@ module _ (q : Quantity) (least most : ℕ) (fit : numberFits q least most ≡ tr
       when-is (Cut q least most r) (ltb most (mostDigits q)) (λ e. too-long (ltb-true most (mostDigits q) e))
       (λ _. when-is (Cut q least most r) (ltb least most) (λ e. too-far (ltb-true least most e)) (λ _ h _. h))
 
-  number-fails : (now : ℕ) (u : ParseUnit) (z : ℕ) → Shown (numberNeed q least most) r
-      → Back now (Number q least most u z) (witness (numberNeed q least most)) r → ⊥
+  number-fails : (current : ℕ) (u : ParseUnit) (z : ℕ) → Shown (numberNeed q least most) r
+      → Back current (Number q least most u z) (witness (numberNeed q least most)) r → ⊥
   unfolding readRule ruleText Cut reached
-  number-fails now u z shown e =
+  number-fails current u z shown e =
       let s = num least (quantityOf q (witness (numberNeed q least most))) ++ r in
       let k = reach (most - least) least s in
       number-cut shown
       (takes-got k (takes-done k (takeCount k) _ s (takes-done k (takeNumber Count k) _ s (takes-number Count k s))) e)
 
-  skipped-number-fails : (now : ℕ) → Shown (numberNeed q least most) r
-      → Back now (SkippedNumber q least most) (witness (numberNeed q least most)) r → ⊥
+  skipped-number-fails : (current : ℕ) → Shown (numberNeed q least most) r
+      → Back current (SkippedNumber q least most) (witness (numberNeed q least most)) r → ⊥
   unfolding readRule ruleText Cut reached
-  skipped-number-fails now shown e =
+  skipped-number-fails current shown e =
       let s = num least (quantityOf q (witness (numberNeed q least most))) ++ r in
       let k = reach (most - least) least s in
       number-cut shown (takes-got k (takes-done k (skip k) _ s (takes-skip k s)) e)
@@ -116,37 +116,37 @@ takes-year k s = takes-done k (takeYear k) _ s (takes-done k (takeNumber Year k)
 no-minus-first : (k : ℕ) (r : List ℕ) → minusFirst (num k 1000001 ++ r) ≡ 0
 no-minus-first k r = no-minus (num k 1000001) r (all-num k 1000001) (num-some k 1000001)
 
-years-fail : (now k : ℕ) (r : List ℕ) → digitAt 0 r ≡ true → Back now (Years k) oneDigit r → ⊥
+years-fail : (current k : ℕ) (r : List ℕ) → digitAt 0 r ≡ true → Back current (Years k) oneDigit r → ⊥
 unfolding readRule ruleText
-years-fail now k r digit e =
+years-fail current k r digit e =
     let s = num k 1000001 in
     let taken : length s ≡ 0 + digitRun (s ++ r)
     = rw (no-minus-first k r) at (takes-got (yearLength (s ++ r)) (takes-year (yearLength (s ++ r)) (s ++ r)) e) in
     omega (arith, run-past s r (all-num k 1000001) digit)
 
-fixed-year-fails : (now k : ℕ) (r : List ℕ) → k < 7 → Back now (FixedYear k) twoDigits r → ⊥
+fixed-year-fails : (current k : ℕ) (r : List ℕ) → k < 7 → Back current (FixedYear k) twoDigits r → ⊥
 unfolding readRule ruleText
-fixed-year-fails now k r short e =
+fixed-year-fails current k r short e =
     let s = num k 1000001 in
     let taken : length s ≡ 0 + k
     = rw (no-minus-first k r) at (takes-got (minusFirst (s ++ r) + k) (takes-year (minusFirst (s ++ r) + k) (s ++ r)) e) in
     omega (arith, seven-digits k)
 
 -- yy reads 01 as the first year of a millennium
-two-digit-read : (now : ℕ) (r : List ℕ) → readRule english now TwoDigitYear (twoDigitText (pos 1000001) ++ r)
-    ≡ got 2 (carried.Value unit.Year (pos (1 + millennium now)))
+two-digit-read : (current : ℕ) (r : List ℕ) → readRule english current TwoDigitYear (twoDigitText (pos 1000001) ++ r)
+    ≡ got 2 (carried.Value unit.Year (pos (1 + millennium current)))
 unfolding readRule twoDigitText num numberOf
-two-digit-read now r =
+two-digit-read current r =
     let n : Signed = record { negative = false; size = 1 } in
     let s : List ℕ = 48 ∷ 49 ∷ r in
     rw (take-goes-on Year 2 s n (omega arith) refl)
 
-two-digit-year-fails : (now : ℕ) → now ≤ 9999 → (r : List ℕ) → Back now TwoDigitYear twoDigits r → ⊥
+two-digit-year-fails : (current : ℕ) → current ≤ 9999 → (r : List ℕ) → Back current TwoDigitYear twoDigits r → ⊥
 unfolding ruleText carriedRule
-two-digit-year-fails now small r e =
-    let same : got 2 (carried.Value unit.Year (pos (1 + millennium now))) ≡ got (length (twoDigitText (pos 1000001))) (carried.Value unit.Year (pos 1000001))
-    = sym (two-digit-read now r) ∙ e in
-    let year : 1 + millennium now ≡ 1000001 = cc in
+two-digit-year-fails current small r e =
+    let same : got 2 (carried.Value unit.Year (pos (1 + millennium current))) ≡ got (length (twoDigitText (pos 1000001))) (carried.Value unit.Year (pos 1000001))
+    = sym (two-digit-read current r) ∙ e in
+    let year : 1 + millennium current ≡ 1000001 = cc in
     omega arith
 
 -- zones: an hour ahead, with no minutes and no seconds
@@ -186,7 +186,7 @@ missing-seconds colon r digit h =
     (group-comes-back colon Always 0 r (omega arith) tt)
     (takes-done (colonLength colon + 2) (zoneGroup colon NotZero) _ r (takes-group colon r digit))
 
-module _ (now : ℕ) (utc colon : Bool) (minutes seconds : Group) (no-seconds : groupText colon seconds 0 ≡ []) (r : List ℕ) (missing : MissingTaken colon minutes seconds r) where
+module _ (current : ℕ) (utc colon : Bool) (minutes seconds : Group) (no-seconds : groupText colon seconds 0 ≡ []) (r : List ℕ) (missing : MissingTaken colon minutes seconds r) where
   an-hour : zoneText utc colon minutes seconds (pos 3600) ≡ plus ∷ num 2 1 ++ groupText colon minutes 0
   unfolding offsetText
   an-hour =
@@ -204,7 +204,7 @@ module _ (now : ℕ) (utc colon : Bool) (minutes seconds : Group) (no-seconds : 
       (takes-done k (zoneSize colon minutes seconds) _ s
       (takes-then (length m + (colonLength colon + 2)) (takeCount 2) _ (num 2 1) (m ++ r) (two-digits 1 (m ++ r) (omega arith)) (missing 1))))
 
-  missing-group-fails : (c : Carried) → readRule english now (Zone utc colon minutes seconds) (zoneText utc colon minutes seconds (pos 3600) ++ r)
+  missing-group-fails : (c : Carried) → readRule english current (Zone utc colon minutes seconds) (zoneText utc colon minutes seconds (pos 3600) ++ r)
       ≡ got (length (zoneText utc colon minutes seconds (pos 3600))) c → ⊥
   unfolding readRule
   missing-group-fails c e =
@@ -224,37 +224,37 @@ digit-in-place : (colon : Bool) (r : List ℕ) → Shown (groupNeed colon NotZer
 digit-in-place true r shown = shown
 digit-in-place false r shown = shown
 
-zone-fails : (now : ℕ) (utc colon : Bool) (minutes seconds : Group) → zoneFits minutes seconds ≡ true → (r : List ℕ)
+zone-fails : (current : ℕ) (utc colon : Bool) (minutes seconds : Group) → zoneFits minutes seconds ≡ true → (r : List ℕ)
     → Shown (groupNeed colon (lastGroup minutes seconds)) r
-    → Back now (Zone utc colon minutes seconds) (witness (groupNeed colon (lastGroup minutes seconds))) r → ⊥
+    → Back current (Zone utc colon minutes seconds) (witness (groupNeed colon (lastGroup minutes seconds))) r → ⊥
 unfolding ruleText
-zone-fails now utc colon Never seconds fit r shown e = true-is-not-false (sym fit)
-zone-fails now utc colon NotZero Never fit r shown e =
-    missing-group-fails now utc colon NotZero Never refl r (missing-minutes colon r (digit-in-place colon r shown)) _
+zone-fails current utc colon Never seconds fit r shown e = true-is-not-false (sym fit)
+zone-fails current utc colon NotZero Never fit r shown e =
+    missing-group-fails current utc colon NotZero Never refl r (missing-minutes colon r (digit-in-place colon r shown)) _
     (rw (hour-ahead (groupNeed colon NotZero)) at e)
-zone-fails now utc colon NotZero NotZero fit r shown e = true-is-not-false (sym fit)
-zone-fails now utc colon NotZero Always fit r shown e = true-is-not-false (sym fit)
-zone-fails now utc colon Always Never fit r shown e = shown
-zone-fails now utc colon Always NotZero fit r shown e =
-    missing-group-fails now utc colon Always NotZero refl r (missing-seconds colon r (digit-in-place colon r shown)) _
+zone-fails current utc colon NotZero NotZero fit r shown e = true-is-not-false (sym fit)
+zone-fails current utc colon NotZero Always fit r shown e = true-is-not-false (sym fit)
+zone-fails current utc colon Always Never fit r shown e = shown
+zone-fails current utc colon Always NotZero fit r shown e =
+    missing-group-fails current utc colon Always NotZero refl r (missing-seconds colon r (digit-in-place colon r shown)) _
     (rw (hour-ahead (groupNeed colon NotZero)) at e)
-zone-fails now utc colon Always Always fit r shown e = shown
+zone-fails current utc colon Always Always fit r shown e = shown
 
 -- every rule
 
-pub rule-fails : (now : ℕ) → now ≤ 9999 → (rule : Rule) → fits rule ≡ true → (r : List ℕ) → Shown (ruleNeed rule) r
-    → Back now rule (witness (ruleNeed rule)) r → ⊥
+pub rule-fails : (current : ℕ) → current ≤ 9999 → (rule : Rule) → fits rule ≡ true → (r : List ℕ) → Shown (ruleNeed rule) r
+    → Back current rule (witness (ruleNeed rule)) r → ⊥
 unfolding fits ruleNeed
-rule-fails now small (Number q least most u z) fit r shown e =
-    number-fails q least most (both-true (numberFits q least most) _ fit .0) r now u z shown e
-rule-fails now small (SkippedNumber q least most) fit r shown e = skipped-number-fails q least most fit r now shown e
-rule-fails now small LetterQuarter fit r shown e = shown
-rule-fails now small (SkippedName l n) fit r shown e = shown
-rule-fails now small (MatchedName l) fit r shown e = shown
-rule-fails now small (Letters l n) fit r shown e = shown
-rule-fails now small (Years k) fit r shown e = years-fail now k r shown e
-rule-fails now small (FixedYear k) fit r shown e =
-    when-is (λ need. Shown need r → Back now (FixedYear k) (witness need) r → ⊥) (leb 7 k) (λ _ h _. h)
-    (λ short _ d. fixed-year-fails now k r (leb-false 7 k short) d) shown e
-rule-fails now small TwoDigitYear fit r shown e = two-digit-year-fails now small r e
-rule-fails now small (Zone utc colon minutes seconds) fit r shown e = zone-fails now utc colon minutes seconds fit r shown e
+rule-fails current small (Number q least most u z) fit r shown e =
+    number-fails q least most (both-true (numberFits q least most) _ fit .0) r current u z shown e
+rule-fails current small (SkippedNumber q least most) fit r shown e = skipped-number-fails q least most fit r current shown e
+rule-fails current small LetterQuarter fit r shown e = shown
+rule-fails current small (SkippedName l n) fit r shown e = shown
+rule-fails current small (MatchedName l) fit r shown e = shown
+rule-fails current small (Letters l n) fit r shown e = shown
+rule-fails current small (Years k) fit r shown e = years-fail current k r shown e
+rule-fails current small (FixedYear k) fit r shown e =
+    when-is (λ need. Shown need r → Back current (FixedYear k) (witness need) r → ⊥) (leb 7 k) (λ _ h _. h)
+    (λ short _ d. fixed-year-fails current k r (leb-false 7 k short) d) shown e
+rule-fails current small TwoDigitYear fit r shown e = two-digit-year-fails current small r e
+rule-fails current small (Zone utc colon minutes seconds) fit r shown e = zone-fails current utc colon minutes seconds fit r shown e

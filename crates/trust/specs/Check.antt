@@ -68,4 +68,4 @@ verdictBy (Refused why) answer = verdict.Refused why
 -- the answer of the check, of the full pair: yes, or no with the part from 0 and the record
 unfoldable pub verdictOf : List ℕ → ℤ → Verdict
 unfolding trustCheck firstFailing steps
-verdictOf p now = verdictBy (trustCheck p now) (firstFailing 0 (steps Full p))
+verdictOf p current = verdictBy (trustCheck p current) (firstFailing 0 (steps Full p))
