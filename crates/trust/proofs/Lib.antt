@@ -11,3 +11,4 @@ pub mod Table
 pub mod Takes
 pub mod Turns
 pub mod Verdicts
+pub mod Witness

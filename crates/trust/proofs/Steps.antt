@@ -7,13 +7,11 @@ use native.Mathlib.Nat.{add-zero}
 use native.Mathlib.Omega.{arith}
 use lib.ListN.{length, take, length-append, length-take}
 use borrow.Author.Tests.{not-true, not-false}
-use Rattle.meaning.specs.Answers.{fieldsCheck}
 use Rattle.meaning.specs.Names.{english}
 use Rattle.meaning.specs.Readers.{got, skip}
 use Rattle.meaning.specs.Reading.{passed, readStep, carriedStep}
 use Rattle.meaning.specs.Writing.{Step, endsInQuote, stepText, texts}
 use Rattle.meaning.specs.declared.Carried.the-variants as carried
-use Rattle.meaning.specs.declared.Checked.the-variants.{Fine}
 use Rattle.meaning.specs.declared.Fields.{Fields}
 use Rattle.laws.proofs.Fields.{Allowed, allowed}
 use Rattle.laws.proofs.Readers.{skip-goes-on}
@@ -23,18 +21,12 @@ use Rattle.trust.proofs.Fails.{Shown, rule-fails}
 use Rattle.trust.proofs.Fitting.{Fitting, symbol-first, literal-first, open-last}
 use Rattle.trust.proofs.Sound.{Met, rule-comes-back}
 use Rattle.trust.proofs.Takes.{takes-got, takes-skip, takes-done}
+use Rattle.trust.proofs.Witness.{witness-fine}
 use Rattle.trust.specs.Ahead.{digitFirst, digitSecond}
-use Rattle.trust.specs.Check.{meets, witness, oneDigit}
+use Rattle.trust.specs.Check.{meets, witness, shortNumbers}
 use Rattle.trust.specs.Needs.{stepNeed}
 use Rattle.trust.specs.declared.Need.{Need}
 use Rattle.trust.specs.declared.Need.the-variants.{Nothing, NoDigit, NoSecondDigit, Broken}
-
-pub witness-fine : (need : Need) → fieldsCheck (witness need) ≡ Fine
-unfolding fieldsCheck
-witness-fine Nothing = refl
-witness-fine NoDigit = refl
-witness-fine NoSecondDigit = refl
-witness-fine Broken = refl
 
 -- what the lookahead says of the text
 
@@ -48,7 +40,7 @@ met Broken fit e f h = true-is-not-false (sym e)
 shown : (need : Need) {ss : List Step} → Fitting ss → meets need ss ≡ false → Shown need (texts english (witness need) ss)
 unfolding meets
 shown Nothing fit e = true-is-not-false e
-shown NoDigit {ss} fit e = rw (first-byte fit oneDigit (allowed oneDigit (witness-fine NoDigit)) (λ _. refl)) (not-false (digitFirst ss) e)
+shown NoDigit {ss} fit e = rw (first-byte fit shortNumbers (allowed shortNumbers (witness-fine NoDigit)) (λ _. refl)) (not-false (digitFirst ss) e)
 shown NoSecondDigit {ss} fit e = rw (second-byte fit) (not-false (digitSecond ss) e)
 shown Broken fit e = tt
 

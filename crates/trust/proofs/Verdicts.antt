@@ -24,8 +24,9 @@ use Rattle.laws.proofs.Fields.{allowed}
 use Rattle.laws.proofs.Tests.{both-true, by-test}
 use Rattle.laws.proofs.Texts.{text-from}
 use Rattle.trust.proofs.Fitting.{Fitting, fitting-from, steps-fit}
-use Rattle.trust.proofs.Steps.{step-comes-back, step-fails, witness-fine}
+use Rattle.trust.proofs.Steps.{step-comes-back, step-fails}
 use Rattle.trust.proofs.Turns.{failing-on, failing-here}
+use Rattle.trust.proofs.Witness.{witness-fine}
 use Rattle.trust.specs.Check.{meets, witness, firstFailing, verdictBy, verdictOf}
 use Rattle.trust.specs.Needs.{stepNeed}
 
