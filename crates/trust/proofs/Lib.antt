@@ -3,6 +3,7 @@ pub mod Ahead
 pub mod Fails
 pub mod Fitting
 pub mod NameRules
+pub mod RealDays
 pub mod RulesAhead
 pub mod Samples
 pub mod Sound
