@@ -1,5 +1,6 @@
 pub mod Agreement
 pub mod Ahead
+pub mod CurrentYear
 pub mod Fails
 pub mod Fitting
 pub mod NameRules
