@@ -23,7 +23,7 @@ module _ (p : List ℕ) (current current′ : ℤ) (allowed : currentYearCheck c
   unfolding verdictOf trustCheck
   same-verdict = rw (allowed, allowed′)
 
-  -- so does whatever meets the promise, but for the record
+  -- any two answers that the promise allows, one in each year, are the same but for the record
   pub same-answer : (v v′ : Verdict) → Says english p current v → Says english p current′ v′ → SameButRecord v v′
   same-answer v v′ says says′ =
       answers-coincide english p current v (verdictOf p current) says (verdict-says p current)
