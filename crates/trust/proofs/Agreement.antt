@@ -1,6 +1,6 @@
 -- Two answers that `Says` allows are the same but for the record that a no shows, whatever the names are.
 use mathlib.Core.List.{List}
-use mathlib.Core.Path.{_≡_, sym, _∙_}
+use mathlib.Core.Path.{_≡_, refl, sym, ap, _∙_}
 use Prim.Native.Nat.{ℕ, _<_}
 use native.Mathlib.Omega.{arith}
 use lib.Dec.{ltb}
@@ -17,43 +17,46 @@ use Rattle.meaning.specs.declared.Verdict.{Verdict}
 use Rattle.meaning.specs.declared.Verdict.the-variants.{Yes, No, Refused as Refuses}
 use Rattle.laws.proofs.Tests.{by-test}
 
+-- an answer, but for the record that a no shows
+pub data Told : Type 0 where
+  trusted : Told
+  failsAt : ℕ → Told
+  refused : Refusal → Told
+
+abbrev pub told : Verdict → Told
+told Yes = trusted
+told (No part f) = failsAt part
+told (Refuses why) = refused why
+
 abbrev pub SameButRecord : Verdict → Verdict → Type 0
-SameButRecord Yes Yes = Unit
-SameButRecord Yes (No j g) = ⊥
-SameButRecord Yes (Refuses why) = ⊥
-SameButRecord (No i f) Yes = ⊥
-SameButRecord (No i f) (No j g) = i ≡ j
-SameButRecord (No i f) (Refuses why) = ⊥
-SameButRecord (Refuses why) Yes = ⊥
-SameButRecord (Refuses why) (No j g) = ⊥
-SameButRecord (Refuses why) (Refuses why′) = why ≡ why′
+SameButRecord v w = told v ≡ told w
 
 not-both : {c : Checked} {why : Refusal} → c ≡ Fine → c ≡ Refused why → ⊥
 not-both e d = let z : _≡_ {A = ℕ} 0 1 = cc in omega arith
 
-module _ {book : Book} {now : ℕ} {ss : List Step} where
+module _ {book : Book} {current : ℕ} {ss : List Step} where
   -- a part that fails is not among those that come back
-  not-before : {i n : ℕ} {f : Fields} → FailsFirst book now ss i f → AllComeBack book now ss n → i < n → ⊥
+  not-before : {i n : ℕ} {f : Fields} → FailsFirst book current ss i f → AllComeBack book current ss n → i < n → ⊥
   unfolding AllComeBack
   not-before {i} {n} {f} first all h = first .fails (all f (first .allowed) i h)
 
-  same-part : (i j : ℕ) {f g : Fields} → FailsFirst book now ss i f → FailsFirst book now ss j g → i ≡ j
+  same-part : (i j : ℕ) {f g : Fields} → FailsFirst book current ss i f → FailsFirst book current ss j g → i ≡ j
   same-part i j first first′ =
       by-test (ltb i j) (λ e. absurd (not-before first (first′ .earlier) (ltb-true i j e)))
       (λ e.
       by-test (ltb j i) (λ d. absurd (not-before first′ (first .earlier) (ltb-true j i d)))
       (λ d. omega (arith, ltb-false i j e, ltb-false j i d)))
 
-pub answers-coincide : (book : Book) (p : List ℕ) (now : ℤ) (v w : Verdict) → Says book p now v → Says book p now w → SameButRecord v w
+pub answers-coincide : (book : Book) (p : List ℕ) (current : ℤ) (v w : Verdict) → Says book p current v → Says book p current w → SameButRecord v w
 unfolding Says
-answers-coincide book p now Yes Yes a b = tt
-answers-coincide book p now Yes (No j g) a b = not-before (b .1) (a .1) (b .1 .there)
-answers-coincide book p now Yes (Refuses why) a b = not-both (a .0) b
-answers-coincide book p now (No i f) Yes a b = not-before (a .1) (b .1) (a .1 .there)
-answers-coincide book p now (No i f) (No j g) a b = same-part i j (a .1) (b .1)
-answers-coincide book p now (No i f) (Refuses why) a b = not-both (a .0) b
-answers-coincide book p now (Refuses why) Yes a b = not-both (b .0) a
-answers-coincide book p now (Refuses why) (No j g) a b = not-both (b .0) a
-answers-coincide book p now (Refuses why) (Refuses why′) a b =
+answers-coincide book p current Yes Yes a b = refl
+answers-coincide book p current Yes (No j g) a b = absurd (not-before (b .1) (a .1) (b .1 .there))
+answers-coincide book p current Yes (Refuses why) a b = absurd (not-both (a .0) b)
+answers-coincide book p current (No i f) Yes a b = absurd (not-before (a .1) (b .1) (a .1 .there))
+answers-coincide book p current (No i f) (No j g) a b = ap failsAt (same-part i j (a .1) (b .1))
+answers-coincide book p current (No i f) (Refuses why) a b = absurd (not-both (a .0) b)
+answers-coincide book p current (Refuses why) Yes a b = absurd (not-both (b .0) a)
+answers-coincide book p current (Refuses why) (No j g) a b = absurd (not-both (b .0) a)
+answers-coincide book p current (Refuses why) (Refuses why′) a b =
     let e : Refused why ≡ Refused why′ = sym a ∙ b in
     cc

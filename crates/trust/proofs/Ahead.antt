@@ -15,9 +15,9 @@ use Rattle.meaning.specs.declared.Fields.{Fields}
 use Rattle.laws.proofs.Fields.{Allowed}
 use Rattle.laws.proofs.Tests.{by-test, true-is-not-false, when-is}
 use Rattle.trust.proofs.Fitting.{Fitting, no-parts, symbol-first, literal-first, open-last}
-use Rattle.trust.proofs.RulesAhead.{behind-one, digit-within, rule-first, rule-second, rule-second-shown, two-digits-allowed}
+use Rattle.trust.proofs.RulesAhead.{behind-one, digit-within, rule-first, rule-second, rule-second-shown, long-numbers-allowed}
 use Rattle.trust.specs.Ahead.{digitFirst, digitSecond}
-use Rattle.trust.specs.Check.{twoDigits}
+use Rattle.trust.specs.Check.{longNumbers}
 
 -- literals
 
@@ -79,12 +79,12 @@ no-second-digit (literal-first {s} {ss} k rest) f h e =
     (λ l. literal-second s (texts english f ss) k ∙ rw l (rw l at e))
 no-second-digit (open-last {s} {lost} k) f h e = open-digit s lost k f 1 ∙ open-second s ∙ unfold digitFirst in e
 
--- The second byte of the record with two digits.
-pub second-byte : {ss : List Step} → Fitting ss → digitAt 1 (texts english twoDigits ss) ≡ digitSecond ss
+-- The second byte of the record with long numbers.
+pub second-byte : {ss : List Step} → Fitting ss → digitAt 1 (texts english longNumbers ss) ≡ digitSecond ss
 unfolding digitSecond texts
 second-byte no-parts = unfold digitAt in refl
 second-byte (symbol-first {rule} {ss} fit rest) =
-    rule-second-shown rule fit (texts english twoDigits ss) ∙ rw (first-byte rest twoDigits two-digits-allowed (λ _. refl))
+    rule-second-shown rule fit (texts english longNumbers ss) ∙ rw (first-byte rest longNumbers long-numbers-allowed (λ _. refl))
 second-byte (literal-first {s} {ss} k rest) =
-    literal-second s (texts english twoDigits ss) k ∙ rw (first-byte rest twoDigits two-digits-allowed (λ _. refl))
-second-byte (open-last {s} {lost} k) = open-digit s lost k twoDigits 1 ∙ unfold digitFirst in open-second s
+    literal-second s (texts english longNumbers ss) k ∙ rw (first-byte rest longNumbers long-numbers-allowed (λ _. refl))
+second-byte (open-last {s} {lost} k) = open-digit s lost k longNumbers 1 ∙ unfold digitFirst in open-second s

@@ -2,20 +2,19 @@
 -- numbers and years are cut or take a digit that follows, a zone takes it for a group that it left out, yy loses the century.
 use mathlib.Core.Bool.{Bool, true, false}
 use mathlib.Core.List.{List, [], _∷_, _++_, append-assoc, append-nil}
-use mathlib.Core.Path.{_≡_, refl, sym, ap, _∙_}
-use Prim.Native.Nat.{ℕ, _+_, _*_, _-_, _^_, _≤_, _<_}
-use native.Mathlib.Nat.{lt-of-lt-of-le, pow-le-pow-right}
+use mathlib.Core.Path.{_≡_, refl, sym, _∙_}
+use Prim.Native.Nat.{ℕ, _+_, _*_, _-_, _/_, _%_, _≤_, _<_}
 use native.Mathlib.Omega.{arith}
-use lib.Dec.{leb, ltb}
-use lib.IntN.{pos}
+use lib.Dec.{eqb, leb, ltb}
+use lib.IntN.{ℤ, pos, natAbs}
 use lib.ListN.{length, drop, length-append}
-use borrow.Author.Tests.{leb-false, ltb-true}
-use Rattle.meaning.specs.Bytes.{both, isDigit, digitAt, num, plus}
+use borrow.Author.Tests.{leb-false, ltb-true, ltb-false, ne-eqb}
+use Rattle.meaning.specs.Bytes.{when, both, isDigit, digitAt, num, plus, minus}
 use Rattle.meaning.specs.Names.{english}
 use Rattle.meaning.specs.Numerals.{Signed, allDigits, numberOf}
-use Rattle.meaning.specs.Readers.{got, _>>=_, done, skip, takeCount, takeYear, takeNumber, reach, ahead, zoneSign}
+use Rattle.meaning.specs.Readers.{Reader, got, _>>=_, done, skip, takeCount, takeYear, takeNumber, reach, ahead, behindUtc, zoneSign}
 use Rattle.meaning.specs.Reading.{colonLength, millennium, takenYear, zoneBehind, zoneGroup, zoneSize, takenZone, yearLength, digitRun, minusFirst, readRule, carriedRule}
-use Rattle.meaning.specs.Writing.{quantityOf, groupText, offsetText, ruleText, twoDigitText, zoneText}
+use Rattle.meaning.specs.Writing.{isNegative, quantityOf, groupText, offsetText, ruleText, twoDigitText, zoneText}
 use Rattle.meaning.specs.declared.Carried.{Carried}
 use Rattle.meaning.specs.declared.Carried.the-variants as carried
 use Rattle.meaning.specs.declared.Group.{Group}
@@ -26,9 +25,9 @@ use Rattle.meaning.specs.declared.ParseUnit.the-variants as unit
 use Rattle.meaning.specs.declared.Quantity.{Quantity}
 use Rattle.meaning.specs.declared.Rule.{Rule}
 use Rattle.meaning.specs.declared.Rule.the-variants.{Number, SkippedNumber, LetterQuarter, SkippedName, MatchedName, Letters, Years, FixedYear, TwoDigitYear, Zone}
-use Rattle.laws.proofs.Digits.{all-num, digit-behind, num-some, num-fits}
+use Rattle.laws.proofs.Digits.{all-num, digit-behind, digit-in, length-num, num-some}
 use Rattle.laws.proofs.Readers.{take-goes-on}
-use Rattle.laws.proofs.Tests.{both-true, when-is, true-is-not-false}
+use Rattle.laws.proofs.Tests.{both-true, by-test, when-is, true-is-not-false}
 use Rattle.laws.proofs.Years.{no-minus}
 use Rattle.laws.proofs.Zones.{group-comes-back, two-digits}
 use Rattle.laws.specs.Widths.{mostDigits}
@@ -36,7 +35,8 @@ use Rattle.trust.proofs.RulesAhead.{seven-digits}
 use Rattle.trust.proofs.Sound.{Back}
 use Rattle.trust.proofs.Table.{numberFits, zoneFits, fits, number-fits}
 use Rattle.trust.proofs.Takes.{Takes, takes-got, takes-skip, takes-number, takes-both, takes-then, takes-done, reach-bounds, reach-past}
-use Rattle.trust.specs.Check.{oneDigit, twoDigits, witness}
+use Rattle.trust.proofs.Witness.{of-witness}
+use Rattle.trust.specs.Check.{shortNumbers, longNumbers, witness}
 use Rattle.trust.specs.Needs.{numberNeed, groupNeed, lastGroup, ruleNeed}
 use Rattle.trust.specs.declared.Need.{Need}
 use Rattle.trust.specs.declared.Need.the-variants.{Nothing, NoDigit, NoSecondDigit, Broken}
@@ -57,25 +57,27 @@ reached q least most need r = reach (most - least) least (num least (quantityOf 
 Cut : Quantity → ℕ → ℕ → List ℕ → Need → Type 0
 Cut q least most r need = Shown need r → length (num least (quantityOf q (witness need))) ≡ reached q least most need r → ⊥
 
+digits-through : (s r : List ℕ) → allDigits s ≡ true → digitAt 0 r ≡ true → (j : ℕ) → j ≤ length s → digitAt j (s ++ r) ≡ true
+digits-through s r all digit j h =
+    by-test (ltb j (length s)) (λ e. digit-in s r all j (ltb-true j (length s) e))
+    (λ e.
+    let last : j ≡ length s = omega (arith, ltb-false j (length s) e) in
+    rw (last, digit-behind s r) digit)
+
 module _ (q : Quantity) (least most : ℕ) (fit : numberFits q least most ≡ true) (r : List ℕ) where
   too-long : most < mostDigits q → Cut q least most r Broken
   unfolding Cut reached
   too-long h _ e =
       let n = number-fits q least most fit in
-      omega (arith, n .long, n .order, reach-bounds (most - least) least (num least (quantityOf q twoDigits) ++ r) .1)
-
-  just-least : length (num least (quantityOf q oneDigit)) ≡ least
-  just-least =
-      let n = number-fits q least most fit in
-      let ten : 10 ^ 1 ≤ 10 ^ least = pow-le-pow-right (omega arith) (n .low) in
-      num-fits least (quantityOf q oneDigit) (n .low) (lt-of-lt-of-le (n .short) ten)
+      omega (arith, n .long, n .order, reach-bounds (most - least) least (num least (quantityOf q longNumbers) ++ r) .1)
 
   too-far : least < most → Cut q least most r NoDigit
   unfolding Cut reached
   too-far h digit e =
-      let s = num least (quantityOf q oneDigit) in
-      let next : digitAt least (s ++ r) ≡ true = ap (λ (i : ℕ). digitAt i (s ++ r)) (sym just-least) ∙ digit-behind s r ∙ digit in
-      omega (arith, just-least, reach-past (most - least) least (s ++ r) (omega arith) next)
+      let s = num least (quantityOf q shortNumbers) in
+      let filled : least ≤ length s = rw length-num (omega arith) in
+      let fewer = number-fits q least most fit .short h in
+      omega (arith, reach-past (most - least) least (s ++ r) (length s) filled (omega arith) (digits-through s r (all-num least _) digit))
 
   number-cut : Cut q least most r (numberNeed q least most)
   unfolding Cut
@@ -83,19 +85,19 @@ module _ (q : Quantity) (least most : ℕ) (fit : numberFits q least most ≡ tr
       when-is (Cut q least most r) (ltb most (mostDigits q)) (λ e. too-long (ltb-true most (mostDigits q) e))
       (λ _. when-is (Cut q least most r) (ltb least most) (λ e. too-far (ltb-true least most e)) (λ _ h _. h))
 
-  number-fails : (now : ℕ) (u : ParseUnit) (z : ℕ) → Shown (numberNeed q least most) r
-      → Back now (Number q least most u z) (witness (numberNeed q least most)) r → ⊥
+  number-fails : (current : ℕ) (u : ParseUnit) (z : ℕ) → Shown (numberNeed q least most) r
+      → Back current (Number q least most u z) (witness (numberNeed q least most)) r → ⊥
   unfolding readRule ruleText Cut reached
-  number-fails now u z shown e =
+  number-fails current u z shown e =
       let s = num least (quantityOf q (witness (numberNeed q least most))) ++ r in
       let k = reach (most - least) least s in
       number-cut shown
       (takes-got k (takes-done k (takeCount k) _ s (takes-done k (takeNumber Count k) _ s (takes-number Count k s))) e)
 
-  skipped-number-fails : (now : ℕ) → Shown (numberNeed q least most) r
-      → Back now (SkippedNumber q least most) (witness (numberNeed q least most)) r → ⊥
+  skipped-number-fails : (current : ℕ) → Shown (numberNeed q least most) r
+      → Back current (SkippedNumber q least most) (witness (numberNeed q least most)) r → ⊥
   unfolding readRule ruleText Cut reached
-  skipped-number-fails now shown e =
+  skipped-number-fails current shown e =
       let s = num least (quantityOf q (witness (numberNeed q least most))) ++ r in
       let k = reach (most - least) least s in
       number-cut shown (takes-got k (takes-done k (skip k) _ s (takes-skip k s)) e)
@@ -116,40 +118,40 @@ takes-year k s = takes-done k (takeYear k) _ s (takes-done k (takeNumber Year k)
 no-minus-first : (k : ℕ) (r : List ℕ) → minusFirst (num k 1000001 ++ r) ≡ 0
 no-minus-first k r = no-minus (num k 1000001) r (all-num k 1000001) (num-some k 1000001)
 
-years-fail : (now k : ℕ) (r : List ℕ) → digitAt 0 r ≡ true → Back now (Years k) oneDigit r → ⊥
+years-fail : (current k : ℕ) (r : List ℕ) → digitAt 0 r ≡ true → Back current (Years k) shortNumbers r → ⊥
 unfolding readRule ruleText
-years-fail now k r digit e =
+years-fail current k r digit e =
     let s = num k 1000001 in
     let taken : length s ≡ 0 + digitRun (s ++ r)
     = rw (no-minus-first k r) at (takes-got (yearLength (s ++ r)) (takes-year (yearLength (s ++ r)) (s ++ r)) e) in
     omega (arith, run-past s r (all-num k 1000001) digit)
 
-fixed-year-fails : (now k : ℕ) (r : List ℕ) → k < 7 → Back now (FixedYear k) twoDigits r → ⊥
+fixed-year-fails : (current k : ℕ) (r : List ℕ) → k < 7 → Back current (FixedYear k) longNumbers r → ⊥
 unfolding readRule ruleText
-fixed-year-fails now k r short e =
+fixed-year-fails current k r short e =
     let s = num k 1000001 in
     let taken : length s ≡ 0 + k
     = rw (no-minus-first k r) at (takes-got (minusFirst (s ++ r) + k) (takes-year (minusFirst (s ++ r) + k) (s ++ r)) e) in
     omega (arith, seven-digits k)
 
 -- yy reads 01 as the first year of a millennium
-two-digit-read : (now : ℕ) (r : List ℕ) → readRule english now TwoDigitYear (twoDigitText (pos 1000001) ++ r)
-    ≡ got 2 (carried.Value unit.Year (pos (1 + millennium now)))
+two-digit-read : (current : ℕ) (r : List ℕ) → readRule english current TwoDigitYear (twoDigitText (pos 1000001) ++ r)
+    ≡ got 2 (carried.Value unit.Year (pos (1 + millennium current)))
 unfolding readRule twoDigitText num numberOf
-two-digit-read now r =
+two-digit-read current r =
     let n : Signed = record { negative = false; size = 1 } in
     let s : List ℕ = 48 ∷ 49 ∷ r in
     rw (take-goes-on Year 2 s n (omega arith) refl)
 
-two-digit-year-fails : (now : ℕ) → now ≤ 9999 → (r : List ℕ) → Back now TwoDigitYear twoDigits r → ⊥
+two-digit-year-fails : (current : ℕ) → current ≤ 9999 → (r : List ℕ) → Back current TwoDigitYear longNumbers r → ⊥
 unfolding ruleText carriedRule
-two-digit-year-fails now small r e =
-    let same : got 2 (carried.Value unit.Year (pos (1 + millennium now))) ≡ got (length (twoDigitText (pos 1000001))) (carried.Value unit.Year (pos 1000001))
-    = sym (two-digit-read now r) ∙ e in
-    let year : 1 + millennium now ≡ 1000001 = cc in
+two-digit-year-fails current small r e =
+    let same : got 2 (carried.Value unit.Year (pos (1 + millennium current))) ≡ got (length (twoDigitText (pos 1000001))) (carried.Value unit.Year (pos 1000001))
+    = sym (two-digit-read current r) ∙ e in
+    let year : 1 + millennium current ≡ 1000001 = cc in
     omega arith
 
--- zones: an hour ahead, with no minutes and no seconds
+-- zones: whole hours, with no minutes and no seconds
 
 -- a group that is missing, where a digit stands in its place
 takes-group : (colon : Bool) (r : List ℕ) → digitAt (colonLength colon) r ≡ true → Takes (colonLength colon + 2) (zoneGroup colon NotZero r)
@@ -162,10 +164,17 @@ both-no : (b : Bool) → both b false ≡ false
 both-no true = refl
 both-no false = refl
 
-plus-read : (utc : Bool) (s : List ℕ) → zoneSign utc (plus ∷ s) ≡ got 1 ahead
+sign-read : (utc negative : Bool) (s : List ℕ) → zoneSign utc (when negative minus plus ∷ s) ≡ got 1 (when negative behindUtc ahead)
 unfolding zoneSign
-plus-read true s = refl
-plus-read false s = refl
+sign-read true true s = refl
+sign-read true false s = refl
+sign-read false true s = refl
+sign-read false false s = refl
+
+takes-behind-sign : (negative : Bool) (k : ℕ) (size : Reader ℕ) (s : List ℕ) → Takes k (size s)
+    → Takes k (zoneBehind size (when negative behindUtc ahead) s)
+takes-behind-sign true k size s h = takes-done k size _ s h
+takes-behind-sign false k size s h = takes-done k size _ s h
 
 -- the groups of a zone, of which the last is missing, behind the hour and before r
 MissingTaken : Bool → Group → Group → List ℕ → Type 0
@@ -186,75 +195,90 @@ missing-seconds colon r digit h =
     (group-comes-back colon Always 0 r (omega arith) tt)
     (takes-done (colonLength colon + 2) (zoneGroup colon NotZero) _ r (takes-group colon r digit))
 
-module _ (now : ℕ) (utc colon : Bool) (minutes seconds : Group) (no-seconds : groupText colon seconds 0 ≡ []) (r : List ℕ) (missing : MissingTaken colon minutes seconds r) where
-  an-hour : zoneText utc colon minutes seconds (pos 3600) ≡ plus ∷ num 2 1 ++ groupText colon minutes 0
+-- an offset of some whole hours
+record WholeHours (z : ℤ) : Type 0 where
+  hours : ℕ
+  some : 0 < hours
+  few : hours < 100
+  size : natAbs z ≡ hours * 3600
+
+module _ (current : ℕ) (utc colon : Bool) (minutes seconds : Group) (no-seconds : groupText colon seconds 0 ≡ []) {z : ℤ} (whole : WholeHours z) (r : List ℕ) (missing : MissingTaken colon minutes seconds r) where
+  hours-text : zoneText utc colon minutes seconds z
+      ≡ when (isNegative z) minus plus ∷ num 2 (whole .hours) ++ groupText colon minutes 0
   unfolding offsetText
-  an-hour =
-      rw (both-no utc, no-seconds) (append-nil (plus ∷ num 2 1 ++ groupText colon minutes 0))
+  hours-text =
+      let h = whole .hours in
+      let not-none : eqb (h * 3600) 0 ≡ false = ne-eqb (h * 3600) 0 (λ e. omega (arith, whole .some)) in
+      let hh : h * 3600 / 3600 ≡ h = omega arith in
+      let mm : h * 3600 % 3600 / 60 ≡ 0 = omega arith in
+      let ss : h * 3600 % 60 ≡ 0 = omega arith in
+      rw (whole .size, not-none, both-no utc, hh, mm, ss, no-seconds) (append-nil (when (isNegative z) minus plus ∷ num 2 h ++ groupText colon minutes 0))
 
-  takes-hour : Takes (1 + (length (num 2 1) + (length (groupText colon minutes 0) + (colonLength colon + 2))))
-      (takenZone utc colon minutes seconds (plus ∷ num 2 1 ++ (groupText colon minutes 0 ++ r)))
+  takes-hours : Takes (1 + (length (num 2 (whole .hours)) + (length (groupText colon minutes 0) + (colonLength colon + 2))))
+      (takenZone utc colon minutes seconds (when (isNegative z) minus plus ∷ num 2 (whole .hours) ++ (groupText colon minutes 0 ++ r)))
   unfolding zoneSize MissingTaken
-  takes-hour =
+  takes-hours =
+      let hh = num 2 (whole .hours) in
       let m = groupText colon minutes 0 in
-      let k = length (num 2 1) + (length m + (colonLength colon + 2)) in
-      let s = num 2 1 ++ (m ++ r) in
-      takes-done (1 + k) (zoneSign utc >>= zoneBehind (zoneSize colon minutes seconds)) _ (plus ∷ s)
-      (takes-then k (zoneSign utc) (zoneBehind (zoneSize colon minutes seconds)) (plus ∷ []) s (plus-read utc s)
-      (takes-done k (zoneSize colon minutes seconds) _ s
-      (takes-then (length m + (colonLength colon + 2)) (takeCount 2) _ (num 2 1) (m ++ r) (two-digits 1 (m ++ r) (omega arith)) (missing 1))))
+      let k = length hh + (length m + (colonLength colon + 2)) in
+      let s = hh ++ (m ++ r) in
+      let sign = when (isNegative z) minus plus in
+      let size = zoneSize colon minutes seconds in
+      takes-done (1 + k) (zoneSign utc >>= zoneBehind size) _ (sign ∷ s)
+      (takes-then k (zoneSign utc) (zoneBehind size) (sign ∷ []) s (sign-read utc (isNegative z) s)
+      (takes-behind-sign (isNegative z) k size s
+      (takes-then (length m + (colonLength colon + 2)) (takeCount 2) _ hh (m ++ r) (two-digits (whole .hours) (m ++ r) (whole .few)) (missing (whole .hours)))))
 
-  missing-group-fails : (c : Carried) → readRule english now (Zone utc colon minutes seconds) (zoneText utc colon minutes seconds (pos 3600) ++ r)
-      ≡ got (length (zoneText utc colon minutes seconds (pos 3600))) c → ⊥
+  missing-group-fails : (c : Carried) → readRule english current (Zone utc colon minutes seconds) (zoneText utc colon minutes seconds z ++ r)
+      ≡ got (length (zoneText utc colon minutes seconds z)) c → ⊥
   unfolding readRule
   missing-group-fails c e =
+      let hh = num 2 (whole .hours) in
       let m = groupText colon minutes 0 in
-      let taken : length (plus ∷ num 2 1 ++ m) ≡ 1 + (length (num 2 1) + (length m + (colonLength colon + 2)))
-      = takes-got _ takes-hour (rw (an-hour, append-assoc) at e) in
-      omega (arith, length-append (num 2 1) m)
+      let taken : length (when (isNegative z) minus plus ∷ hh ++ m) ≡ 1 + (length hh + (length m + (colonLength colon + 2)))
+      = takes-got _ takes-hours (rw (hours-text, append-assoc) at e) in
+      omega (arith, length-append hh m)
 
--- each record that is shown is an hour ahead
-hour-ahead : (need : Need) → witness need .offset ≡ pos 3600
-hour-ahead Nothing = refl
-hour-ahead NoDigit = refl
-hour-ahead NoSecondDigit = refl
-hour-ahead Broken = refl
+witness-hours : (need : Need) → WholeHours (witness need .offset)
+witness-hours =
+    of-witness (λ f. WholeHours (f .offset)) (record { hours = 8; some = omega arith; few = omega arith; size = refl })
+    (record { hours = 9; some = omega arith; few = omega arith; size = refl })
 
 digit-in-place : (colon : Bool) (r : List ℕ) → Shown (groupNeed colon NotZero) r → digitAt (colonLength colon) r ≡ true
 digit-in-place true r shown = shown
 digit-in-place false r shown = shown
 
-zone-fails : (now : ℕ) (utc colon : Bool) (minutes seconds : Group) → zoneFits minutes seconds ≡ true → (r : List ℕ)
+zone-fails : (current : ℕ) (utc colon : Bool) (minutes seconds : Group) → zoneFits minutes seconds ≡ true → (r : List ℕ)
     → Shown (groupNeed colon (lastGroup minutes seconds)) r
-    → Back now (Zone utc colon minutes seconds) (witness (groupNeed colon (lastGroup minutes seconds))) r → ⊥
+    → Back current (Zone utc colon minutes seconds) (witness (groupNeed colon (lastGroup minutes seconds))) r → ⊥
 unfolding ruleText
-zone-fails now utc colon Never seconds fit r shown e = true-is-not-false (sym fit)
-zone-fails now utc colon NotZero Never fit r shown e =
-    missing-group-fails now utc colon NotZero Never refl r (missing-minutes colon r (digit-in-place colon r shown)) _
-    (rw (hour-ahead (groupNeed colon NotZero)) at e)
-zone-fails now utc colon NotZero NotZero fit r shown e = true-is-not-false (sym fit)
-zone-fails now utc colon NotZero Always fit r shown e = true-is-not-false (sym fit)
-zone-fails now utc colon Always Never fit r shown e = shown
-zone-fails now utc colon Always NotZero fit r shown e =
-    missing-group-fails now utc colon Always NotZero refl r (missing-seconds colon r (digit-in-place colon r shown)) _
-    (rw (hour-ahead (groupNeed colon NotZero)) at e)
-zone-fails now utc colon Always Always fit r shown e = shown
+zone-fails current utc colon Never seconds fit r shown e = true-is-not-false (sym fit)
+zone-fails current utc colon NotZero Never fit r shown e =
+    missing-group-fails current utc colon NotZero Never refl (witness-hours (groupNeed colon NotZero)) r
+    (missing-minutes colon r (digit-in-place colon r shown)) _ e
+zone-fails current utc colon NotZero NotZero fit r shown e = true-is-not-false (sym fit)
+zone-fails current utc colon NotZero Always fit r shown e = true-is-not-false (sym fit)
+zone-fails current utc colon Always Never fit r shown e = shown
+zone-fails current utc colon Always NotZero fit r shown e =
+    missing-group-fails current utc colon Always NotZero refl (witness-hours (groupNeed colon NotZero)) r
+    (missing-seconds colon r (digit-in-place colon r shown)) _ e
+zone-fails current utc colon Always Always fit r shown e = shown
 
 -- every rule
 
-pub rule-fails : (now : ℕ) → now ≤ 9999 → (rule : Rule) → fits rule ≡ true → (r : List ℕ) → Shown (ruleNeed rule) r
-    → Back now rule (witness (ruleNeed rule)) r → ⊥
+pub rule-fails : (current : ℕ) → current ≤ 9999 → (rule : Rule) → fits rule ≡ true → (r : List ℕ) → Shown (ruleNeed rule) r
+    → Back current rule (witness (ruleNeed rule)) r → ⊥
 unfolding fits ruleNeed
-rule-fails now small (Number q least most u z) fit r shown e =
-    number-fails q least most (both-true (numberFits q least most) _ fit .0) r now u z shown e
-rule-fails now small (SkippedNumber q least most) fit r shown e = skipped-number-fails q least most fit r now shown e
-rule-fails now small LetterQuarter fit r shown e = shown
-rule-fails now small (SkippedName l n) fit r shown e = shown
-rule-fails now small (MatchedName l) fit r shown e = shown
-rule-fails now small (Letters l n) fit r shown e = shown
-rule-fails now small (Years k) fit r shown e = years-fail now k r shown e
-rule-fails now small (FixedYear k) fit r shown e =
-    when-is (λ need. Shown need r → Back now (FixedYear k) (witness need) r → ⊥) (leb 7 k) (λ _ h _. h)
-    (λ short _ d. fixed-year-fails now k r (leb-false 7 k short) d) shown e
-rule-fails now small TwoDigitYear fit r shown e = two-digit-year-fails now small r e
-rule-fails now small (Zone utc colon minutes seconds) fit r shown e = zone-fails now utc colon minutes seconds fit r shown e
+rule-fails current small (Number q least most u z) fit r shown e =
+    number-fails q least most (both-true (numberFits q least most) _ fit .0) r current u z shown e
+rule-fails current small (SkippedNumber q least most) fit r shown e = skipped-number-fails q least most fit r current shown e
+rule-fails current small LetterQuarter fit r shown e = shown
+rule-fails current small (SkippedName l n) fit r shown e = shown
+rule-fails current small (MatchedName l) fit r shown e = shown
+rule-fails current small (Letters l n) fit r shown e = shown
+rule-fails current small (Years k) fit r shown e = years-fail current k r shown e
+rule-fails current small (FixedYear k) fit r shown e =
+    when-is (λ need. Shown need r → Back current (FixedYear k) (witness need) r → ⊥) (leb 7 k) (λ _ h _. h)
+    (λ short _ d. fixed-year-fails current k r (leb-false 7 k short) d) shown e
+rule-fails current small TwoDigitYear fit r shown e = two-digit-year-fails current small r e
+rule-fails current small (Zone utc colon minutes seconds) fit r shown e = zone-fails current utc colon minutes seconds fit r shown e

@@ -1,8 +1,10 @@
 pub mod Agreement
 pub mod Ahead
+pub mod CurrentYear
 pub mod Fails
 pub mod Fitting
 pub mod NameRules
+pub mod RealDays
 pub mod RulesAhead
 pub mod Samples
 pub mod Sound
@@ -11,3 +13,4 @@ pub mod Table
 pub mod Takes
 pub mod Turns
 pub mod Verdicts
+pub mod Witness

@@ -10,7 +10,6 @@ use lib.Dec.{eqb, leb, ltb}
 use lib.IntN.{ℤ, pos, natAbs}
 use lib.ListN.{length, List·getD-append}
 use borrow.Author.Tests.{eqb-true, leb-true, ltb-true, ltb-false, not-true}
-use Rattle.meaning.specs.Answers.{fieldsCheck}
 use Rattle.meaning.specs.Bytes.{when, both, digitAt, num, width, widthIn, digits}
 use Rattle.meaning.specs.Names.{english, names}
 use Rattle.meaning.specs.Writing.{isNegative, nameText, placeOf, offsetText, quantityOf, ruleText, signedText, twoDigitText, zoneText}
@@ -27,12 +26,13 @@ use Rattle.laws.proofs.Places.{place-there}
 use Rattle.laws.proofs.Tests.{both-true, by-test, every, every-at, true-is-not-false, when-is}
 use Rattle.laws.specs.Widths.{mostDigits}
 use Rattle.trust.proofs.Table.{fits, nameOpens, namesFit, numberFits, number-fits}
+use Rattle.trust.proofs.Witness.{witness-fine}
 use Rattle.trust.specs.Ahead.{hasLetters, nameFirst, numberSecond, ruleFirst, ruleSecond}
-use Rattle.trust.specs.Check.{twoDigits}
+use Rattle.trust.specs.Check.{longNumbers}
+use Rattle.trust.specs.declared.Need.the-variants.{Broken}
 
-pub two-digits-allowed : Allowed twoDigits
-unfolding fieldsCheck
-two-digits-allowed = allowed twoDigits refl
+pub long-numbers-allowed : Allowed longNumbers
+long-numbers-allowed = allowed longNumbers (witness-fine Broken)
 
 -- a text before another
 
@@ -94,15 +94,15 @@ name-second l fit f h d t e behind =
     digit-within 1 name t (omega (arith, ltb-false (length name) 2 k)) ∙ not-true (digitAt 1 name) (rw k at (o .second)))
 
 name-second-shown : (l : NameList) → namesFit l ≡ true → (t : List ℕ)
-    → digitAt 1 (nameText english l twoDigits ++ t) ≡ both (hasLetters l) (digitAt 0 t)
+    → digitAt 1 (nameText english l longNumbers ++ t) ≡ both (hasLetters l) (digitAt 0 t)
 unfolding namesFit
 name-second-shown l fit t =
-    let name = nameText english l twoDigits in
+    let name = nameText english l longNumbers in
     by-test (hasLetters l)
     (λ e.
     let one : when (hasLetters l) (eqb (length name) 1) true ≡ true = both-true (every (nameOpens l) (names english l)) _ fit .1 in
     behind-one name t (eqb-true (length name) 1 (rw e at one)) ∙ rw e)
-    (λ e. name-second l fit twoDigits two-digits-allowed true t (rw e) (λ k. true-is-not-false k) ∙ rw e)
+    (λ e. name-second l fit longNumbers long-numbers-allowed true t (rw e) (λ k. true-is-not-false k) ∙ rw e)
 
 -- numbers
 
@@ -129,11 +129,11 @@ two-or-more a b e n h k =
     by-test (ltb a 2) (λ s. omega (arith, ltb-false b 2 (rw s at e))) (λ s. omega (arith, ltb-false a 2 s))
 
 number-second-shown : (q : Quantity) (least most : ℕ) → numberFits q least most ≡ true → (t : List ℕ)
-    → digitAt 1 (num least (quantityOf q twoDigits) ++ t) ≡ numberSecond q least (digitAt 0 t)
+    → digitAt 1 (num least (quantityOf q longNumbers) ++ t) ≡ numberSecond q least (digitAt 0 t)
 number-second-shown q least most fit t =
-    let n = quantityOf q twoDigits in
+    let n = quantityOf q longNumbers in
     when-is (λ b. digitAt 1 (num least n ++ t) ≡ b) (both (ltb least 2) (ltb (mostDigits q) 2))
-    (λ one. behind-one (num least n) t (number-one q least most fit one twoDigits two-digits-allowed))
+    (λ one. behind-one (num least n) t (number-one q least most fit one longNumbers long-numbers-allowed))
     (λ more.
     num-second least n t
     (two-or-more least (mostDigits q) more (length (num least n)) (rw length-num (omega arith)) (number-fits q least most fit .long)))
@@ -164,7 +164,7 @@ zone-first utc colon minutes seconds z t =
     when-is (λ (s : List ℕ). digitAt 0 (s ++ t) ≡ false) (both utc (eqb (natAbs z) 0)) (λ _. refl)
     (λ _. by-test (isNegative z) (λ e. rw e) (λ e. rw e))
 
-zone-second-shown : (utc colon : Bool) (minutes seconds : Group) (t : List ℕ) → digitAt 1 (zoneText utc colon minutes seconds (pos 3600) ++ t) ≡ true
+zone-second-shown : (utc colon : Bool) (minutes seconds : Group) (t : List ℕ) → digitAt 1 (zoneText utc colon minutes seconds (longNumbers .offset) ++ t) ≡ true
 unfolding digitAt offsetText num
 zone-second-shown true colon minutes seconds t = refl
 zone-second-shown false colon minutes seconds t = refl
@@ -203,11 +203,11 @@ rule-second TwoDigitYear fit f h d t e behind = true-is-not-false e
 rule-second (Zone utc colon minutes seconds) fit f h d t e behind = true-is-not-false e
 
 pub rule-second-shown : (rule : Rule) → fits rule ≡ true → (t : List ℕ)
-    → digitAt 1 (ruleText english rule twoDigits ++ t) ≡ ruleSecond rule (digitAt 0 t)
+    → digitAt 1 (ruleText english rule longNumbers ++ t) ≡ ruleSecond rule (digitAt 0 t)
 unfolding fits ruleSecond ruleText
 rule-second-shown (Number q least most u z) fit t = number-second-shown q least most (both-true (numberFits q least most) _ fit .0) t
 rule-second-shown (SkippedNumber q least most) fit t = number-second-shown q least most fit t
-rule-second-shown LetterQuarter fit t = unfold digitAt in num-first 1 (quantityOf Quarter twoDigits) t
+rule-second-shown LetterQuarter fit t = unfold digitAt in num-first 1 (quantityOf Quarter longNumbers) t
 rule-second-shown (SkippedName l n) fit t = name-second-shown l (both-true (namesFit l) _ fit .0) t
 rule-second-shown (MatchedName l) fit t = name-second-shown l (both-true (namesFit l) _ fit .0) t
 rule-second-shown (Letters l n) fit t = name-second-shown l (both-true (namesFit l) _ fit .0) t

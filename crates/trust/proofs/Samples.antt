@@ -7,7 +7,7 @@ use Rattle.meaning.specs.Bytes as B
 use Rattle.meaning.specs.declared.Refusal.the-variants.{LoneQuote}
 use Rattle.meaning.specs.declared.Verdict.{Verdict}
 use Rattle.meaning.specs.declared.Verdict.the-variants.{Yes, No, Refused}
-use Rattle.trust.specs.Check.{verdictOf, oneDigit, twoDigits}
+use Rattle.trust.specs.Check.{verdictOf, shortNumbers, longNumbers}
 
 pub record Sample : Type 0 where
   pub pattern : String
@@ -19,10 +19,10 @@ p ↦′ v = record { pattern = p; answer = v }
 infix 90 _↦′_
 pub table : List Sample
 table =
-    "d/MM" ↦′ Yes ∷ "d/M" ↦′ No 2 twoDigits ∷ "XXXXX5" ↦′ Yes ∷ "XXXXX.5" ↦′ No 0 twoDigits ∷ "" ↦′ Yes
-    ∷ "yy" ↦′ No 0 twoDigits ∷ "yyyyy" ↦′ No 0 twoDigits ∷ "yyyyyy" ↦′ No 0 twoDigits ∷ "yyyyyyy" ↦′ Yes
-    ∷ "dH" ↦′ No 0 oneDigit ∷ "XXXXXe5" ↦′ No 0 twoDigits ∷ "XXXXXMMMMMd" ↦′ No 0 twoDigits
-    ∷ "a'b''" ↦′ No 1 twoDigits ∷ "a'" ↦′ Refused (LoneQuote 1) ∷ []
+    "d/MM" ↦′ Yes ∷ "d/M" ↦′ No 2 longNumbers ∷ "XXXXX5" ↦′ Yes ∷ "XXXXX.5" ↦′ No 0 longNumbers ∷ "" ↦′ Yes
+    ∷ "yy" ↦′ No 0 longNumbers ∷ "yyyyy" ↦′ No 0 longNumbers ∷ "yyyyyy" ↦′ No 0 longNumbers ∷ "yyyyyyy" ↦′ Yes
+    ∷ "dH" ↦′ No 0 shortNumbers ∷ "D5" ↦′ No 0 shortNumbers ∷ "XXXXXe5" ↦′ No 0 longNumbers ∷ "XXXXXMMMMMd" ↦′ No 0 longNumbers
+    ∷ "a'b''" ↦′ No 1 longNumbers ∷ "a'" ↦′ Refused (LoneQuote 1) ∷ []
 
 pub samples : map (λ s. verdictOf (B.bytes (s .pattern)) (pos 2025)) table ≡ map (λ s. s .answer) table
 unfolding table verdictOf B.bytes

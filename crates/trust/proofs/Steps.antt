@@ -7,13 +7,11 @@ use native.Mathlib.Nat.{add-zero}
 use native.Mathlib.Omega.{arith}
 use lib.ListN.{length, take, length-append, length-take}
 use borrow.Author.Tests.{not-true, not-false}
-use Rattle.meaning.specs.Answers.{fieldsCheck}
 use Rattle.meaning.specs.Names.{english}
 use Rattle.meaning.specs.Readers.{got, skip}
 use Rattle.meaning.specs.Reading.{passed, readStep, carriedStep}
 use Rattle.meaning.specs.Writing.{Step, endsInQuote, stepText, texts}
 use Rattle.meaning.specs.declared.Carried.the-variants as carried
-use Rattle.meaning.specs.declared.Checked.the-variants.{Fine}
 use Rattle.meaning.specs.declared.Fields.{Fields}
 use Rattle.laws.proofs.Fields.{Allowed, allowed}
 use Rattle.laws.proofs.Readers.{skip-goes-on}
@@ -23,18 +21,12 @@ use Rattle.trust.proofs.Fails.{Shown, rule-fails}
 use Rattle.trust.proofs.Fitting.{Fitting, symbol-first, literal-first, open-last}
 use Rattle.trust.proofs.Sound.{Met, rule-comes-back}
 use Rattle.trust.proofs.Takes.{takes-got, takes-skip, takes-done}
+use Rattle.trust.proofs.Witness.{witness-fine}
 use Rattle.trust.specs.Ahead.{digitFirst, digitSecond}
-use Rattle.trust.specs.Check.{meets, witness, oneDigit}
+use Rattle.trust.specs.Check.{meets, witness, shortNumbers}
 use Rattle.trust.specs.Needs.{stepNeed}
 use Rattle.trust.specs.declared.Need.{Need}
 use Rattle.trust.specs.declared.Need.the-variants.{Nothing, NoDigit, NoSecondDigit, Broken}
-
-pub witness-fine : (need : Need) → fieldsCheck (witness need) ≡ Fine
-unfolding fieldsCheck
-witness-fine Nothing = refl
-witness-fine NoDigit = refl
-witness-fine NoSecondDigit = refl
-witness-fine Broken = refl
 
 -- what the lookahead says of the text
 
@@ -48,25 +40,25 @@ met Broken fit e f h = true-is-not-false (sym e)
 shown : (need : Need) {ss : List Step} → Fitting ss → meets need ss ≡ false → Shown need (texts english (witness need) ss)
 unfolding meets
 shown Nothing fit e = true-is-not-false e
-shown NoDigit {ss} fit e = rw (first-byte fit oneDigit (allowed oneDigit (witness-fine NoDigit)) (λ _. refl)) (not-false (digitFirst ss) e)
+shown NoDigit {ss} fit e = rw (first-byte fit shortNumbers (allowed shortNumbers (witness-fine NoDigit)) (λ _. refl)) (not-false (digitFirst ss) e)
 shown NoSecondDigit {ss} fit e = rw (second-byte fit) (not-false (digitSecond ss) e)
 shown Broken fit e = tt
 
 -- a part's text comes back before what the parts behind it write
 abbrev pub StepBack : ℕ → Step → List Step → Fields → Type 0
-StepBack now s ss f =
-    readStep english now s (stepText english f s ++ texts english f ss) ≡ got (length (stepText english f s)) (carriedStep s f)
+StepBack current s ss f =
+    readStep english current s (stepText english f s ++ texts english f ss) ≡ got (length (stepText english f s)) (carriedStep s f)
 
 literal-comes-back : (s r : List ℕ) → passed (length s) (s ++ r) ≡ got (length s) carried.Nothing
 literal-comes-back s r = rw (skip-goes-on (length s) (s ++ r) (simp length-append (omega arith)), add-zero)
 
-pub step-comes-back : (now : ℕ) {s : Step} {ss : List Step} → Fitting (s ∷ ss) → meets (stepNeed s) ss ≡ true → (f : Fields)
-    → Allowed f → StepBack now s ss f
+pub step-comes-back : (current : ℕ) {s : Step} {ss : List Step} → Fitting (s ∷ ss) → meets (stepNeed s) ss ≡ true → (f : Fields)
+    → Allowed f → StepBack current s ss f
 unfolding stepNeed readStep stepText carriedStep
-step-comes-back now (symbol-first {rule} {ss} fit rest) e f h = rule-comes-back now rule fit f h (texts english f ss) (met _ rest e f h)
-step-comes-back now (literal-first {s} {ss} k rest) e f h = literal-comes-back s (texts english f ss)
-step-comes-back now (open-last {s} {lost = true} k) e f h = true-is-not-false (unfold meets in sym e)
-step-comes-back now (open-last {s} {lost = false} k) e f h = literal-comes-back s (texts english f [])
+step-comes-back current (symbol-first {rule} {ss} fit rest) e f h = rule-comes-back current rule fit f h (texts english f ss) (met _ rest e f h)
+step-comes-back current (literal-first {s} {ss} k rest) e f h = literal-comes-back s (texts english f ss)
+step-comes-back current (open-last {s} {lost = true} k) e f h = true-is-not-false (unfold meets in sym e)
+step-comes-back current (open-last {s} {lost = false} k) e f h = literal-comes-back s (texts english f [])
 
 -- an unclosed part that loses its last byte still skips it
 has-a-quote : (s : List ℕ) → endsInQuote s ≡ true → 0 < length s
@@ -80,10 +72,10 @@ lost-fails s r k e =
     let t = take (length s - 1) s ++ r in
     omega (arith, has-a-quote s k, length-take (length s - 1) s, takes-got (length s) (takes-done (length s) (skip (length s)) _ t (takes-skip (length s) t)) e)
 
-pub step-fails : (now : ℕ) → now ≤ 9999 → {s : Step} {ss : List Step} → Fitting (s ∷ ss) → meets (stepNeed s) ss ≡ false
-    → StepBack now s ss (witness (stepNeed s)) → ⊥
+pub step-fails : (current : ℕ) → current ≤ 9999 → {s : Step} {ss : List Step} → Fitting (s ∷ ss) → meets (stepNeed s) ss ≡ false
+    → StepBack current s ss (witness (stepNeed s)) → ⊥
 unfolding stepNeed readStep stepText carriedStep
-step-fails now small (symbol-first {rule} {ss} fit rest) e back = rule-fails now small rule fit _ (shown _ rest e) back
-step-fails now small (literal-first {s} {ss} k rest) e back = true-is-not-false (unfold meets in e)
-step-fails now small (open-last {s} {lost = true} k) e back = lost-fails s _ (sym k) back
-step-fails now small (open-last {s} {lost = false} k) e back = true-is-not-false (unfold meets in e)
+step-fails current small (symbol-first {rule} {ss} fit rest) e back = rule-fails current small rule fit _ (shown _ rest e) back
+step-fails current small (literal-first {s} {ss} k rest) e back = true-is-not-false (unfold meets in e)
+step-fails current small (open-last {s} {lost = true} k) e back = lost-fails s _ (sym k) back
+step-fails current small (open-last {s} {lost = false} k) e back = true-is-not-false (unfold meets in e)

@@ -6,7 +6,7 @@ use mathlib.Core.Path.{_≡_, refl}
 use Prim.Native.Nat.{ℕ, _≤_, _<_}
 use lib.Dec.{eqb, leb, ltb}
 use lib.ListN.{length}
-use borrow.Author.Tests.{leb-true, ltb-true}
+use borrow.Author.Tests.{leb-true, lt-ltb, ltb-true}
 use Rattle.meaning.specs.Bytes.{when, both, digitAt, num}
 use Rattle.meaning.specs.Names.{english, names}
 use Rattle.meaning.specs.Rules.{Row, _is_, among, Otherwise, always, fixedYear, Symbol, otherwiseRule, pick, dateSymbols, timeSymbols, roleAmong, dateRole, timeRole, orElse, roleOf}
@@ -25,7 +25,7 @@ use Rattle.laws.proofs.Names.{allApart}
 use Rattle.laws.proofs.Tests.{both-true, every, when-is}
 use Rattle.laws.specs.Widths.{mostDigits}
 use Rattle.trust.specs.Ahead.{opening, nameFirst, hasLetters}
-use Rattle.trust.specs.Check.{oneDigit, twoDigits}
+use Rattle.trust.specs.Check.{shortNumbers, longNumbers}
 
 -- the number that a quantity writes for zero
 abbrev pub zeroOf : Quantity → ℕ
@@ -44,11 +44,12 @@ zeroOf Minute = 0
 zeroOf Second = 0
 zeroOf (Fraction k) = 0
 
--- its counts are in order, and the two records have the fewest and the most digits
+-- its counts are in order; the short number has fewer digits than a greedy read takes, the long one all that it can have
 unfoldable pub numberFits : Quantity → ℕ → ℕ → Bool
 numberFits q least most =
     both (leb 1 least) (both (leb least most) (both (leb most 9)
-    (both (ltb (quantityOf q oneDigit) 10) (leb (mostDigits q) (length (num least (quantityOf q twoDigits)))))))
+    (both (when (ltb least most) (ltb (length (num least (quantityOf q shortNumbers))) most) true)
+    (leb (mostDigits q) (length (num least (quantityOf q longNumbers)))))))
 
 -- a name's first bytes are as the check takes them
 unfoldable pub nameOpens : NameList → List ℕ → Bool
@@ -59,7 +60,7 @@ nameOpens l name =
 unfoldable pub namesFit : NameList → Bool
 unfolding nameOpens
 namesFit l =
-    both (every (nameOpens l) (names english l)) (when (hasLetters l) (eqb (length (nameText english l twoDigits)) 1) true)
+    both (every (nameOpens l) (names english l)) (when (hasLetters l) (eqb (length (nameText english l longNumbers)) 1) true)
 
 -- each name has n bytes
 unfoldable pub sameLength : ℕ → NameList → Bool
@@ -90,14 +91,15 @@ pub record NumberFits (q : Quantity) (least most : ℕ) : Type 0 where
   pub low : 1 ≤ least
   pub order : least ≤ most
   pub few : most ≤ 9
-  pub short : quantityOf q oneDigit < 10
-  pub long : mostDigits q ≤ length (num least (quantityOf q twoDigits))
+  pub short : least < most → length (num least (quantityOf q shortNumbers)) < most
+  pub long : mostDigits q ≤ length (num least (quantityOf q longNumbers))
 
 pub number-fits : (q : Quantity) (least most : ℕ) → numberFits q least most ≡ true → NumberFits q least most
 unfolding numberFits
 number-fits q least most h =
-    let long = leb (mostDigits q) (length (num least (quantityOf q twoDigits))) in
-    let short = ltb (quantityOf q oneDigit) 10 in
+    let written = length (num least (quantityOf q shortNumbers)) in
+    let long = leb (mostDigits q) (length (num least (quantityOf q longNumbers))) in
+    let short = when (ltb least most) (ltb written most) true in
     let a = both-true (leb 1 least) (both (leb least most) (both (leb most 9) (both short long))) h in
     let b = both-true (leb least most) (both (leb most 9) (both short long)) (a .1) in
     let c = both-true (leb most 9) (both short long) (b .1) in
@@ -106,8 +108,8 @@ number-fits q least most h =
       low = leb-true 1 least (a .0);
       order = leb-true least most (b .0);
       few = leb-true most 9 (c .0);
-      short = ltb-true (quantityOf q oneDigit) 10 (d .0);
-      long = leb-true (mostDigits q) (length (num least (quantityOf q twoDigits))) (d .1);
+      short = λ l. ltb-true written most (rw (lt-ltb least most l) at (d .0));
+      long = leb-true (mostDigits q) (length (num least (quantityOf q longNumbers))) (d .1);
     }
 
 -- the whole table

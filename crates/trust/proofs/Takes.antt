@@ -8,12 +8,13 @@ use native.Mathlib.Omega.{arith}
 use lib.Dec.{ltb}
 use lib.ListN.{length, take, drop}
 use lib.Seq.{drop-append-seam}
+use borrow.Author.Tests.{ltb-true, ltb-false}
 use Rattle.meaning.specs.Bytes.{digitAt}
 use Rattle.meaning.specs.Numerals.{Signed, numberOf}
 use Rattle.meaning.specs.Readers.{Got, got, stopped, Reader, behind, goOn, _>>=_, done, skip, takenNumber, takeNumber, reach}
 use Rattle.meaning.specs.declared.Numeral.{Numeral}
 use Rattle.laws.proofs.Readers.{reach-on, reach-ends}
-use Rattle.laws.proofs.Tests.{when-is}
+use Rattle.laws.proofs.Tests.{by-test, when-is}
 
 abbrev pub Takes : {A : Type 0} → ℕ → Got A → Type 0
 Takes k (got n a) = n ≡ k
@@ -74,6 +75,11 @@ reach-bounds (suc more) i s = go (digitAt i s) refl (reach-bounds more (suc i) s
     go true e ih = rw (reach-on more i s e) (omega arith, omega arith)
     go false e ih = rw (reach-ends more i s e) (omega arith, omega arith)
 
-pub reach-past : (more i : ℕ) (s : List ℕ) → 0 < more → digitAt i s ≡ true → i < reach more i s
-reach-past zero i s h e = absurd (omega arith)
-reach-past (suc more) i s h e = rw (reach-on more i s e) (reach-bounds more (suc i) s .0)
+-- past n digits, where one more follows and it may go further
+pub reach-past : (more i : ℕ) (s : List ℕ) (n : ℕ) → i ≤ n → n < i + more → ((j : ℕ) → j ≤ n → digitAt j s ≡ true)
+    → n < reach more i s
+reach-past zero i s n h k all = absurd (omega arith)
+reach-past (suc more) i s n h k all =
+    rw (reach-on more i s (all i h))
+    (by-test (ltb i n) (λ e. reach-past more (suc i) s n (ltb-true i n e) (omega arith) all)
+    (λ e. omega (arith, ltb-false i n e, reach-bounds more (suc i) s .0)))

@@ -24,8 +24,9 @@ use Rattle.laws.proofs.Fields.{allowed}
 use Rattle.laws.proofs.Tests.{both-true, by-test}
 use Rattle.laws.proofs.Texts.{text-from}
 use Rattle.trust.proofs.Fitting.{Fitting, fitting-from, steps-fit}
-use Rattle.trust.proofs.Steps.{step-comes-back, step-fails, witness-fine}
+use Rattle.trust.proofs.Steps.{step-comes-back, step-fails}
 use Rattle.trust.proofs.Turns.{failing-on, failing-here}
+use Rattle.trust.proofs.Witness.{witness-fine}
 use Rattle.trust.specs.Check.{meets, witness, firstFailing, verdictBy, verdictOf}
 use Rattle.trust.specs.Needs.{stepNeed}
 
@@ -86,52 +87,52 @@ tells k (s ∷ ss) =
 
 -- and what that says of the written text
 
-module _ (now : ℕ) {ss : List Step} (fit : Fitting ss) (i : ℕ) (there : i < length ss) where
-  part-comes-back : holds ss i ≡ true → (f : Fields) → fieldsCheck f ≡ Fine → ComesBack english now ss f i
+module _ (current : ℕ) {ss : List Step} (fit : Fitting ss) (i : ℕ) (there : i < length ss) where
+  part-comes-back : holds ss i ≡ true → (f : Fields) → fieldsCheck f ≡ Fine → ComesBack english current ss f i
   unfolding holds ComesBack
-  part-comes-back e f h = rw (text-from english f ss i there) (step-comes-back now (fitting-from fit i there) e f (allowed f h))
+  part-comes-back e f h = rw (text-from english f ss i there) (step-comes-back current (fitting-from fit i there) e f (allowed f h))
 
-  part-fails : now ≤ 9999 → holds ss i ≡ false → ComesBack english now ss (witness (stepNeed (partAt ss i))) i → ⊥
+  part-fails : current ≤ 9999 → holds ss i ≡ false → ComesBack english current ss (witness (stepNeed (partAt ss i))) i → ⊥
   unfolding holds ComesBack
   part-fails small e back =
-      step-fails now small (fitting-from fit i there) e (rw (text-from english (witness (stepNeed (partAt ss i))) ss i there) at back)
+      step-fails current small (fitting-from fit i there) e (rw (text-from english (witness (stepNeed (partAt ss i))) ss i there) at back)
 
-all-come-back : (now : ℕ) {ss : List Step} → Fitting ss → (n : ℕ) → n ≤ length ss → ((j : ℕ) → j < n → holds ss j ≡ true)
-    → AllComeBack english now ss n
+all-come-back : (current : ℕ) {ss : List Step} → Fitting ss → (n : ℕ) → n ≤ length ss → ((j : ℕ) → j < n → holds ss j ≡ true)
+    → AllComeBack english current ss n
 unfolding AllComeBack
-all-come-back now fit n h all f fine i k = part-comes-back now fit i (omega arith) (all i k) f fine
+all-come-back current fit n h all f fine i k = part-comes-back current fit i (omega arith) (all i k) f fine
 
-fails-first : (now : ℕ) → now ≤ 9999 → {ss : List Step} → Fitting ss → (i : ℕ) (f : Fields) → FirstOf ss i f → FailsFirst english now ss i f
-fails-first now small {ss} fit i f first =
+fails-first : (current : ℕ) → current ≤ 9999 → {ss : List Step} → Fitting ss → (i : ℕ) (f : Fields) → FirstOf ss i f → FailsFirst english current ss i f
+fails-first current small {ss} fit i f first =
     record {
       there = first .there;
       allowed = rw (first .shows) (witness-fine (stepNeed (partAt ss i)));
-      fails = λ back. part-fails now fit i (first .there) small (first .fails) (rw (first .shows) at back);
-      earlier = all-come-back now fit i (omega (arith, first .there)) (first .earlier);
+      fails = λ back. part-fails current fit i (first .there) small (first .fails) (rw (first .shows) at back);
+      earlier = all-come-back current fit i (omega (arith, first .there)) (first .earlier);
     }
 
 -- the whole answer
 
-year-bound : (now : ℤ) → currentYearCheck now ≡ Fine → natAbs now ≤ 9999
+year-bound : (current : ℤ) → currentYearCheck current ≡ Fine → natAbs current ≤ 9999
 unfolding currentYearCheck
 year-bound (pos n) h =
     leb-true n 9999 (both-true (leb 1 n) (leb n 9999) (fine-unless (within 1 9999 n) (CurrentYear (pos n)) h) .1)
 year-bound (negsuc n) h = absurd (let z : _≡_ {A = ℕ} 0 1 = cc in omega arith)
 
-answer-says : (p : List ℕ) (now : ℤ) → trustCheck p now ≡ Fine → (v : Verdict) → Tells 0 (steps Full p) v → Says english p now v
+answer-says : (p : List ℕ) (current : ℤ) → trustCheck p current ≡ Fine → (v : Verdict) → Tells 0 (steps Full p) v → Says english p current v
 unfolding Tells Says
-answer-says p now fine verdict.Yes h =
-    (fine, all-come-back (natAbs now) (steps-fit p) (length (steps Full p)) (omega arith) h)
-answer-says p now fine (verdict.No part f) h =
-    let small = year-bound now (else-fine (patternCheck p) (currentYearCheck now) fine .1) in
+answer-says p current fine verdict.Yes h =
+    (fine, all-come-back (natAbs current) (steps-fit p) (length (steps Full p)) (omega arith) h)
+answer-says p current fine (verdict.No part f) h =
+    let small = year-bound current (else-fine (patternCheck p) (currentYearCheck current) fine .1) in
     let e : part ≡ h .0 = omega (arith, h .1) in
-    (fine, rw e (fails-first (natAbs now) small (steps-fit p) (h .0) f (h .2)))
-answer-says p now fine (verdict.Refused why) h = absurd h
+    (fine, rw e (fails-first (natAbs current) small (steps-fit p) (h .0) f (h .2)))
+answer-says p current fine (verdict.Refused why) h = absurd h
 
-pub verdict-says : (p : List ℕ) (now : ℤ) → Says english p now (verdictOf p now)
+pub verdict-says : (p : List ℕ) (current : ℤ) → Says english p current (verdictOf p current)
 unfolding verdictOf
-verdict-says p now = go (trustCheck p now) refl
+verdict-says p current = go (trustCheck p current) refl
   where
-    go : (c : Checked) → trustCheck p now ≡ c → Says english p now (verdictBy c (firstFailing 0 (steps Full p)))
-    go Fine e = answer-says p now e (firstFailing 0 (steps Full p)) (tells 0 (steps Full p))
+    go : (c : Checked) → trustCheck p current ≡ c → Says english p current (verdictBy c (firstFailing 0 (steps Full p)))
+    go Fine e = answer-says p current e (firstFailing 0 (steps Full p)) (tells 0 (steps Full p))
     go (Refused why) e = unfold Says in e

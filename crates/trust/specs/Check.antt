@@ -3,7 +3,7 @@
 use mathlib.Core.Bool.{Bool, true, false, not}
 use mathlib.Core.List.{List, [], _∷_}
 use Prim.Native.Nat.{ℕ, suc}
-use lib.IntN.{ℤ, pos}
+use lib.IntN.{ℤ, pos, negℤ}
 use Rattle.meaning.specs.Trust.{trustCheck}
 use Rattle.meaning.specs.Writing.{Step, steps}
 use Rattle.meaning.specs.declared.Checked.{Checked}
@@ -25,33 +25,34 @@ meets NoDigit behind = not (digitFirst behind)
 meets NoSecondDigit behind = not (digitSecond behind)
 meets Broken behind = false
 
--- Two records show every failure. Both are real days of the year 1,000,001, whose days are those of 2001, a whole number of
--- cycles of 400 years before. The first is Monday, 1 January, in week 1, at 1:01:01: each of its numbers has one digit.
-abbrev pub oneDigit : Fields
-oneDigit =
-    record { year = pos 1000001; month = 1; day = 1; doy = 1; week = 1; wday = 1; nanos = 3661000000000; offset = pos 3600 }
+-- Two records show every failure. Both are real days of the year 1,000,001, and each has numbers that differ from each other
+-- (`RealDays` of proofs/). The first is Monday, 5 February, at 3:04:07, eight hours ahead: each of its numbers has fewer
+-- digits than a greedy read takes.
+abbrev pub shortNumbers : Fields
+shortNumbers =
+    record { year = pos 1000001; month = 2; day = 5; doy = 36; week = 6; wday = 1; nanos = 11047000000000; offset = pos 28800 }
 
--- The second is Wednesday, 10 October, day 283, in week 41, at 10:10:10: each of its numbers has two digits where it can.
-abbrev pub twoDigits : Fields
-twoDigits =
+-- The second is Friday, 23 November, at 22:38:59, nine hours behind: each of its numbers has as many digits as it can have.
+abbrev pub longNumbers : Fields
+longNumbers =
     record {
       year = pos 1000001;
-      month = 10;
-      day = 10;
-      doy = 283;
-      week = 41;
-      wday = 3;
-      nanos = 36610000000000;
-      offset = pos 3600;
+      month = 11;
+      day = 23;
+      doy = 327;
+      week = 47;
+      wday = 5;
+      nanos = 81539000000000;
+      offset = negℤ (pos 32400);
     }
 
 -- The record that shows a failure: a digit that follows is taken for a short number's own, a long number is cut, and only a
 -- long number has a second digit.
 abbrev pub witness : Need → Fields
-witness Nothing = twoDigits
-witness NoDigit = oneDigit
-witness NoSecondDigit = twoDigits
-witness Broken = twoDigits
+witness Nothing = longNumbers
+witness NoDigit = shortNumbers
+witness NoSecondDigit = longNumbers
+witness Broken = longNumbers
 
 -- the first of these parts that does not hold, counted on from i
 unfoldable pub firstFailing : ℕ → List Step → Verdict
@@ -68,4 +69,4 @@ verdictBy (Refused why) answer = verdict.Refused why
 -- the answer of the check, of the full pair: yes, or no with the part from 0 and the record
 unfoldable pub verdictOf : List ℕ → ℤ → Verdict
 unfolding trustCheck firstFailing steps
-verdictOf p now = verdictBy (trustCheck p now) (firstFailing 0 (steps Full p))
+verdictOf p current = verdictBy (trustCheck p current) (firstFailing 0 (steps Full p))

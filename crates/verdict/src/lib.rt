@@ -34,34 +34,35 @@ fn meets(need: Need, pattern: &[u8], place: usize) -> bool
     }
 }
 
-// Two real days of the year 1,000,001: Monday, 1 January, at 1:01:01, and Wednesday, 10 October, at 10:10:10.
-fn one_digit() -> Fields
-    ensures { λ r. ⌜ r ≡ trust.oneDigit ⌝ }
+// Two real days of the year 1,000,001: Monday, 5 February, at 3:04:07, and Friday, 23 November, at 22:38:59. All their numbers
+// differ, so that none can stand in the place of another.
+fn short_numbers() -> Fields
+    ensures { λ r. ⌜ r ≡ trust.shortNumbers ⌝ }
 {
     Fields {
         year: 1000001,
-        month: 1,
-        day: 1,
-        doy: 1,
-        week: 1,
+        month: 2,
+        day: 5,
+        doy: 36,
+        week: 6,
         wday: 1,
-        nanos: 3661000000000,
-        offset: 3600,
+        nanos: 11047000000000,
+        offset: 28800,
     }
 }
 
-fn two_digits() -> Fields
-    ensures { λ r. ⌜ r ≡ trust.twoDigits ⌝ }
+fn long_numbers() -> Fields
+    ensures { λ r. ⌜ r ≡ trust.longNumbers ⌝ }
 {
     Fields {
         year: 1000001,
-        month: 10,
-        day: 10,
-        doy: 283,
-        week: 41,
-        wday: 3,
-        nanos: 36610000000000,
-        offset: 3600,
+        month: 11,
+        day: 23,
+        doy: 327,
+        week: 47,
+        wday: 5,
+        nanos: 81539000000000,
+        offset: -32400,
     }
 }
 
@@ -70,10 +71,10 @@ fn witness(need: Need) -> Fields
     ensures { λ r. ⌜ r ≡ trust.witness need ⌝ }
 {
     match need {
-        Need::Nothing => two_digits(),
-        Need::NoDigit => one_digit(),
-        Need::NoSecondDigit => two_digits(),
-        Need::Broken => two_digits(),
+        Need::Nothing => long_numbers(),
+        Need::NoDigit => short_numbers(),
+        Need::NoSecondDigit => long_numbers(),
+        Need::Broken => long_numbers(),
     }
 }
 
