@@ -1,6 +1,6 @@
 -- The words for a verdict are few bytes, and two lines that may be printed for a pattern are the same.
-use mathlib.Core.List.{List, [], _∷_}
-use mathlib.Core.Path.{_≡_, refl}
+use mathlib.Core.List.{List, [], _∷_, _++_}
+use mathlib.Core.Path.{_≡_, refl, sym, ap, _∙_}
 use Prim.Native.Nat.{ℕ, _^_, _≤_, _<_}
 use native.Mathlib.Omega.{arith}
 use lib.IntN.{ℤ, pos}
@@ -20,7 +20,7 @@ use Rattle.meaning.specs.declared.Verdict.{Verdict}
 use Rattle.meaning.specs.declared.Verdict.the-variants.{Yes, No, Refused}
 use Rattle.pattern.proofs.parts.Few.{few-steps}
 use Rattle.pattern_check.specs.Line.{PartFits, verdictText, Printed}
-use Rattle.trust.proofs.Agreement.{SameButRecord, answers-coincide}
+use Rattle.trust.proofs.Agreement.{Told, trusted, failsAt, refused, told, answers-coincide}
 
 -- how long the words are
 
@@ -75,19 +75,19 @@ refused-text why = refl
 
 -- one line for a pattern, whatever record a no shows
 
-same-words : (v w : Verdict) → SameButRecord v w → verdictText v ≡ verdictText w
-unfolding verdictText
-same-words Yes Yes h = refl
-same-words Yes (No j g) h = absurd h
-same-words Yes (Refused why) h = absurd h
-same-words (No i f) Yes h = absurd h
-same-words (No i f) (No j g) h = rw h
-same-words (No i f) (Refused why) h = absurd h
-same-words (Refused why) Yes h = absurd h
-same-words (Refused why) (No j g) h = absurd h
-same-words (Refused why) (Refused why′) h = rw h
+toldText : Told → List ℕ
+toldText trusted = bytes "yes"
+toldText (failsAt part) = bytes "no " ++ num 1 part
+toldText (refused why) = bytes "refused " ++ num 1 (number why)
+
+text-told : (v : Verdict) → verdictText v ≡ toldText (told v)
+unfolding verdictText toldText
+text-told Yes = refl
+text-told (No part f) = refl
+text-told (Refused why) = refl
 
 pub lines-coincide : (p old : List ℕ) {new new′ : List ℕ} {r r′ : ℕ} → Printed p old new r → Printed p old new′ r′ → (r ≡ r′) × (new ≡ new′)
 lines-coincide p old a b =
-    let words = same-words (a .verdict) (b .verdict) (answers-coincide english p (pos 2025) (a .verdict) (b .verdict) (a .says) (b .says)) in
+    let same = answers-coincide english p (pos 2025) (a .verdict) (b .verdict) (a .says) (b .says) in
+    let words = text-told (a .verdict) ∙ ap toldText same ∙ sym (text-told (b .verdict)) in
     (rw (a .laid .end, b .laid .end, words), rw (a .laid .held, b .laid .held, words))
