@@ -69,14 +69,14 @@ pub fn fields_check(f: Fields) -> Checked
 }
 
 // 14: the current year is 1 to 9999.
-pub fn current_year_check(now: i32) -> Checked
-    ensures { λ r. ⌜ r ≡ currentYearCheck now ⌝ }
+pub fn current_year_check(year: i32) -> Checked
+    ensures { λ r. ⌜ r ≡ currentYearCheck year ⌝ }
 {
-    if is_negative(now) {
-        return Checked::Refused(Refusal::CurrentYear(now));
+    if is_negative(year) {
+        return Checked::Refused(Refusal::CurrentYear(year));
     }
-    if is_within(1, 9999, size(now) as u64) {
+    if is_within(1, 9999, size(year) as u64) {
         return Checked::Fine;
     }
-    Checked::Refused(Refusal::CurrentYear(now))
+    Checked::Refused(Refusal::CurrentYear(year))
 }

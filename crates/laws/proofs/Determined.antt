@@ -30,8 +30,8 @@ pub writes-coincide : (pair : Pair) (book : Book) (p : List ℕ) (f : Fields) (o
 writes-coincide pair book p f out = determined-both
 
 -- reader::parse and date::parse
-pub reads-coincide : (pair : Pair) (book : Book) (p s : List ℕ) (now : ℤ) {r t : Reading} → Reads pair book p s now r → Reads pair book p s now t → r ≡ t
-reads-coincide pair book p s now = determined
+pub reads-coincide : (pair : Pair) (book : Book) (p s : List ℕ) (current : ℤ) {r t : Reading} → Reads pair book p s current r → Reads pair book p s current t → r ≡ t
+reads-coincide pair book p s current = determined
 
 -- offsets::parse_offset
 pub offsets-coincide : (s : List ℕ) {r t : Offset} → ParsesOffset s r → ParsesOffset s t → r ≡ t

@@ -117,4 +117,4 @@ textCheck s =
 
 -- 14
 unfoldable pub currentYearCheck : ℤ → Checked
-currentYearCheck now = when (isNegative now) (Refused (CurrentYear now)) (refuseUnless (within 1 9999 (natAbs now)) (CurrentYear now))
+currentYearCheck current = when (isNegative current) (Refused (CurrentYear current)) (refuseUnless (within 1 9999 (natAbs current)) (CurrentYear current))

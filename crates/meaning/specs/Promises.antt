@@ -22,7 +22,7 @@ abbrev pub Writes : Pair → Book → List ℕ → Fields → List ℕ → Wrote
 Writes pair book p f out r after = (r ≡ write pair book p f out) × (after ≡ output pair book p f out)
 
 abbrev pub Reads : Pair → Book → List ℕ → List ℕ → ℤ → Reading → Type 0
-Reads pair book p s now r = r ≡ read pair book p s now
+Reads pair book p s current r = r ≡ read pair book p s current
 
 abbrev pub ParsesOffset : List ℕ → Offset → Type 0
 ParsesOffset s r = r ≡ parseOffset s

@@ -73,11 +73,11 @@ takenYear k = takeYear k >>= λ z. done (year z)
 
 -- yy "reads 3 bytes at `-`, else 2 and adds current year / 1000 * 1000"
 abbrev pub millennium : ℕ → ℕ
-millennium now = now / 1000 * 1000
+millennium current = current / 1000 * 1000
 
 abbrev pub twoDigitYear : ℕ → Reader Carried
-twoDigitYear now s =
-    when (eqb (minusFirst s) 1) (takenYear 3 s) ((takeYear 2 >>= λ z. done (year (z +ℤ pos (millennium now)))) s)
+twoDigitYear current s =
+    when (eqb (minusFirst s) 1) (takenYear 3 s) ((takeYear 2 >>= λ z. done (year (z +ℤ pos (millennium current)))) s)
 
 -- a group of a zone. Where it may be missing it is there if its first digit is.
 abbrev pub colonLength : Bool → ℕ
@@ -114,9 +114,9 @@ takenZone z c minutes seconds = zoneSign z >>= zoneBehind (zoneSize c minutes se
 abbrev pub zeroFor : ℕ → ℕ → ℕ
 zeroFor z n = when (eqb n z) 0 n
 
--- so many bytes of a number
-abbrev pub takenNumber : ParseUnit → ℕ → ℕ → Reader Carried
-takenNumber u z k = takeCount k >>= λ n. done (Value u (pos (zeroFor z n)))
+-- so many bytes of a number, as the value of a unit
+abbrev pub takenUnit : ParseUnit → ℕ → ℕ → Reader Carried
+takenUnit u z k = takeCount k >>= λ n. done (Value u (pos (zeroFor z n)))
 
 -- so many bytes that carry nothing
 abbrev pub passed : ℕ → Reader Carried
@@ -132,22 +132,22 @@ matchedLetters book l n = letters n (names book l) >>= λ i. done (nameCarries l
 -- what a symbol reads
 unfoldable pub readRule : Book → ℕ → Rule → Reader Carried
 unfolding reach skip nameCarries names matchName letters digitRun zoneSize zoneSign
-readRule book now (Number q least most u z) s = takenNumber u z (reach (most - least) least s) s
-readRule book now (SkippedNumber q least most) s = passed (reach (most - least) least s) s
-readRule book now LetterQuarter s = passed 2 s
-readRule book now (SkippedName l n) s = passed n s
-readRule book now (MatchedName l) s = matchedName book l s
-readRule book now (Letters l n) s = matchedLetters book l n s
-readRule book now (Years k) s = takenYear (yearLength s) s
-readRule book now (FixedYear k) s = takenYear (minusFirst s + k) s
-readRule book now TwoDigitYear s = twoDigitYear now s
-readRule book now (Zone z c minutes seconds) s = takenZone z c minutes seconds s
+readRule book current (Number q least most u z) s = takenUnit u z (reach (most - least) least s) s
+readRule book current (SkippedNumber q least most) s = passed (reach (most - least) least s) s
+readRule book current LetterQuarter s = passed 2 s
+readRule book current (SkippedName l n) s = passed n s
+readRule book current (MatchedName l) s = matchedName book l s
+readRule book current (Letters l n) s = matchedLetters book l n s
+readRule book current (Years k) s = takenYear (yearLength s) s
+readRule book current (FixedYear k) s = takenYear (minusFirst s + k) s
+readRule book current TwoDigitYear s = twoDigitYear current s
+readRule book current (Zone z c minutes seconds) s = takenZone z c minutes seconds s
 
 -- what a part reads
 unfoldable pub readStep : Book → ℕ → Step → Reader Carried
 unfolding readRule skip
-readStep book now (literal w lost) s = passed (length w) s
-readStep book now (field rule) s = readRule book now rule s
+readStep book current (literal w lost) s = passed (length w) s
+readStep book current (field rule) s = readRule book current rule s
 
 -- "h, K [hour mod 12], H, k [hour]": what a number carries is what this quantity writes
 abbrev pub carriedAs : Quantity → Quantity

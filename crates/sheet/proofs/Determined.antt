@@ -28,9 +28,9 @@ pub writes-coincide : (pair : Pair) (p : List ℕ) (f : Fields) (out : List ℕ)
 writes-coincide pair p f out row w v =
     let g = given-coincide (w .0) (v .0) in (g .0, g .1, determined (w .1) (v .1))
 
-pub reads-coincide : (pair : Pair) (p s : List ℕ) (now : ℤ) (row : List ℤ) {r r′ : ℕ} {rowAfter rowAfter′ : List ℤ}
-    → SheetReads pair p s now row r rowAfter → SheetReads pair p s now row r′ rowAfter′ → (r ≡ r′) × (rowAfter ≡ rowAfter′)
-reads-coincide pair p s now row = given-coincide
+pub reads-coincide : (pair : Pair) (p s : List ℕ) (current : ℤ) (row : List ℤ) {r r′ : ℕ} {rowAfter rowAfter′ : List ℤ}
+    → SheetReads pair p s current row r rowAfter → SheetReads pair p s current row r′ rowAfter′ → (r ≡ r′) × (rowAfter ≡ rowAfter′)
+reads-coincide pair p s current row = given-coincide
 
 pub told-coincide : (mask : ℤ) (unit : ℕ) {r r′ : ℕ} → SheetTellsRead mask unit r → SheetTellsRead mask unit r′ → r ≡ r′
 told-coincide mask unit = determined

@@ -30,7 +30,7 @@ SheetWrites pair p f out row r outAfter rowAfter =
     × (outAfter ≡ when (has 2 row) (output pair english p f out) out)
 
 abbrev pub SheetReads : Pair → List ℕ → List ℕ → ℤ → List ℤ → ℕ → List ℤ → Type 0
-SheetReads pair p s now row r rowAfter = Given (ifRoom (has 18 row) (readAnswer (read pair english p s now))) row rowAfter r
+SheetReads pair p s current row r rowAfter = Given (ifRoom (has 18 row) (readAnswer (read pair english p s current))) row rowAfter r
 
 abbrev pub SheetTellsRead : ℤ → ℕ → ℕ → Type 0
 SheetTellsRead mask unit r = r ≡ when (isMarked mask unit) 1 0
@@ -44,7 +44,7 @@ SheetSplits p row parts r rowAfter partsAfter =
     × (partsAfter ≡ laid (when (both (has 2 row) (has 768 parts)) (splitNumbers (split p)) []) parts)
 
 -- an answer that `Says` allows, which leaves open the failing record
-pub record SheetChecks (p : List ℕ) (now : ℤ) (row : List ℤ) (r : ℕ) (rowAfter : List ℤ) : Type 0 where
+pub record SheetChecks (p : List ℕ) (current : ℤ) (row : List ℤ) (r : ℕ) (rowAfter : List ℤ) : Type 0 where
   pub verdict : Verdict
-  pub says : Says english p now verdict
+  pub says : Says english p current verdict
   pub given : Given (ifRoom (has 10 row) (verdictAnswer verdict)) row rowAfter r

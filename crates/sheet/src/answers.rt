@@ -5,7 +5,7 @@ ghost use Prim.Native.Nat.{_≤_};
 ghost use lib.IntN.{pos, natAbs};
 ghost use lib.ListN.{length};
 ghost use Rattle.refusals.specs.Told.{detailOf};
-ghost use Rattle.sheet.specs.Fits.{Count, WhyFits, WroteFits, OffsetFits};
+ghost use Rattle.sheet.specs.Fits.{NumberFits, WhyFits, WroteFits, OffsetFits};
 ghost use Rattle.sheet.specs.Rows.{Given, accepted, refused, wroteAnswer, offsetAnswer};
 use crate::entries::entry;
 use crate::entries::lay;
@@ -18,7 +18,7 @@ use refusals::Detail;
 use refusals::tell;
 
 fn detail_entry(d: Detail) -> i64
-    requires { ⌜ Count (natAbs (detailOf d)) ⌝ }
+    requires { ⌜ NumberFits (natAbs (detailOf d)) ⌝ }
     ensures { λ r. ⌜ r ≡ detailOf d ⌝ }
 {
     if d.negative {
@@ -46,7 +46,7 @@ pub fn give_refusal(why: Refusal, entries: usize, row: &mut [i64]) -> u32
 
 // A count, then 0.
 pub fn give_count(n: u64, row: &mut [i64]) -> u32
-    requires { ⌜ (2 ≤ length (now row)) × Count n ⌝ }
+    requires { ⌜ (2 ≤ length (now row)) × NumberFits n ⌝ }
     ensures { λ r. ⌜ Given (accepted (pos n ∷ pos 0 ∷ [])) (now (row .entry)) (now (row .exit)) r ⌝ }
 {
     lay(&[entry(n), 0], row, 0);

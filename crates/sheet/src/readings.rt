@@ -5,7 +5,7 @@ ghost use Prim.Native.Nat.{_≤_};
 ghost use lib.IntN.{pos};
 ghost use lib.ListN.{length};
 ghost use Rattle.meaning.specs.Whole.{unitNumber};
-ghost use Rattle.sheet.specs.Fits.{Count, ReadFits};
+ghost use Rattle.sheet.specs.Fits.{NumberFits, ReadFits};
 ghost use Rattle.sheet.specs.Rows.{Given, accepted, readAnswer, isMarked};
 use crate::answers::give_refusal;
 use crate::entries::entry;
@@ -16,7 +16,7 @@ use meaning::Reading;
 use reader::record::was_read;
 
 fn give_values(reading: Reading, row: &mut [i64]) -> u32
-    requires { ⌜ (18 ≤ length (now row)) × Count (reading .taken) ⌝ }
+    requires { ⌜ (18 ≤ length (now row)) × NumberFits (reading .taken) ⌝ }
     ensures { λ r. ⌜ Given (accepted (pos (reading .taken) ∷ pos (reading .mask) ∷ pos (reading .units) ∷ reading .values)) (now (row .entry)) (now (row .exit)) r ⌝ }
 {
     let taken = entry(reading.taken as u64);

@@ -6,7 +6,7 @@ ghost use lib.ListN.{length, replicate};
 ghost use lib.Seq.{sets};
 ghost use Rattle.meaning.specs.Splitting as splitting;
 ghost use Rattle.meaning.specs.Whole.{split};
-ghost use Rattle.sheet.specs.Fits.{Count};
+ghost use Rattle.sheet.specs.Fits.{NumberFits};
 ghost use Rattle.sheet.specs.Rows.{Given, laid, kindNumber, partNumbers, splitAnswer, splitNumbers};
 use crate::answers::give_count;
 use crate::answers::give_refusal;
@@ -31,7 +31,7 @@ fn kind_number(kind: Kind) -> u64
 }
 
 fn lay_part(part: Part, row: &mut [i64], at: usize)
-    requires { ⌜ (at + 3 ≤ length (now row)) × Count (part .start) × Count (part .length) ⌝ }
+    requires { ⌜ (at + 3 ≤ length (now row)) × NumberFits (part .start) × NumberFits (part .length) ⌝ }
     ensures { λ _. ⌜ now (row .exit) ≡ sets (now (row .entry)) at (partNumbers (part ∷ [])) ⌝ }
 {
     let kind = part.kind;

@@ -3,7 +3,7 @@ ghost use mathlib.Core.List.{_∷_};
 ghost use Prim.Native.Nat.{_≤_};
 ghost use lib.IntN.{pos};
 ghost use lib.ListN.{length};
-ghost use Rattle.sheet.specs.Fits.{Count, VerdictFits};
+ghost use Rattle.sheet.specs.Fits.{NumberFits, VerdictFits};
 ghost use Rattle.sheet.specs.Rows.{Given, accepted, verdictAnswer, fieldNumbers};
 use crate::answers::give_refusal;
 use crate::entries::entry;
@@ -14,7 +14,7 @@ use meaning::Fields;
 use meaning::Verdict;
 
 fn give_no(part: usize, f: Fields, row: &mut [i64]) -> u32
-    requires { ⌜ (10 ≤ length (now row)) × Count part × Count (f .nanos) ⌝ }
+    requires { ⌜ (10 ≤ length (now row)) × NumberFits part × NumberFits (f .nanos) ⌝ }
     ensures { λ r. ⌜ Given (accepted (pos 0 ∷ pos part ∷ fieldNumbers f)) (now (row .entry)) (now (row .exit)) r ⌝ }
 {
     let numbers = [

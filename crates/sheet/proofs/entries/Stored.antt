@@ -19,7 +19,7 @@ use Rattle.meaning.specs.declared.Refusal.{Refusal}
 use Rattle.refusals.proofs.Integers.{detailsOf}
 use Rattle.refusals.specs.Told.{detailOf}
 use Rattle.refusals.specs.declared.Told.{Told}
-use Rattle.sheet.specs.Fits.{WhyFits, Count}
+use Rattle.sheet.specs.Fits.{WhyFits, NumberFits}
 use Rattle.sheet.specs.Rows.{laid, refused, kindNumber}
 
 -- what a call gave, as it is stored
@@ -31,15 +31,15 @@ size-of true zero = refl
 size-of true (suc n) = refl
 size-of false n = refl
 
-pub negated-fits : (n : ℕ) → Count n → SFits w64 (negℤ (pos n))
+pub negated-fits : (n : ℕ) → NumberFits n → SFits w64 (negℤ (pos n))
 negated-fits zero h = record { sfits = omega arith }
 negated-fits (suc n) h = record { sfits = omega arith }
 
 module _ (told : Told) (why : Refusal) (tells : detailsOf told ≡ details why) where
-  pub first-fits : WhyFits why → Count (natAbs (detailOf (told .first)))
+  pub first-fits : WhyFits why → NumberFits (natAbs (detailOf (told .first)))
   first-fits fits = (rw (← tells) at fits) .0
 
-  pub second-fits : WhyFits why → told .two ≡ true → Count (natAbs (detailOf (told .second)))
+  pub second-fits : WhyFits why → told .two ≡ true → NumberFits (natAbs (detailOf (told .second)))
   second-fits fits two = (rw two at (rw (← tells) at fits) .1) .0
 
   pub two-details : (entries : ℕ) (old : List ℤ) → told .two ≡ true
@@ -52,7 +52,7 @@ module _ (told : Told) (why : Refusal) (tells : detailsOf told ≡ details why) 
       ≡ laid (refused entries why .row) old
   one-detail entries old one = rw (← tells, one)
 
-pub kind-fits : (kind : Kind) → Count (kindNumber kind)
+pub kind-fits : (kind : Kind) → NumberFits (kindNumber kind)
 kind-fits Run = omega arith
 kind-fits Quotes = omega arith
 kind-fits Quoted = omega arith
