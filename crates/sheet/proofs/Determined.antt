@@ -10,12 +10,13 @@ use lib.ListN.{length, getD, take, drop}
 use lib.Seq.{sets-eq}
 use borrow.Author.Tests.{leb-true}
 use Rattle.laws.proofs.Determined.{determined}
+use Rattle.meaning.specs.Answers.{Answer, fieldNumbers, verdictAnswer}
 use Rattle.meaning.specs.Names.{english}
 use Rattle.meaning.specs.declared.Fields.{Fields}
 use Rattle.meaning.specs.declared.Pair.{Pair}
 use Rattle.meaning.specs.declared.Verdict.{Verdict}
 use Rattle.meaning.specs.declared.Verdict.the-variants.{Yes, No, Refused}
-use Rattle.sheet.specs.Rows.{Answer, Given, accepted, fieldNumbers, verdictAnswer}
+use Rattle.sheet.specs.Rows.{inRow, Given}
 use Rattle.sheet.specs.Sheet.{has, ifRoom, SheetWrites, SheetReads, SheetTellsRead, SheetParsesOffset, SheetSplits, SheetChecks}
 use Rattle.trust.proofs.Agreement.{SameButRecord, answers-coincide}
 
@@ -67,7 +68,7 @@ noNumbers part f = pos 0 ∷ pos part ∷ fieldNumbers f
 
 module _ {row after after′ : List ℤ} {r r′ : ℕ} where
   no-check : (part : ℕ) (f g : Fields) → 10 ≤ length row
-      → Given (accepted (noNumbers part f)) row after r → Given (accepted (noNumbers part g)) row after′ r′ → SameCheck r r′ after after′
+      → Given (inRow 10 (verdictAnswer (No part f))) row after r → Given (inRow 10 (verdictAnswer (No part g))) row after′ r′ → SameCheck r r′ after after′
   no-check part f g h x y =
       let e : after ≡ noNumbers part f ++ drop 10 row = x .row ∙ sets-eq (noNumbers part f) row 0 h in
       let e′ : after′ ≡ noNumbers part g ++ drop 10 row = y .row ∙ sets-eq (noNumbers part g) row 0 h in
@@ -79,7 +80,7 @@ module _ {row after after′ : List ℤ} {r r′ : ℕ} where
       }
 
   verdicts-coincide : (v w : Verdict) → 10 ≤ length row → SameButRecord v w
-      → Given (verdictAnswer v) row after r → Given (verdictAnswer w) row after′ r′ → SameCheck r r′ after after′
+      → Given (inRow 10 (verdictAnswer v)) row after r → Given (inRow 10 (verdictAnswer w)) row after′ r′ → SameCheck r r′ after after′
   verdicts-coincide Yes Yes h e x y = same-check (given-coincide x y)
   verdicts-coincide Yes (No j g) h e x y = absurd e
   verdicts-coincide Yes (Refused why) h e x y = absurd e
@@ -91,7 +92,7 @@ module _ {row after after′ : List ℤ} {r r′ : ℕ} where
   verdicts-coincide (Refused why) (Refused why′) h e x y = same-check (given-coincide x (rw (← e) at y))
 
   checks-by : (room : Bool) (v w : Verdict) → (room ≡ true → 10 ≤ length row) → SameButRecord v w
-      → Given (ifRoom room (verdictAnswer v)) row after r → Given (ifRoom room (verdictAnswer w)) row after′ r′ → SameCheck r r′ after after′
+      → Given (ifRoom room (inRow 10 (verdictAnswer v))) row after r → Given (ifRoom room (inRow 10 (verdictAnswer w))) row after′ r′ → SameCheck r r′ after after′
   checks-by true v w h e x y = verdicts-coincide v w (h refl) e x y
   checks-by false v w h e x y = same-check (given-coincide x y)
 

@@ -4,9 +4,10 @@ ghost use mathlib.Core.Path.{_≡_};
 ghost use Prim.Native.Nat.{_≤_};
 ghost use lib.IntN.{pos};
 ghost use lib.ListN.{length};
+ghost use Rattle.meaning.specs.Answers.{accepted, readAnswer};
 ghost use Rattle.meaning.specs.Whole.{unitNumber};
 ghost use Rattle.sheet.specs.Fits.{NumberFits, ReadFits};
-ghost use Rattle.sheet.specs.Rows.{Given, accepted, readAnswer, isMarked};
+ghost use Rattle.sheet.specs.Rows.{inRow, Given, isMarked};
 use crate::answers::give_refusal;
 use crate::entries::entry;
 use crate::entries::lay;
@@ -30,7 +31,7 @@ fn give_values(reading: Reading, row: &mut [i64]) -> u32
 
 pub fn give_reading(reading: Reading, row: &mut [i64]) -> u32
     requires { ⌜ (18 ≤ length (now row)) × ReadFits reading ⌝ }
-    ensures { λ r. ⌜ Given (readAnswer reading) (now (row .entry)) (now (row .exit)) r ⌝ }
+    ensures { λ r. ⌜ Given (inRow 18 (readAnswer reading)) (now (row .entry)) (now (row .exit)) r ⌝ }
 {
     let checked = reading.checked;
     match checked {

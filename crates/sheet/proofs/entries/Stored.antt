@@ -11,7 +11,7 @@ use lib.Signed.{mag}
 use mir.Syntax.{w64}
 use mir.Val.{SFits, toZ, ofZ}
 use mir.ValLaws.{toZ-ofZ}
-use Rattle.meaning.specs.Answers.{details}
+use Rattle.meaning.specs.Answers.{details, refused}
 use Rattle.meaning.specs.Numerals.{integer}
 use Rattle.meaning.specs.declared.Kind.{Kind}
 use Rattle.meaning.specs.declared.Kind.the-variants.{Run, Quotes, Quoted, Open}
@@ -20,7 +20,7 @@ use Rattle.refusals.proofs.Integers.{detailsOf}
 use Rattle.refusals.specs.Told.{detailOf}
 use Rattle.refusals.specs.declared.Told.{Told}
 use Rattle.sheet.specs.Fits.{WhyFits, NumberFits}
-use Rattle.sheet.specs.Rows.{laid, refused, kindNumber}
+use Rattle.sheet.specs.Rows.{inRow, laid, kindNumber}
 
 -- what a call gave, as it is stored
 pub stored : (z : ℤ) → mag z < 2 ^ 63 → toZ w64 (ofZ w64 z) ≡ z
@@ -44,12 +44,12 @@ module _ (told : Told) (why : Refusal) (tells : detailsOf told ≡ details why) 
 
   pub two-details : (entries : ℕ) (old : List ℤ) → told .two ≡ true
       → sets (sets old 0 (detailOf (told .first) ∷ detailOf (told .second) ∷ [])) 2 (replicate (entries - 2) (pos 0))
-      ≡ laid (refused entries why .row) old
+      ≡ laid (inRow entries (refused why) .values) old
   two-details entries old two = rw (← tells, two)
 
   pub one-detail : (entries : ℕ) (old : List ℤ) → told .two ≡ false
       → sets (sets old 0 (detailOf (told .first) ∷ [])) 1 (replicate (entries - 1) (pos 0))
-      ≡ laid (refused entries why .row) old
+      ≡ laid (inRow entries (refused why) .values) old
   one-detail entries old one = rw (← tells, one)
 
 pub kind-fits : (kind : Kind) → NumberFits (kindNumber kind)
