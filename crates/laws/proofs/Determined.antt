@@ -5,8 +5,9 @@ use mathlib.Core.List.{List}
 use mathlib.Core.Path.{_≡_, sym, _∙_}
 use Prim.Native.Nat.{ℕ}
 use lib.IntN.{ℤ}
+use Rattle.meaning.specs.Answers.{Answer}
 use Rattle.meaning.specs.Names.{Book}
-use Rattle.meaning.specs.Promises.{Splits, Writes, Reads, ParsesOffset, TellsRead}
+use Rattle.meaning.specs.Promises.{SameAnswer, Splits, Writes, Reads, ParsesOffset, TellsRead}
 use Rattle.meaning.specs.declared.Fields.{Fields}
 use Rattle.meaning.specs.declared.Offset.{Offset}
 use Rattle.meaning.specs.declared.Pair.{Pair}
@@ -18,25 +19,25 @@ use Rattle.meaning.specs.declared.Wrote.{Wrote}
 pub determined : {A : Type 0} {d r s : A} → r ≡ d → s ≡ d → r ≡ s
 determined e f = e ∙ sym f
 
-pub determined-both : {A B : Type 0} {d r s : A} {o p q : B} → (r ≡ d) × (p ≡ o) → (s ≡ d) × (q ≡ o) → (r ≡ s) × (p ≡ q)
-determined-both e f = (determined (e .0) (f .0), determined (e .1) (f .1))
+pub same-determined : {A : Type 0} {answer : A → Answer} {d r s : A} → SameAnswer answer r d → SameAnswer answer s d → r ≡ s
+same-determined e f = determined (e .whole) (f .whole)
 
 -- pattern::parse_format_string
 pub splits-coincide : (p : List ℕ) {r s : Split} → Splits p r → Splits p s → r ≡ s
-splits-coincide p = determined
+splits-coincide p = same-determined
 
--- writer::format and date::format
+-- writer::format and writer::date::format
 pub writes-coincide : (pair : Pair) (book : Book) (p : List ℕ) (f : Fields) (out : List ℕ) {r s : Wrote} {after after′ : List ℕ} → Writes pair book p f out r after → Writes pair book p f out s after′ → (r ≡ s) × (after ≡ after′)
-writes-coincide pair book p f out = determined-both
+writes-coincide pair book p f out w v = (same-determined (w .0) (v .0), determined (w .1) (v .1))
 
--- reader::parse and date::parse
-pub reads-coincide : (pair : Pair) (book : Book) (p s : List ℕ) (now : ℤ) {r t : Reading} → Reads pair book p s now r → Reads pair book p s now t → r ≡ t
-reads-coincide pair book p s now = determined
+-- reader::parse and reader::date::parse
+pub reads-coincide : (pair : Pair) (book : Book) (p s : List ℕ) (current : ℤ) {r t : Reading} → Reads pair book p s current r → Reads pair book p s current t → r ≡ t
+reads-coincide pair book p s current = same-determined
 
--- offsets::parse_offset
+-- reader::offset::parse_offset
 pub offsets-coincide : (s : List ℕ) {r t : Offset} → ParsesOffset s r → ParsesOffset s t → r ≡ t
-offsets-coincide s = determined
+offsets-coincide s = same-determined
 
--- reading::was_read
+-- reader::record::was_read
 pub told-coincide : (mask : ℕ) (unit : ParseUnit) {r s : Bool} → TellsRead mask unit r → TellsRead mask unit s → r ≡ s
 told-coincide mask unit = determined

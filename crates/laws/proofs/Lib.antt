@@ -11,5 +11,6 @@ pub mod Sizes
 pub mod Splitting
 pub mod Tests
 pub mod Texts
+pub mod Told
 pub mod Years
 pub mod Zones

@@ -54,15 +54,15 @@ module _ (least most : ℕ) (s r : List ℕ) (from : least ≤ length s) (some�
       reach-exact (most - least) least (s ++ r) (length s) from (omega arith) (λ j k. digit-in s r all j k)
       (λ k. digit-behind s r ∙ free (omega arith))
 
-  pub taken-comes-back : (book : Book) (now : ℕ) (q : Quantity) (u : ParseUnit) (z : ℕ) → decimal 0 s ≤ 4294967295
-      → readRule book now (Number q least most u z) (s ++ r) ≡ got (length s) (Value u (pos (zeroFor z (decimal 0 s))))
+  pub taken-comes-back : (book : Book) (current : ℕ) (q : Quantity) (u : ParseUnit) (z : ℕ) → decimal 0 s ≤ 4294967295
+      → readRule book current (Number q least most u z) (s ++ r) ≡ got (length s) (Value u (pos (zeroFor z (decimal 0 s))))
   unfolding readRule
-  taken-comes-back book now q u z small =
+  taken-comes-back book current q u z small =
       let n : Signed = record { negative = false; size = decimal 0 s } in
       let number : numberOf Count (take (length s) (s ++ r)) ≡ some n = rw take-append-seam (digits-come-back Count s some′ all small) in
       rw (reaches, take-goes-on Count (length s) (s ++ r) n (simp length-append (omega arith)) number) (simp add-zero)
 
-  pub skipped-comes-back : (book : Book) (now : ℕ) (q : Quantity) → readRule book now (SkippedNumber q least most) (s ++ r) ≡ got (length s) Nothing
+  pub skipped-comes-back : (book : Book) (current : ℕ) (q : Quantity) → readRule book current (SkippedNumber q least most) (s ++ r) ≡ got (length s) Nothing
   unfolding readRule
-  skipped-comes-back book now q =
+  skipped-comes-back book current q =
       rw (reaches, skip-goes-on (length s) (s ++ r) (simp length-append (omega arith)), add-zero)

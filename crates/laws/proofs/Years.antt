@@ -73,26 +73,26 @@ module _ (k n : ℕ) (small : n ≤ 5879611) where
       let seven : 10 ^ 7 ≤ 10 ^ k = pow-le-pow-right (omega arith) {i = 7} h in
       num-fits k n (omega arith) (omega arith)
 
-pub years-come-back : (book : Book) (now k : ℕ) (z : ℤ) (r : List ℕ) → natAbs z ≤ 5879611 → digitAt 0 r ≡ false
-    → readRule book now (Years k) (signedText k z ++ r) ≡ got (length (signedText k z)) (year z)
+pub years-come-back : (book : Book) (current k : ℕ) (z : ℤ) (r : List ℕ) → natAbs z ≤ 5879611 → digitAt 0 r ≡ false
+    → readRule book current (Years k) (signedText k z ++ r) ≡ got (length (signedText k z)) (year z)
 unfolding readRule signedText
-years-come-back book now k (pos n) r small free =
+years-come-back book current k (pos n) r small free =
     let length′ : minusFirst (num k n ++ r) + digitRun (drop (minusFirst (num k n ++ r)) (num k n ++ r)) ≡ length (num k n)
     = rw (no-minus (num k n) r (all-num k n) (num-some k n)) (omega (arith, run-of-digits (num k n) r (all-num k n) free)) in
     year-carried _ (num k n) r _ length′ (positive k n small)
-years-come-back book now k (negsuc n) r small free =
+years-come-back book current k (negsuc n) r small free =
     let length′ : 1 + digitRun (num k (suc n) ++ r) ≡ suc (length (num k (suc n)))
     = omega (arith, run-of-digits (num k (suc n)) r (all-num k (suc n)) free) in
     year-carried _ (minus ∷ num k (suc n)) r _ length′ (negative′ k (suc n) small)
 
-pub fixed-year-comes-back : (book : Book) (now k : ℕ) (z : ℤ) (r : List ℕ) → natAbs z ≤ 5879611 → 7 ≤ k
-    → readRule book now (FixedYear k) (signedText k z ++ r) ≡ got (length (signedText k z)) (year z)
+pub fixed-year-comes-back : (book : Book) (current k : ℕ) (z : ℤ) (r : List ℕ) → natAbs z ≤ 5879611 → 7 ≤ k
+    → readRule book current (FixedYear k) (signedText k z ++ r) ≡ got (length (signedText k z)) (year z)
 unfolding readRule signedText
-fixed-year-comes-back book now k (pos n) r small seven =
+fixed-year-comes-back book current k (pos n) r small seven =
     let length′ : minusFirst (num k n ++ r) + k ≡ length (num k n)
     = rw (no-minus (num k n) r (all-num k n) (num-some k n)) (omega (arith, seven-digits k n small seven)) in
     year-carried _ (num k n) r _ length′ (positive k n small)
-fixed-year-comes-back book now k (negsuc n) r small seven =
+fixed-year-comes-back book current k (negsuc n) r small seven =
     let length′ : 1 + k ≡ suc (length (num k (suc n))) = omega (arith, seven-digits k (suc n) small seven) in
     year-carried _ (minus ∷ num k (suc n)) r _ length′ (negative′ k (suc n) small)
 

@@ -161,7 +161,7 @@ sign-read true false s = refl
 sign-read false true s = refl
 sign-read false false s = refl
 
-module _ (book : Book) (now : ℕ) (utc′ c : Bool) (minutes seconds : Group) (has-minutes : isNever minutes ≡ false) where
+module _ (book : Book) (current : ℕ) (utc′ c : Bool) (minutes seconds : Group) (has-minutes : isNever minutes ≡ false) where
   -- what is read behind a sign, and what that is worth
   signed-comes-back : (z : ℤ) (r : List ℕ) → natAbs z ≤ 86399 → Free c minutes (groupText c seconds (natAbs z % 60) ++ r) → Free c seconds r
       → (zoneSign utc′ >>= zoneBehind (zoneSize c minutes seconds)) (when (isNegative z) minus plus ∷ num 2 (natAbs z / 3600) ++ (groupsText c minutes seconds (natAbs z) ++ r))
@@ -172,7 +172,7 @@ module _ (book : Book) (now : ℕ) (utc′ c : Bool) (minutes seconds : Group) (
       rw (sign-read utc′ true _, size-comes-back c minutes seconds (suc n) r small free free′, offset-size c minutes seconds (negsuc n), add-zero, value-is minutes has-minutes seconds (suc n), carried-behind seconds n)
 
   offset-comes-back : (z : ℤ) (r : List ℕ) → natAbs z ≤ 86399 → Free c minutes (groupText c seconds (natAbs z % 60) ++ r) → Free c seconds r
-      → readRule book now (Zone utc′ c minutes seconds) (offsetText c minutes seconds z ++ r)
+      → readRule book current (Zone utc′ c minutes seconds) (offsetText c minutes seconds z ++ r)
       ≡ got (length (offsetText c minutes seconds z)) (Value unit.Offset (carriedOffset seconds z))
   unfolding readRule
   offset-comes-back z r small free free′ =
@@ -185,18 +185,18 @@ no-offset Always (pos n) e = rw e
 no-offset seconds (negsuc n) e = absurd (omega arith)
 
 -- Z, which stands for no offset
-z-comes-back : (book : Book) (now : ℕ) (c : Bool) (minutes seconds : Group) (z : ℤ) (r : List ℕ) → natAbs z ≡ 0
-    → readRule book now (Zone true c minutes seconds) (code "Z" ∷ r) ≡ got 1 (Value unit.Offset (carriedOffset seconds z))
+z-comes-back : (book : Book) (current : ℕ) (c : Bool) (minutes seconds : Group) (z : ℤ) (r : List ℕ) → natAbs z ≡ 0
+    → readRule book current (Zone true c minutes seconds) (code "Z" ∷ r) ≡ got 1 (Value unit.Offset (carriedOffset seconds z))
 unfolding readRule zoneSign
-z-comes-back book now c minutes seconds z r e = rw (no-offset seconds z e)
+z-comes-back book current c minutes seconds z r e = rw (no-offset seconds z e)
 
-pub zone-comes-back : (book : Book) (now : ℕ) (utc′ c : Bool) (minutes seconds : Group) → isNever minutes ≡ false → (z : ℤ) (r : List ℕ)
+pub zone-comes-back : (book : Book) (current : ℕ) (utc′ c : Bool) (minutes seconds : Group) → isNever minutes ≡ false → (z : ℤ) (r : List ℕ)
     → natAbs z ≤ 86399 → Free c minutes (groupText c seconds (natAbs z % 60) ++ r) → Free c seconds r
-    → readRule book now (Zone utc′ c minutes seconds) (zoneText utc′ c minutes seconds z ++ r)
+    → readRule book current (Zone utc′ c minutes seconds) (zoneText utc′ c minutes seconds z ++ r)
     ≡ got (length (zoneText utc′ c minutes seconds z)) (Value unit.Offset (carriedOffset seconds z))
-zone-comes-back book now utc′ c minutes seconds has z r small free free′ =
+zone-comes-back book current utc′ c minutes seconds has z r small free free′ =
     by-test (both utc′ (eqb (natAbs z) 0))
     (λ e.
     let t = both-true utc′ (eqb (natAbs z) 0) e in
-    rw (e, t .0) (z-comes-back book now c minutes seconds z r (eqb-true (natAbs z) 0 (t .1))))
-    (λ e. rw e (offset-comes-back book now utc′ c minutes seconds has z r small free free′))
+    rw (e, t .0) (z-comes-back book current c minutes seconds z r (eqb-true (natAbs z) 0 (t .1))))
+    (λ e. rw e (offset-comes-back book current utc′ c minutes seconds has z r small free free′))

@@ -1,5 +1,5 @@
--- Document 01, "Answer numbers": each refusal's number and what it returns, and the checks that give refusals 1 to 7 and 14.
--- The checks of a function stand in its order, in Whole.
+-- Document 01, "Answer numbers": each refusal's number and what it returns; the number and the values of each kind of answer;
+-- and the checks that give refusals 1 to 7 and 14. The checks of a function stand in its order, in Whole.
 use mathlib.Core.Bool.{Bool, true, false}
 use mathlib.Core.List.{List, [], _∷_}
 use Prim.Native.Nat.{ℕ, suc, _-_}
@@ -12,10 +12,18 @@ use Rattle.meaning.specs.Writing.{isNegative}
 use Rattle.meaning.specs.declared.Checked.{Checked}
 use Rattle.meaning.specs.declared.Checked.the-variants.{Fine, Refused}
 use Rattle.meaning.specs.declared.Fields.{Fields}
+use Rattle.meaning.specs.declared.Offset.{Offset}
+use Rattle.meaning.specs.declared.Offset.the-variants as offset
+use Rattle.meaning.specs.declared.Reading.{Reading}
 use Rattle.meaning.specs.declared.Refusal.{Refusal}
 use Rattle.meaning.specs.declared.Refusal.the-variants.{PatternTooLong, PatternByte, LoneQuote, FieldRange, NoRoom, TextTooLong, TextByte, InPart, OffsetLength, OffsetRange, CurrentYear}
+use Rattle.meaning.specs.declared.Split.{Split}
 use Rattle.meaning.specs.declared.Trouble.{Trouble}
 use Rattle.meaning.specs.declared.Trouble.the-variants.{TooFew, NoNumber, NoName, NoSign}
+use Rattle.meaning.specs.declared.Verdict.{Verdict}
+use Rattle.meaning.specs.declared.Verdict.the-variants as verdict
+use Rattle.meaning.specs.declared.Wrote.{Wrote}
+use Rattle.meaning.specs.declared.Wrote.the-variants as wrote
 
 abbrev pub troubleNumber : Trouble → ℕ
 troubleNumber TooFew = 8
@@ -49,6 +57,50 @@ details (InPart why part place) = pos part ∷ pos place ∷ []
 details (OffsetLength n) = pos n ∷ []
 details (OffsetRange which) = pos which ∷ []
 details (CurrentYear year) = year ∷ []
+
+-- an answer's number, 0 where it is accepted, and what is returned with it
+pub record Answer : Type 0 where
+  pub number : ℕ
+  pub values : List ℤ
+
+abbrev pub accepted : List ℤ → Answer
+accepted values = record { number = 0; values = values }
+
+abbrev pub refused : Refusal → Answer
+refused why = record { number = number why; values = details why }
+
+abbrev pub answerBy : Checked → List ℤ → Answer
+answerBy Fine values = accepted values
+answerBy (Refused why) values = refused why
+
+-- how many parts
+abbrev pub splitAnswer : Split → Answer
+splitAnswer s = answerBy (s .checked) (pos (s .used) ∷ [])
+
+-- the length of the text
+abbrev pub wroteAnswer : Wrote → Answer
+wroteAnswer (wrote.Length n) = accepted (pos n ∷ [])
+wroteAnswer (wrote.Refused why) = refused why
+
+-- the bytes read, the mask, how many units, and the fifteen values
+abbrev pub readAnswer : Reading → Answer
+readAnswer r = answerBy (r .checked) (pos (r .taken) ∷ pos (r .mask) ∷ pos (r .units) ∷ r .values)
+
+-- the seconds
+abbrev pub offsetAnswer : Offset → Answer
+offsetAnswer (offset.Seconds z) = accepted (z ∷ [])
+offsetAnswer (offset.Refused why) = refused why
+
+-- the eight fields
+abbrev pub fieldNumbers : Fields → List ℤ
+fieldNumbers f =
+    f .year ∷ pos (f .month) ∷ pos (f .day) ∷ pos (f .doy) ∷ pos (f .week) ∷ pos (f .wday) ∷ pos (f .nanos) ∷ f .offset ∷ []
+
+-- 1 for yes; 0 for no, with the part and a record for which it fails
+abbrev pub verdictAnswer : Verdict → Answer
+verdictAnswer verdict.Yes = accepted (pos 1 ∷ [])
+verdictAnswer (verdict.No part f) = accepted (pos 0 ∷ pos part ∷ fieldNumbers f)
+verdictAnswer (verdict.Refused why) = refused why
 
 -- the first check that refuses
 abbrev pub _else_ : Checked → Checked → Checked
@@ -117,4 +169,4 @@ textCheck s =
 
 -- 14
 unfoldable pub currentYearCheck : ℤ → Checked
-currentYearCheck now = when (isNegative now) (Refused (CurrentYear now)) (refuseUnless (within 1 9999 (natAbs now)) (CurrentYear now))
+currentYearCheck current = when (isNegative current) (Refused (CurrentYear current)) (refuseUnless (within 1 9999 (natAbs current)) (CurrentYear current))

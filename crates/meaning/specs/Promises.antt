@@ -5,6 +5,7 @@ use mathlib.Core.List.{List}
 use mathlib.Core.Path.{_≡_}
 use Prim.Native.Nat.{ℕ}
 use lib.IntN.{ℤ}
+use Rattle.meaning.specs.Answers.{Answer, splitAnswer, wroteAnswer, readAnswer, offsetAnswer}
 use Rattle.meaning.specs.Names.{Book}
 use Rattle.meaning.specs.Whole.{split, write, output, read, parseOffset, unitNumber, marked}
 use Rattle.meaning.specs.declared.Fields.{Fields}
@@ -15,17 +16,23 @@ use Rattle.meaning.specs.declared.Reading.{Reading}
 use Rattle.meaning.specs.declared.Split.{Split}
 use Rattle.meaning.specs.declared.Wrote.{Wrote}
 
+-- r is the answer d: by document 01's number and values, and in all that it holds. Where the answer is an enum either says the
+-- other.
+pub record SameAnswer {A : Type 0} (answer : A → Answer) (r d : A) : Type 0 where
+  pub told : answer r ≡ answer d
+  pub whole : r ≡ d
+
 abbrev pub Splits : List ℕ → Split → Type 0
-Splits p r = r ≡ split p
+Splits p r = SameAnswer splitAnswer r (split p)
 
 abbrev pub Writes : Pair → Book → List ℕ → Fields → List ℕ → Wrote → List ℕ → Type 0
-Writes pair book p f out r after = (r ≡ write pair book p f out) × (after ≡ output pair book p f out)
+Writes pair book p f out r after = SameAnswer wroteAnswer r (write pair book p f out) × (after ≡ output pair book p f out)
 
 abbrev pub Reads : Pair → Book → List ℕ → List ℕ → ℤ → Reading → Type 0
-Reads pair book p s now r = r ≡ read pair book p s now
+Reads pair book p s current r = SameAnswer readAnswer r (read pair book p s current)
 
 abbrev pub ParsesOffset : List ℕ → Offset → Type 0
-ParsesOffset s r = r ≡ parseOffset s
+ParsesOffset s r = SameAnswer offsetAnswer r (parseOffset s)
 
 abbrev pub TellsRead : ℕ → ParseUnit → Bool → Type 0
 TellsRead mask unit r = r ≡ marked mask (unitNumber unit)

@@ -9,6 +9,7 @@ use lib.ListN.{length, drop}
 use Rattle.meaning.specs.Bytes.{when, isDigit, digitAt, minus}
 use Rattle.meaning.specs.Names.{Book, names}
 use Rattle.meaning.specs.Readers.{Reader, _>>=_, _>>_, done, skip, takeCount, takeYear, reach, ifDigit, matchName, letters, ZoneSign, utc, ahead, behindUtc, zoneSign}
+use Rattle.meaning.specs.UnitSizes.{secondsPerHour, secondsPerMinute}
 use Rattle.meaning.specs.Writing.{quantityOf, secondOfDay, isNegative, Step, literal, field}
 use Rattle.meaning.specs.declared.Carried.{Carried}
 use Rattle.meaning.specs.declared.Carried.the-variants.{Nothing, Value}
@@ -73,11 +74,11 @@ takenYear k = takeYear k >>= λ z. done (year z)
 
 -- yy "reads 3 bytes at `-`, else 2 and adds current year / 1000 * 1000"
 abbrev pub millennium : ℕ → ℕ
-millennium now = now / 1000 * 1000
+millennium current = current / 1000 * 1000
 
 abbrev pub twoDigitYear : ℕ → Reader Carried
-twoDigitYear now s =
-    when (eqb (minusFirst s) 1) (takenYear 3 s) ((takeYear 2 >>= λ z. done (year (z +ℤ pos (millennium now)))) s)
+twoDigitYear current s =
+    when (eqb (minusFirst s) 1) (takenYear 3 s) ((takeYear 2 >>= λ z. done (year (z +ℤ pos (millennium current)))) s)
 
 -- a group of a zone. Where it may be missing it is there if its first digit is.
 abbrev pub colonLength : Bool → ℕ
@@ -100,7 +101,7 @@ zoneSize c minutes seconds = do
   hh ← takeCount 2
   mm ← zoneGroup c minutes
   ss ← zoneGroup c seconds
-  done (hh * 3600 + mm * 60 + ss)
+  done (hh * secondsPerHour + mm * secondsPerMinute + ss)
 
 abbrev pub zoneBehind : Reader ℕ → ZoneSign → Reader ℤ
 zoneBehind size utc = done (pos 0)
@@ -114,9 +115,9 @@ takenZone z c minutes seconds = zoneSign z >>= zoneBehind (zoneSize c minutes se
 abbrev pub zeroFor : ℕ → ℕ → ℕ
 zeroFor z n = when (eqb n z) 0 n
 
--- so many bytes of a number
-abbrev pub takenNumber : ParseUnit → ℕ → ℕ → Reader Carried
-takenNumber u z k = takeCount k >>= λ n. done (Value u (pos (zeroFor z n)))
+-- so many bytes of a number, as the value of a unit
+abbrev pub takenUnit : ParseUnit → ℕ → ℕ → Reader Carried
+takenUnit u z k = takeCount k >>= λ n. done (Value u (pos (zeroFor z n)))
 
 -- so many bytes that carry nothing
 abbrev pub passed : ℕ → Reader Carried
@@ -132,22 +133,22 @@ matchedLetters book l n = letters n (names book l) >>= λ i. done (nameCarries l
 -- what a symbol reads
 unfoldable pub readRule : Book → ℕ → Rule → Reader Carried
 unfolding reach skip nameCarries names matchName letters digitRun zoneSize zoneSign
-readRule book now (Number q least most u z) s = takenNumber u z (reach (most - least) least s) s
-readRule book now (SkippedNumber q least most) s = passed (reach (most - least) least s) s
-readRule book now LetterQuarter s = passed 2 s
-readRule book now (SkippedName l n) s = passed n s
-readRule book now (MatchedName l) s = matchedName book l s
-readRule book now (Letters l n) s = matchedLetters book l n s
-readRule book now (Years k) s = takenYear (yearLength s) s
-readRule book now (FixedYear k) s = takenYear (minusFirst s + k) s
-readRule book now TwoDigitYear s = twoDigitYear now s
-readRule book now (Zone z c minutes seconds) s = takenZone z c minutes seconds s
+readRule book current (Number q least most u z) s = takenUnit u z (reach (most - least) least s) s
+readRule book current (SkippedNumber q least most) s = passed (reach (most - least) least s) s
+readRule book current LetterQuarter s = passed 2 s
+readRule book current (SkippedName l n) s = passed n s
+readRule book current (MatchedName l) s = matchedName book l s
+readRule book current (Letters l n) s = matchedLetters book l n s
+readRule book current (Years k) s = takenYear (yearLength s) s
+readRule book current (FixedYear k) s = takenYear (minusFirst s + k) s
+readRule book current TwoDigitYear s = twoDigitYear current s
+readRule book current (Zone z c minutes seconds) s = takenZone z c minutes seconds s
 
 -- what a part reads
 unfoldable pub readStep : Book → ℕ → Step → Reader Carried
 unfolding readRule skip
-readStep book now (literal w lost) s = passed (length w) s
-readStep book now (field rule) s = readRule book now rule s
+readStep book current (literal w lost) s = passed (length w) s
+readStep book current (field rule) s = readRule book current rule s
 
 -- "h, K [hour mod 12], H, k [hour]": what a number carries is what this quantity writes
 abbrev pub carriedAs : Quantity → Quantity
@@ -195,7 +196,7 @@ carriedName NoonLetter f = periodOf f
 
 -- "cut to minutes toward zero unless c is 4 or 5": a zone of those counts has seconds
 abbrev pub cutToMinutes : ℤ → ℤ
-cutToMinutes z = when (isNegative z) (negℤ (pos (natAbs z / 60 * 60))) (pos (natAbs z / 60 * 60))
+cutToMinutes z = when (isNegative z) (negℤ (pos (natAbs z / secondsPerMinute * secondsPerMinute))) (pos (natAbs z / secondsPerMinute * secondsPerMinute))
 
 abbrev pub carriedOffset : Group → ℤ → ℤ
 carriedOffset Never z = cutToMinutes z

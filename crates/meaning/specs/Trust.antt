@@ -30,30 +30,30 @@ startOf book f ss i = length (texts book f (take i ss))
 -- that it wrote and gives the value that it carries.
 unfoldable pub ComesBack : Book → ℕ → List Step → Fields → ℕ → Type 0
 unfolding readStep startOf texts stepText carriedStep
-ComesBack book now ss f i =
-    readStep book now (partAt ss i) (drop (startOf book f ss i) (texts book f ss))
+ComesBack book current ss f i =
+    readStep book current (partAt ss i) (drop (startOf book f ss i) (texts book f ss))
     ≡ got (length (stepText book f (partAt ss i))) (carriedStep (partAt ss i) f)
 
 -- each part below a number comes back for every allowed record
 unfoldable pub AllComeBack : Book → ℕ → List Step → ℕ → Type 0
 unfolding ComesBack fieldsCheck
-AllComeBack book now ss n = (f : Fields) → fieldsCheck f ≡ Fine → (i : ℕ) → i < n → ComesBack book now ss f i
+AllComeBack book current ss n = (f : Fields) → fieldsCheck f ≡ Fine → (i : ℕ) → i < n → ComesBack book current ss f i
 
 -- part i is the first that fails for some allowed record, and this is such a record
-pub record FailsFirst (book : Book) (now : ℕ) (ss : List Step) (i : ℕ) (f : Fields) : Type 0 where
+pub record FailsFirst (book : Book) (current : ℕ) (ss : List Step) (i : ℕ) (f : Fields) : Type 0 where
   pub there : i < length ss
   pub allowed : fieldsCheck f ≡ Fine
-  pub fails : ComesBack book now ss f i → ⊥
-  pub earlier : AllComeBack book now ss i
+  pub fails : ComesBack book current ss f i → ⊥
+  pub earlier : AllComeBack book current ss i
 
 unfoldable pub trustCheck : List ℕ → ℤ → Checked
 unfolding patternCheck currentYearCheck
-trustCheck p now = patternCheck p else currentYearCheck now
+trustCheck p current = patternCheck p else currentYearCheck current
 
 -- what an answer of the check says: refusals 1, 2, 3, 14; yes when every part comes back for every allowed record; no
 -- with the first part that fails
 unfoldable pub Says : Book → List ℕ → ℤ → Verdict → Type 0
 unfolding trustCheck AllComeBack steps
-Says book p now verdict.Yes = (trustCheck p now ≡ Fine) × AllComeBack book (natAbs now) (steps Full p) (length (steps Full p))
-Says book p now (verdict.No part f) = (trustCheck p now ≡ Fine) × FailsFirst book (natAbs now) (steps Full p) part f
-Says book p now (verdict.Refused why) = trustCheck p now ≡ Refused why
+Says book p current verdict.Yes = (trustCheck p current ≡ Fine) × AllComeBack book (natAbs current) (steps Full p) (length (steps Full p))
+Says book p current (verdict.No part f) = (trustCheck p current ≡ Fine) × FailsFirst book (natAbs current) (steps Full p) part f
+Says book p current (verdict.Refused why) = trustCheck p current ≡ Refused why

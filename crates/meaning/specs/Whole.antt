@@ -16,6 +16,7 @@ use Rattle.meaning.specs.Numerals.{Signed, numberOf}
 use Rattle.meaning.specs.Readers.{got, stopped}
 use Rattle.meaning.specs.Reading.{readStep}
 use Rattle.meaning.specs.Splitting.{parts, noPart}
+use Rattle.meaning.specs.UnitSizes.{secondsPerHour, secondsPerMinute}
 use Rattle.meaning.specs.Writing.{Step, steps, texts}
 use Rattle.meaning.specs.declared.Carried.{Carried}
 use Rattle.meaning.specs.declared.Carried.the-variants.{Nothing, Value}
@@ -88,10 +89,10 @@ pub data Walk : Type 0 where
 -- part i and those behind it, from the text that remains at a place
 unfoldable pub walk : Book → ℕ → ℕ → ℕ → List Step → List ℕ → List Carried → Walk
 unfolding readStep
-walk book now i at [] s gave = walked at gave
-walk book now i at (step ∷ steps) s gave =
-    elim (readStep book now step s) [
-      | got n c ↦ walk book now (suc i) (at + n) steps (drop n s) (c ∷ gave)
+walk book current i at [] s gave = walked at gave
+walk book current i at (step ∷ steps) s gave =
+    elim (readStep book current step s) [
+      | got n c ↦ walk book current (suc i) (at + n) steps (drop n s) (c ∷ gave)
       | stopped why place ↦ refusedAt (Refused (InPart why i (at + place)))
     ]
 
@@ -159,11 +160,11 @@ readBy (Refused why) w = readingOf (Refused why) 0 []
 
 unfoldable pub readCheck : List ℕ → List ℕ → ℤ → Checked
 unfolding patternCheck currentYearCheck textCheck
-readCheck p s now = patternCheck p else currentYearCheck now else textCheck s
+readCheck p s current = patternCheck p else currentYearCheck current else textCheck s
 
 unfoldable pub read : Pair → Book → List ℕ → List ℕ → ℤ → Reading
 unfolding readCheck steps walk valueOf wasRead bits howMany
-read pair book p s now = readBy (readCheck p s now) (walk book (natAbs now) 0 0 (steps pair p) s [])
+read pair book p s current = readBy (readCheck p s current) (walk book (natAbs current) 0 0 (steps pair p) s [])
 
 -- parse_offset: 6, 7, then Z, 12, 9, 9, 13.
 
@@ -174,7 +175,7 @@ offsetBy (Refused why) o = offset.Refused why
 abbrev pub seconds : Bool → ℕ → ℕ → Offset
 seconds ahead hour minute =
     offsetBy (refuseUnless (leb hour 23) (OffsetRange 1) else refuseUnless (leb minute 59) (OffsetRange 2))
-    (offset.Seconds (when ahead (pos (hour * 3600 + minute * 60)) (negℤ (pos (hour * 3600 + minute * 60)))))
+    (offset.Seconds (when ahead (pos (hour * secondsPerHour + minute * secondsPerMinute)) (negℤ (pos (hour * secondsPerHour + minute * secondsPerMinute)))))
 
 abbrev pub hourAndMinute : Bool → Option Signed → Option Signed → Offset
 hourAndMinute ahead none minute = offset.Refused (InPart NoNumber 0 1)

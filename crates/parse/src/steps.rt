@@ -35,7 +35,7 @@ fn zero_for(zero: u32, n: u32) -> u32
 // A number of k bytes, where one value stands for 0.
 pub fn take_number(unit: ParseUnit, zero: u32, k: usize, text: &[u8], cursor: Cursor) -> PartRead
     requires { ⌜ cursor .at ≤ length (now text) ⌝ }
-    ensures { λ r. ⌜ r ≡ partAt (cursor .at) (reading.takenNumber unit zero k (drop (cursor .at) (now (text .entry)))) ⌝ }
+    ensures { λ r. ⌜ r ≡ partAt (cursor .at) (reading.takenUnit unit zero k (drop (cursor .at) (now (text .entry)))) ⌝ }
 {
     match cursor.take(Numeral::Count, k, text) {
         Taken::Stopped { trouble, place } => PartRead::Stopped { trouble, place },

@@ -40,13 +40,13 @@ use Rattle.meaning.specs.declared.Verdict.the-variants as verdict
 use Rattle.pattern.proofs.parts.First.{contents-first, first-sized}
 use Rattle.pattern.specs.First.{firstContent}
 use Rattle.sheet.proofs.entries.Fits.{else-fits, unless-fits, byte-fits, bytes-fit}
-use Rattle.sheet.specs.Fits.{Count, CheckedFits, WroteFits, ReadFits, OffsetFits, VerdictFits}
+use Rattle.sheet.specs.Fits.{NumberFits, CheckedFits, WroteFits, ReadFits, OffsetFits, VerdictFits}
 use Rattle.parse.proofs.steps.Within.{Within}
 use Rattle.parse.proofs.rule.Within.{within-step}
 
 -- the checks
 
-pattern-fits : (p : List ℕ) → Count (length p) → CheckedFits (patternCheck p)
+pattern-fits : (p : List ℕ) → NumberFits (length p) → CheckedFits (patternCheck p)
 unfolding patternCheck details
 pattern-fits p h =
     else-fits (bytesCheck p) (when (endsInLoneQuote (contents p)) (Refused (LoneQuote _)) Fine) (bytes-fit p h)
@@ -56,12 +56,12 @@ pattern-fits p h =
 record Fitting (checked : Checked) : Type 0 where
   fits : CheckedFits checked
 
-field-fits : (t : Bool) (n : ℕ) (next : Checked) → Count n → Fitting next → Fitting (refuseUnless t (FieldRange n) else next)
+field-fits : (t : Bool) (n : ℕ) (next : Checked) → NumberFits n → Fitting next → Fitting (refuseUnless t (FieldRange n) else next)
 unfolding details
 field-fits t n next h k =
     record { fits = else-fits (refuseUnless t (FieldRange n)) next (unless-fits t (FieldRange n) (h, tt)) (λ _. k .fits) }
 
-last-fits : (t : Bool) (n : ℕ) → Count n → Fitting (refuseUnless t (FieldRange n))
+last-fits : (t : Bool) (n : ℕ) → NumberFits n → Fitting (refuseUnless t (FieldRange n))
 unfolding details
 last-fits t n h = record { fits = unless-fits t (FieldRange n) (h, tt) }
 
@@ -79,16 +79,16 @@ fitting-fields f =
 fields-fit : (f : Fields) → CheckedFits (fieldsCheck f)
 fields-fit f = fitting-fields f .fits
 
-year-small : (now : ℤ) → SFits w32 now → Count (natAbs now)
+year-small : (current : ℤ) → SFits w32 current → NumberFits (natAbs current)
 year-small (pos n) h = omega (arith, h .sfits)
 year-small (negsuc n) h = omega (arith, h .sfits)
 
-year-fits : (now : ℤ) → SFits w32 now → CheckedFits (currentYearCheck now)
+year-fits : (current : ℤ) → SFits w32 current → CheckedFits (currentYearCheck current)
 unfolding currentYearCheck details
-year-fits now h =
-    when-is CheckedFits (isNegative now) (λ _. (year-small now h, tt)) (λ _. unless-fits (within 1 9999 (natAbs now)) (CurrentYear now) (year-small now h, tt))
+year-fits current h =
+    when-is CheckedFits (isNegative current) (λ _. (year-small current h, tt)) (λ _. unless-fits (within 1 9999 (natAbs current)) (CurrentYear current) (year-small current h, tt))
 
-text-fits : (s : List ℕ) → Count (length s) → CheckedFits (textCheck s)
+text-fits : (s : List ℕ) → NumberFits (length s) → CheckedFits (textCheck s)
 unfolding textCheck details
 text-fits s h =
     else-fits (refuseUnless (leb (length s) 2048) (TextTooLong (length s))) (byteCheck TextByte 0 127 0 s)
@@ -97,7 +97,7 @@ text-fits s h =
 
 -- writing
 
-write-check-fits : (pair : Pair) (p : List ℕ) (f : Fields) (room : ℕ) → Count (length p) → CheckedFits (writeCheck pair english p f room)
+write-check-fits : (pair : Pair) (p : List ℕ) (f : Fields) (room : ℕ) → NumberFits (length p) → CheckedFits (writeCheck pair english p f room)
 unfolding writeCheck details
 write-check-fits pair p f room h =
     let n = length (text pair english p f) in
@@ -105,11 +105,11 @@ write-check-fits pair p f room h =
     (λ fine. else-fits (fieldsCheck f) (roomCheck room n) (fields-fit f)
     (λ fields. unless-fits (leb n room) (NoRoom n) (omega (arith, sizes.text-fits pair p f fine fields), tt)))
 
-wrote-fits : (checked : Checked) (t : List ℕ) → CheckedFits checked → (checked ≡ Fine → Count (length t)) → WroteFits (wroteBy checked t)
+wrote-fits : (checked : Checked) (t : List ℕ) → CheckedFits checked → (checked ≡ Fine → NumberFits (length t)) → WroteFits (wroteBy checked t)
 wrote-fits Fine t h k = k refl
 wrote-fits (Refused why) t h k = h
 
-pub write-fits : (pair : Pair) (p : List ℕ) (f : Fields) (out : List ℕ) → Count (length p) → Count (length out)
+pub write-fits : (pair : Pair) (p : List ℕ) (f : Fields) (out : List ℕ) → NumberFits (length p) → NumberFits (length out)
     → WroteFits (write pair english p f out)
 unfolding write
 write-fits pair p f out h k =
@@ -119,25 +119,25 @@ write-fits pair p f out h k =
 -- reading
 
 abbrev WalkFits : Walk → Type 0
-WalkFits (walked taken gave) = Count taken
+WalkFits (walked taken gave) = NumberFits taken
 WalkFits (refusedAt checked) = CheckedFits checked
 
-module _ (book : Book) (now : ℕ) where
+module _ (book : Book) (current : ℕ) where
   -- by what a part gave
-  part-fits : (i at room : ℕ) (g : Got Carried) (next : ℕ → Carried → Walk) → Count i → Count (at + room) → Within room g
+  part-fits : (i at room : ℕ) (g : Got Carried) (next : ℕ → Carried → Walk) → NumberFits i → NumberFits (at + room) → Within room g
       → ((n : ℕ) (c : Carried) → n ≤ room → WalkFits (next n c))
       → WalkFits (elim g as (λ x. Walk) [ got n c ↦ next n c | stopped why place ↦ refusedAt (Refused (InPart why i (at + place))) ])
   unfolding details
   part-fits i at room (got n c) next h k w on = on n c w
   part-fits i at room (stopped why place) next h k w on = (h, (omega arith, tt))
 
-  walk-fits : (i at : ℕ) (ss : List Step) (s : List ℕ) (gave : List Carried) → Count (i + length ss) → Count (at + length s)
-      → WalkFits (walk book now i at ss s gave)
+  walk-fits : (i at : ℕ) (ss : List Step) (s : List ℕ) (gave : List Carried) → NumberFits (i + length ss) → NumberFits (at + length s)
+      → WalkFits (walk book current i at ss s gave)
   unfolding walk
   walk-fits i at [] s gave h k = omega arith
   walk-fits i at (step ∷ ss) s gave h k =
-      part-fits i at (length s) (readStep book now step s) (λ n c. walk book now (suc i) (at + n) ss (drop n s) (c ∷ gave))
-      (omega arith) k (within-step book now step s)
+      part-fits i at (length s) (readStep book current step s) (λ n c. walk book current (suc i) (at + n) ss (drop n s) (c ∷ gave))
+      (omega arith) k (within-step book current step s)
       (λ n c l. walk-fits (suc i) (at + n) ss (drop n s) (c ∷ gave) (omega arith) (omega (arith, length-drop n s)))
 
 read-by-fits : (checked : Checked) (w : Walk) → CheckedFits checked → WalkFits w → ReadFits (readBy checked w)
@@ -145,14 +145,14 @@ read-by-fits Fine (walked taken gave) h k = (k, tt)
 read-by-fits Fine (refusedAt checked) h k = (omega arith, k)
 read-by-fits (Refused why) w h k = (omega arith, h)
 
-pub read-fits : (pair : Pair) (p s : List ℕ) (now : ℤ) → Count (length p) → Count (length s) → SFits w32 now
-    → ReadFits (read pair english p s now)
+pub read-fits : (pair : Pair) (p s : List ℕ) (current : ℤ) → NumberFits (length p) → NumberFits (length s) → SFits w32 current
+    → ReadFits (read pair english p s current)
 unfolding read readCheck
-read-fits pair p s now h k y =
-    let checks = else-fits (patternCheck p) (currentYearCheck now else textCheck s) (pattern-fits p h)
-    (λ _. else-fits (currentYearCheck now) (textCheck s) (year-fits now y) (λ _. text-fits s k)) in
-    read-by-fits (readCheck p s now) (walk english (natAbs now) 0 0 (steps pair p) s []) checks
-    (walk-fits english (natAbs now) 0 0 (steps pair p) s [] (omega (arith, few-steps pair p)) (omega arith))
+read-fits pair p s current h k y =
+    let checks = else-fits (patternCheck p) (currentYearCheck current else textCheck s) (pattern-fits p h)
+    (λ _. else-fits (currentYearCheck current) (textCheck s) (year-fits current y) (λ _. text-fits s k)) in
+    read-by-fits (readCheck p s current) (walk english (natAbs current) 0 0 (steps pair p) s []) checks
+    (walk-fits english (natAbs current) 0 0 (steps pair p) s [] (omega (arith, few-steps pair p)) (omega arith))
 
 -- parse_offset
 
@@ -176,7 +176,7 @@ time-fits ahead none minute = (omega arith, (omega arith, tt))
 time-fits ahead (some hour) none = (omega arith, (omega arith, tt))
 time-fits ahead (some hour) (some minute) = seconds-fit ahead (hour .size) (minute .size)
 
-pub offset-fits : (s : List ℕ) → Count (length s) → OffsetFits (parseOffset s)
+pub offset-fits : (s : List ℕ) → NumberFits (length s) → OffsetFits (parseOffset s)
 unfolding parseOffset details
 offset-fits s h =
     let utc = eqb (getD s 0 0) (code "Z") in
@@ -189,11 +189,11 @@ offset-fits s h =
 
 -- the check
 
-pub verdict-fits : (p : List ℕ) (now : ℤ) (v : Verdict) → Count (length p) → SFits w32 now → Says english p now v → VerdictFits v
+pub verdict-fits : (p : List ℕ) (current : ℤ) (v : Verdict) → NumberFits (length p) → SFits w32 current → Says english p current v → VerdictFits v
 unfolding Says trustCheck
-verdict-fits p now verdict.Yes h y s = tt
-verdict-fits p now (verdict.No part f) h y s =
+verdict-fits p current verdict.Yes h y s = tt
+verdict-fits p current (verdict.No part f) h y s =
     (omega (arith, s .1 .there, few-steps Full p), omega (arith, allowed f (s .1 .allowed) .nanos))
-verdict-fits p now (verdict.Refused why) h y s =
-    let checks = else-fits (patternCheck p) (currentYearCheck now) (pattern-fits p h) (λ _. year-fits now y) in
+verdict-fits p current (verdict.Refused why) h y s =
+    let checks = else-fits (patternCheck p) (currentYearCheck current) (pattern-fits p h) (λ _. year-fits current y) in
     rw s at checks

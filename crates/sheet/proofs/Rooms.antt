@@ -1,16 +1,21 @@
--- An answer where the lent row has room for it, and where it has none.
-use mathlib.Core.List.{List}
-use mathlib.Core.Path.{refl}
+-- An answer that fills its row with no zeros; one where the lent row has room for it, and where it has none.
+use mathlib.Core.List.{List, append-nil}
+use mathlib.Core.Path.{_≡_, refl}
 use Prim.Native.Nat.{ℕ, _≤_, _<_}
+use native.Mathlib.Nat.{sub-self}
 use borrow.Author.Tests.{le-leb, lt-leb}
 use lib.IntN.{ℤ}
 use lib.ListN.{length}
-use Rattle.sheet.specs.Rows.{Answer, Given}
+use Rattle.meaning.specs.Answers.{Answer, accepted}
+use Rattle.sheet.specs.Rows.{inRow, Given}
 use Rattle.sheet.specs.Sheet.{has, ifRoom}
 
+pub full : {old new vs : List ℤ} {r : ℕ} (n : ℕ) → length vs ≡ n → Given (accepted vs) old new r → Given (inRow n (accepted vs)) old new r
+full {vs = vs} n long given = rw (long, sub-self n, append-nil vs) given
+
 module _ (n : ℕ) (row : List ℤ) (answer : Answer) where
-  pub room : {new : List ℤ} {r : ℕ} → n ≤ length row → Given answer row new r → Given (ifRoom (has n row) answer) row new r
+  pub room : {new : List ℤ} {r : ℕ} → n ≤ length row → Given (inRow n answer) row new r → Given (ifRoom (has n row) (inRow n answer)) row new r
   room h given = rw (le-leb n (length row) h) given
 
-  pub no-room : length row < n → Given (ifRoom (has n row) answer) row row 100
+  pub no-room : length row < n → Given (ifRoom (has n row) (inRow n answer)) row row 100
   no-room h = rw (lt-leb n (length row) h) (record { number = refl; row = refl })

@@ -14,12 +14,12 @@ use Rattle.meaning.specs.declared.Verdict.the-variants as verdict
 use Rattle.meaning.specs.declared.Wrote.{Wrote}
 use Rattle.meaning.specs.declared.Wrote.the-variants as wrote
 
-abbrev pub Count : ℕ → Type 0
-Count n = n < 2 ^ 63
+abbrev pub NumberFits : ℕ → Type 0
+NumberFits n = n < 2 ^ 63
 
 abbrev pub AllFit : List ℤ → Type 0
 AllFit [] = Unit
-AllFit (z ∷ zs) = Count (natAbs z) × AllFit zs
+AllFit (z ∷ zs) = NumberFits (natAbs z) × AllFit zs
 
 abbrev pub WhyFits : Refusal → Type 0
 WhyFits why = AllFit (details why)
@@ -29,11 +29,11 @@ CheckedFits Fine = Unit
 CheckedFits (Refused why) = WhyFits why
 
 abbrev pub WroteFits : Wrote → Type 0
-WroteFits (wrote.Length n) = Count n
+WroteFits (wrote.Length n) = NumberFits n
 WroteFits (wrote.Refused why) = WhyFits why
 
 abbrev pub ReadFits : Reading → Type 0
-ReadFits r = Count (r .taken) × CheckedFits (r .checked)
+ReadFits r = NumberFits (r .taken) × CheckedFits (r .checked)
 
 abbrev pub OffsetFits : Offset → Type 0
 OffsetFits (offset.Seconds z) = Unit
@@ -41,5 +41,5 @@ OffsetFits (offset.Refused why) = WhyFits why
 
 abbrev pub VerdictFits : Verdict → Type 0
 VerdictFits verdict.Yes = Unit
-VerdictFits (verdict.No part f) = Count part × Count (f .nanos)
+VerdictFits (verdict.No part f) = NumberFits part × NumberFits (f .nanos)
 VerdictFits (verdict.Refused why) = WhyFits why

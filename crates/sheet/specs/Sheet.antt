@@ -7,6 +7,7 @@ use Prim.Native.Nat.{ℕ}
 use lib.Dec.{leb}
 use lib.IntN.{ℤ}
 use lib.ListN.{length}
+use Rattle.meaning.specs.Answers.{Answer, splitAnswer, wroteAnswer, readAnswer, offsetAnswer, verdictAnswer}
 use Rattle.meaning.specs.Bytes.{when, both}
 use Rattle.meaning.specs.Names.{english}
 use Rattle.meaning.specs.Trust.{Says}
@@ -14,7 +15,7 @@ use Rattle.meaning.specs.Whole.{split, write, output, read, parseOffset}
 use Rattle.meaning.specs.declared.Fields.{Fields}
 use Rattle.meaning.specs.declared.Pair.{Pair}
 use Rattle.meaning.specs.declared.Verdict.{Verdict}
-use Rattle.sheet.specs.Rows.{Answer, Given, laid, wroteAnswer, readAnswer, offsetAnswer, verdictAnswer, splitAnswer, splitNumbers}
+use Rattle.sheet.specs.Rows.{inRow, Given, laid, isMarked, splitNumbers}
 
 -- whether a row has so many entries
 abbrev pub has : {A : Type 0} → ℕ → List A → Bool
@@ -22,26 +23,29 @@ has n row = leb n (length row)
 
 -- an answer where there is room for it
 abbrev pub ifRoom : Bool → Answer → Answer
-ifRoom room answer = when room answer (record { number = 100; row = [] })
+ifRoom room answer = when room answer (record { number = 100; values = [] })
 
 abbrev pub SheetWrites : Pair → List ℕ → Fields → List ℕ → List ℤ → ℕ → List ℕ → List ℤ → Type 0
 SheetWrites pair p f out row r outAfter rowAfter =
-    Given (ifRoom (has 2 row) (wroteAnswer (write pair english p f out))) row rowAfter r
+    Given (ifRoom (has 2 row) (inRow 2 (wroteAnswer (write pair english p f out)))) row rowAfter r
     × (outAfter ≡ when (has 2 row) (output pair english p f out) out)
 
 abbrev pub SheetReads : Pair → List ℕ → List ℕ → ℤ → List ℤ → ℕ → List ℤ → Type 0
-SheetReads pair p s now row r rowAfter = Given (ifRoom (has 18 row) (readAnswer (read pair english p s now))) row rowAfter r
+SheetReads pair p s current row r rowAfter = Given (ifRoom (has 18 row) (inRow 18 (readAnswer (read pair english p s current)))) row rowAfter r
+
+abbrev pub SheetTellsRead : ℤ → ℕ → ℕ → Type 0
+SheetTellsRead mask unit r = r ≡ when (isMarked mask unit) 1 0
 
 abbrev pub SheetParsesOffset : List ℕ → List ℤ → ℕ → List ℤ → Type 0
-SheetParsesOffset s row r rowAfter = Given (ifRoom (has 2 row) (offsetAnswer (parseOffset s))) row rowAfter r
+SheetParsesOffset s row r rowAfter = Given (ifRoom (has 2 row) (inRow 2 (offsetAnswer (parseOffset s)))) row rowAfter r
 
 abbrev pub SheetSplits : List ℕ → List ℤ → List ℤ → ℕ → List ℤ → List ℤ → Type 0
 SheetSplits p row parts r rowAfter partsAfter =
-    Given (ifRoom (both (has 2 row) (has 768 parts)) (splitAnswer (split p))) row rowAfter r
+    Given (ifRoom (both (has 2 row) (has 768 parts)) (inRow 2 (splitAnswer (split p)))) row rowAfter r
     × (partsAfter ≡ laid (when (both (has 2 row) (has 768 parts)) (splitNumbers (split p)) []) parts)
 
 -- an answer that `Says` allows, which leaves open the failing record
-pub record SheetChecks (p : List ℕ) (now : ℤ) (row : List ℤ) (r : ℕ) (rowAfter : List ℤ) : Type 0 where
+pub record SheetChecks (p : List ℕ) (current : ℤ) (row : List ℤ) (r : ℕ) (rowAfter : List ℤ) : Type 0 where
   pub verdict : Verdict
-  pub says : Says english p now verdict
-  pub given : Given (ifRoom (has 10 row) (verdictAnswer verdict)) row rowAfter r
+  pub says : Says english p current verdict
+  pub given : Given (ifRoom (has 10 row) (inRow 10 (verdictAnswer verdict))) row rowAfter r

@@ -5,8 +5,9 @@ ghost use Prim.Native.Nat.{_≤_};
 ghost use lib.IntN.{pos, natAbs};
 ghost use lib.ListN.{length};
 ghost use Rattle.refusals.specs.Told.{detailOf};
-ghost use Rattle.sheet.specs.Fits.{Count, WhyFits, WroteFits, OffsetFits};
-ghost use Rattle.sheet.specs.Rows.{Given, accepted, refused, wroteAnswer, offsetAnswer};
+ghost use Rattle.sheet.specs.Fits.{NumberFits, WhyFits, WroteFits, OffsetFits};
+ghost use Rattle.meaning.specs.Answers.{accepted, refused, wroteAnswer, offsetAnswer};
+ghost use Rattle.sheet.specs.Rows.{inRow, Given};
 use crate::entries::entry;
 use crate::entries::lay;
 use crate::entries::lay_zeros;
@@ -18,7 +19,7 @@ use refusals::Detail;
 use refusals::tell;
 
 fn detail_entry(d: Detail) -> i64
-    requires { ⌜ Count (natAbs (detailOf d)) ⌝ }
+    requires { ⌜ NumberFits (natAbs (detailOf d)) ⌝ }
     ensures { λ r. ⌜ r ≡ detailOf d ⌝ }
 {
     if d.negative {
@@ -30,7 +31,7 @@ fn detail_entry(d: Detail) -> i64
 // The details, then zeros.
 pub fn give_refusal(why: Refusal, entries: usize, row: &mut [i64]) -> u32
     requires { ⌜ (2 ≤ entries) × (entries ≤ length (now row)) × WhyFits why ⌝ }
-    ensures { λ r. ⌜ Given (refused entries why) (now (row .entry)) (now (row .exit)) r ⌝ }
+    ensures { λ r. ⌜ Given (inRow entries (refused why)) (now (row .entry)) (now (row .exit)) r ⌝ }
 {
     let told = tell(why);
     let first = detail_entry(told.first);
@@ -46,8 +47,8 @@ pub fn give_refusal(why: Refusal, entries: usize, row: &mut [i64]) -> u32
 
 // A count, then 0.
 pub fn give_count(n: u64, row: &mut [i64]) -> u32
-    requires { ⌜ (2 ≤ length (now row)) × Count n ⌝ }
-    ensures { λ r. ⌜ Given (accepted (pos n ∷ pos 0 ∷ [])) (now (row .entry)) (now (row .exit)) r ⌝ }
+    requires { ⌜ (2 ≤ length (now row)) × NumberFits n ⌝ }
+    ensures { λ r. ⌜ Given (inRow 2 (accepted (pos n ∷ []))) (now (row .entry)) (now (row .exit)) r ⌝ }
 {
     lay(&[entry(n), 0], row, 0);
     0
@@ -55,7 +56,7 @@ pub fn give_count(n: u64, row: &mut [i64]) -> u32
 
 pub fn give_wrote(wrote: Wrote, row: &mut [i64]) -> u32
     requires { ⌜ (2 ≤ length (now row)) × WroteFits wrote ⌝ }
-    ensures { λ r. ⌜ Given (wroteAnswer wrote) (now (row .entry)) (now (row .exit)) r ⌝ }
+    ensures { λ r. ⌜ Given (inRow 2 (wroteAnswer wrote)) (now (row .entry)) (now (row .exit)) r ⌝ }
 {
     match wrote {
         Wrote::Length(n) => give_count(n as u64, row),
@@ -65,7 +66,7 @@ pub fn give_wrote(wrote: Wrote, row: &mut [i64]) -> u32
 
 fn give_seconds(seconds: i32, row: &mut [i64]) -> u32
     requires { ⌜ 2 ≤ length (now row) ⌝ }
-    ensures { λ r. ⌜ Given (accepted (seconds ∷ pos 0 ∷ [])) (now (row .entry)) (now (row .exit)) r ⌝ }
+    ensures { λ r. ⌜ Given (inRow 2 (accepted (seconds ∷ []))) (now (row .entry)) (now (row .exit)) r ⌝ }
 {
     lay(&[signed_entry(seconds), 0], row, 0);
     0
@@ -73,7 +74,7 @@ fn give_seconds(seconds: i32, row: &mut [i64]) -> u32
 
 pub fn give_offset(offset: Offset, row: &mut [i64]) -> u32
     requires { ⌜ (2 ≤ length (now row)) × OffsetFits offset ⌝ }
-    ensures { λ r. ⌜ Given (offsetAnswer offset) (now (row .entry)) (now (row .exit)) r ⌝ }
+    ensures { λ r. ⌜ Given (inRow 2 (offsetAnswer offset)) (now (row .entry)) (now (row .exit)) r ⌝ }
 {
     match offset {
         Offset::Seconds(seconds) => give_seconds(seconds, row),

@@ -4,7 +4,7 @@ ghost use Prim.Native.Nat.{_+_, _≤_};
 ghost use lib.IntN.{pos};
 ghost use lib.ListN.{length, replicate};
 ghost use lib.Seq.{sets};
-ghost use Rattle.sheet.specs.Fits.{Count};
+ghost use Rattle.sheet.specs.Fits.{NumberFits};
 
 pub fn lay(numbers: &[i64], row: &mut [i64], at: usize)
     requires { ⌜ at + length (now numbers) ≤ length (now row) ⌝ }
@@ -29,7 +29,7 @@ pub fn lay_zeros(times: usize, row: &mut [i64], at: usize)
 }
 
 pub fn entry(n: u64) -> i64
-    requires { ⌜ Count n ⌝ }
+    requires { ⌜ NumberFits n ⌝ }
     ensures { λ r. ⌜ r ≡ pos n ⌝ }
 {
     n as i64

@@ -4,10 +4,11 @@ ghost use mathlib.Core.Path.{_≡_};
 ghost use Prim.Native.Nat.{_+_, _-_, _≤_};
 ghost use lib.ListN.{length, replicate};
 ghost use lib.Seq.{sets};
+ghost use Rattle.meaning.specs.Answers.{splitAnswer};
 ghost use Rattle.meaning.specs.Splitting as splitting;
 ghost use Rattle.meaning.specs.Whole.{split};
-ghost use Rattle.sheet.specs.Fits.{Count};
-ghost use Rattle.sheet.specs.Rows.{Given, laid, kindNumber, partNumbers, splitAnswer, splitNumbers};
+ghost use Rattle.sheet.specs.Fits.{NumberFits};
+ghost use Rattle.sheet.specs.Rows.{inRow, Given, laid, kindNumber, partNumbers, splitNumbers};
 use crate::answers::give_count;
 use crate::answers::give_refusal;
 use crate::entries::entry;
@@ -31,7 +32,7 @@ fn kind_number(kind: Kind) -> u64
 }
 
 fn lay_part(part: Part, row: &mut [i64], at: usize)
-    requires { ⌜ (at + 3 ≤ length (now row)) × Count (part .start) × Count (part .length) ⌝ }
+    requires { ⌜ (at + 3 ≤ length (now row)) × NumberFits (part .start) × NumberFits (part .length) ⌝ }
     ensures { λ _. ⌜ now (row .exit) ≡ sets (now (row .entry)) at (partNumbers (part ∷ [])) ⌝ }
 {
     let kind = part.kind;
@@ -60,7 +61,7 @@ fn lay_parts(pattern: &[u8], row: &mut [i64]) -> usize
 
 pub fn give_split(pattern: &[u8], answer: &mut [i64], parts: &mut [i64]) -> u32
     requires { ⌜ (2 ≤ length (now answer)) × (768 ≤ length (now parts)) ⌝ }
-    ensures { λ r. ⌜ Given (splitAnswer (split (now (pattern .entry)))) (now (answer .entry)) (now (answer .exit)) r × (now (parts .exit) ≡ laid (splitNumbers (split (now (pattern .entry)))) (now (parts .entry))) ⌝ }
+    ensures { λ r. ⌜ Given (inRow 2 (splitAnswer (split (now (pattern .entry))))) (now (answer .entry)) (now (answer .exit)) r × (now (parts .exit) ≡ laid (splitNumbers (split (now (pattern .entry)))) (now (parts .entry))) ⌝ }
 {
     match bytes_check(pattern) {
         Checked::Fine => give_count(lay_parts(pattern, parts) as u64, answer),

@@ -1,10 +1,9 @@
 // The answers of the check as rows of numbers.
-ghost use mathlib.Core.List.{_∷_};
 ghost use Prim.Native.Nat.{_≤_};
-ghost use lib.IntN.{pos};
 ghost use lib.ListN.{length};
-ghost use Rattle.sheet.specs.Fits.{Count, VerdictFits};
-ghost use Rattle.sheet.specs.Rows.{Given, accepted, verdictAnswer, fieldNumbers};
+ghost use Rattle.meaning.specs.Answers.{verdictAnswer};
+ghost use Rattle.sheet.specs.Fits.{NumberFits, VerdictFits};
+ghost use Rattle.sheet.specs.Rows.{inRow, Given};
 use crate::answers::give_refusal;
 use crate::entries::entry;
 use crate::entries::lay;
@@ -14,8 +13,8 @@ use meaning::Fields;
 use meaning::Verdict;
 
 fn give_no(part: usize, f: Fields, row: &mut [i64]) -> u32
-    requires { ⌜ (10 ≤ length (now row)) × Count part × Count (f .nanos) ⌝ }
-    ensures { λ r. ⌜ Given (accepted (pos 0 ∷ pos part ∷ fieldNumbers f)) (now (row .entry)) (now (row .exit)) r ⌝ }
+    requires { ⌜ (10 ≤ length (now row)) × NumberFits part × NumberFits (f .nanos) ⌝ }
+    ensures { λ r. ⌜ Given (inRow 10 (verdictAnswer (Verdict.No part f))) (now (row .entry)) (now (row .exit)) r ⌝ }
 {
     let numbers = [
         0,
@@ -35,7 +34,7 @@ fn give_no(part: usize, f: Fields, row: &mut [i64]) -> u32
 
 fn give_yes(row: &mut [i64]) -> u32
     requires { ⌜ 10 ≤ length (now row) ⌝ }
-    ensures { λ r. ⌜ Given (verdictAnswer Verdict.Yes) (now (row .entry)) (now (row .exit)) r ⌝ }
+    ensures { λ r. ⌜ Given (inRow 10 (verdictAnswer Verdict.Yes)) (now (row .entry)) (now (row .exit)) r ⌝ }
 {
     lay(&[1], row, 0);
     lay_zeros(9, row, 1);
@@ -44,7 +43,7 @@ fn give_yes(row: &mut [i64]) -> u32
 
 pub fn give_verdict(verdict: Verdict, row: &mut [i64]) -> u32
     requires { ⌜ (10 ≤ length (now row)) × VerdictFits verdict ⌝ }
-    ensures { λ r. ⌜ Given (verdictAnswer verdict) (now (row .entry)) (now (row .exit)) r ⌝ }
+    ensures { λ r. ⌜ Given (inRow 10 (verdictAnswer verdict)) (now (row .entry)) (now (row .exit)) r ⌝ }
 {
     match verdict {
         Verdict::Yes => give_yes(row),

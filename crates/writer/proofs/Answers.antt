@@ -7,6 +7,7 @@ use lib.ListN.{length, take}
 use lib.Seq.{sets}
 use Rattle.laws.proofs.Checks.{else-assoc}
 use Rattle.laws.proofs.Laid.{take-laid}
+use Rattle.laws.proofs.Told.{by-whole}
 use Rattle.meaning.specs.Answers.{_else_, patternCheck, fieldsCheck, roomCheck}
 use Rattle.meaning.specs.Names.{english}
 use Rattle.meaning.specs.Promises.{Writes}
@@ -22,7 +23,7 @@ use Rattle.meaning.specs.declared.Wrote.the-variants as wrote
 module _ (pair : Pair) (p : List ℕ) (f : Fields) (out : List ℕ) where
   pub refused : {why : Refusal} → (patternCheck p else fieldsCheck f) ≡ Refused why → Writes pair english p f out (wrote.Refused why) out
   unfolding write output writeCheck
-  refused e = rw (← else-assoc (patternCheck p) (fieldsCheck f) (roomCheck (length out) (length (text pair english p f))), e) (refl, refl)
+  refused e = rw (← else-assoc (patternCheck p) (fieldsCheck f) (roomCheck (length out) (length (text pair english p f))), e) (by-whole refl, refl)
 
   module _ (pattern : patternCheck p ≡ Fine) (fields : fieldsCheck f ≡ Fine) where
     pub with-room : length (text pair english p f) ≤ length out
@@ -36,9 +37,9 @@ module _ (pair : Pair) (p : List ℕ) (f : Fields) (out : List ℕ) where
         → (r ≡ wrote.Length (length (text pair english p f))) × (take (length (text pair english p f)) row ≡ text pair english p f)
     found w fits =
         let room = with-room fits in
-        (w .0 ∙ room .0, rw (w .1, room .1) (take-laid out (text pair english p f) _ refl fits))
+        (w .0 .whole ∙ room .0, rw (w .1, room .1) (take-laid out (text pair english p f) _ refl fits))
 
     pub no-room : length out < length (text pair english p f)
         → Writes pair english p f out (wrote.Refused (NoRoom (length (text pair english p f)))) out
     unfolding write output writeCheck
-    no-room short = rw (pattern, fields, lt-leb _ _ short) (refl, refl)
+    no-room short = rw (pattern, fields, lt-leb _ _ short) (by-whole refl, refl)

@@ -49,27 +49,27 @@ within-passed k s = within-on (skip k s) _ s (within-skip k s) (λ _ t. omega ar
 within-full-year : (k : ℕ) (s : List ℕ) → Within (length s) (takenYear k s)
 within-full-year k s = within-on (takeYear k s) _ s (within-year k s) (λ z t. omega arith)
 
-within-rule : (book : Book) (now : ℕ) (rule : Rule) (s : List ℕ) → Within (length s) (readRule book now rule s)
+within-rule : (book : Book) (current : ℕ) (rule : Rule) (s : List ℕ) → Within (length s) (readRule book current rule s)
 unfolding readRule
-within-rule book now (Number q least most u z) s =
+within-rule book current (Number q least most u z) s =
     let k = reach (most - least) least s in within-on (takeCount k s) _ s (within-count k s) (λ n t. omega arith)
-within-rule book now (SkippedNumber q least most) s = within-passed _ s
-within-rule book now LetterQuarter s = within-passed 2 s
-within-rule book now (SkippedName l n) s = within-passed n s
-within-rule book now (MatchedName l) s =
+within-rule book current (SkippedNumber q least most) s = within-passed _ s
+within-rule book current LetterQuarter s = within-passed 2 s
+within-rule book current (SkippedName l n) s = within-passed n s
+within-rule book current (MatchedName l) s =
     within-on (matchName (names book l) s) _ s (within-match (names book l) s) (λ i t. omega arith)
-within-rule book now (Letters l n) s =
+within-rule book current (Letters l n) s =
     within-on (letters n (names book l) s) _ s (within-letters n (names book l) s) (λ i t. omega arith)
-within-rule book now (Years k) s = within-full-year _ s
-within-rule book now (FixedYear k) s = within-full-year _ s
-within-rule book now TwoDigitYear s =
+within-rule book current (Years k) s = within-full-year _ s
+within-rule book current (FixedYear k) s = within-full-year _ s
+within-rule book current TwoDigitYear s =
     when-is (λ (g : Got Carried). Within (length s) g) (eqb (minusFirst s) 1) (λ _. within-full-year 3 s)
     (λ _. within-on (takeYear 2 s) _ s (within-year 2 s) (λ z t. omega arith))
-within-rule book now (Zone z c minutes seconds) s =
+within-rule book current (Zone z c minutes seconds) s =
     within-on ((zoneSign z >>= zoneBehind (zoneSize c minutes seconds)) s) _ s
     (within-on (zoneSign z s) _ s (within-sign z s) (λ g t. within-zone c minutes seconds g t)) (λ o t. omega arith)
 
-pub within-step : (book : Book) (now : ℕ) (step : Step) (s : List ℕ) → Within (length s) (readStep book now step s)
+pub within-step : (book : Book) (current : ℕ) (step : Step) (s : List ℕ) → Within (length s) (readStep book current step s)
 unfolding readStep
-within-step book now (literal w lost) s = within-passed (length w) s
-within-step book now (field rule) s = within-rule book now rule s
+within-step book current (literal w lost) s = within-passed (length w) s
+within-step book current (field rule) s = within-rule book current rule s

@@ -32,24 +32,24 @@ use Rattle.parse.specs.MonthReads.{monthRead}
 
 -- what c bytes b read
 abbrev pub runRead : ℕ → Pair → ℕ → ℕ → List ℕ → Got Carried
-runRead now pair b c s = readStep english now (runStep (roleOf pair b c) b c) s
+runRead current pair b c s = readStep english current (runStep (roleOf pair b c) b c) s
 
-pub literal-read : (now : ℕ) (pair : Pair) (b c : ℕ) (s : List ℕ) → b < 65 → runRead now pair b c s ≡ passed c s
+pub literal-read : (current : ℕ) (pair : Pair) (b c : ℕ) (s : List ℕ) → b < 65 → runRead current pair b c s ≡ passed c s
 unfolding readStep
-literal-read now pair b c s small = rw (below-letters pair b c small, length-replicate)
+literal-read current pair b c s small = rw (below-letters pair b c small, length-replicate)
 
 -- a year of three digits or four reads all that follow, a longer one just as many
-pub years-read : (now : ℕ) (pair : Pair) (c : ℕ) (s : List ℕ) → 2 < c → c ≤ 4 → runRead now pair 121 c s ≡ takenYear (yearLength s) s
+pub years-read : (current : ℕ) (pair : Pair) (c : ℕ) (s : List ℕ) → 2 < c → c ≤ 4 → runRead current pair 121 c s ≡ takenYear (yearLength s) s
 unfolding readStep readRule dateRole roleAmong ruleOf pick otherwiseRule isAmong
-years-read now pair c s long few =
+years-read current pair c s long few =
     let two = ne-eqb c 2 (λ e. omega (arith, e)) in
     let one = ne-eqb c 1 (λ e. omega (arith, e)) in
     rw (is-date pair 121 c refl, two, one)
     (by-test (eqb c 3) (λ e. rw e) (λ e. rw (e, eq-eqb c 4 (omega (arith, eqb-false c 3 e)))))
 
-pub fixed-read : (now : ℕ) (pair : Pair) (c : ℕ) (s : List ℕ) → 4 < c → runRead now pair 121 c s ≡ takenYear (minusFirst s + c) s
+pub fixed-read : (current : ℕ) (pair : Pair) (c : ℕ) (s : List ℕ) → 4 < c → runRead current pair 121 c s ≡ takenYear (minusFirst s + c) s
 unfolding readStep readRule dateRole roleAmong ruleOf pick otherwiseRule isAmong
-fixed-read now pair c s long =
+fixed-read current pair c s long =
     rw (
       is-date pair 121 c refl,
       ne-eqb c 2 (λ e. omega (arith, e)),
@@ -59,15 +59,15 @@ fixed-read now pair c s long =
     )
 
 -- names of a month, of a weekday
-pub month-read : (now : ℕ) (pair : Pair) (c : ℕ) (s : List ℕ) → 2 < c → runRead now pair 77 c s ≡ monthRead c s
+pub month-read : (current : ℕ) (pair : Pair) (c : ℕ) (s : List ℕ) → 2 < c → runRead current pair 77 c s ≡ monthRead c s
 unfolding readStep readRule
-month-read now pair c s long =
+month-read current pair c s long =
     rw (month-role pair c long)
     (by-test (eqb c 3) (λ e. rw e) (λ e. rw e (by-test (eqb c 5) (λ e′. rw e′) (λ e′. rw e′))))
 
-pub weekday-read : (now : ℕ) (pair : Pair) (s : List ℕ) → runRead now pair 101 4 s ≡ matchedName english WdayWide s
+pub weekday-read : (current : ℕ) (pair : Pair) (s : List ℕ) → runRead current pair 101 4 s ≡ matchedName english WdayWide s
 unfolding readStep readRule dateRole roleAmong ruleOf pick otherwiseRule isAmong
-weekday-read now pair s = rw (is-date pair 101 4 refl)
+weekday-read current pair s = rw (is-date pair 101 4 refl)
 
 -- the numbers that patterns have most, where their digits are there
 most-bounds : (short : Short) (c : ℕ) → c ≤ 2 → (c ≤ shortMost short c) × (shortMost short c ≤ 2)
@@ -78,14 +78,14 @@ most-bounds Minute c few = (few, omega arith)
 most-bounds Second c few = (few, omega arith)
 most-bounds Other c few = (few, omega arith)
 
-pub short-read : (now : ℕ) (pair : Pair) (b c : ℕ) (s : List ℕ) {short : Short} {d : Digits} → 0 < c → c ≤ 2 → short ≡ shortOf pair b → d ≡ digitsOf short c s
-    → d .size < 100 → runRead now pair b c s ≡ got (d .taken) (Value (shortUnit short) (pos (d .size)))
+pub short-read : (current : ℕ) (pair : Pair) (b c : ℕ) (s : List ℕ) {short : Short} {d : Digits} → 0 < c → c ≤ 2 → short ≡ shortOf pair b → d ≡ digitsOf short c s
+    → d .size < 100 → runRead current pair b c s ≡ got (d .taken) (Value (shortUnit short) (pos (d .size)))
 unfolding readStep
-short-read now pair b c s {short = short} some few which told small =
+short-read current pair b c s {short = short} some few which told small =
     let most = most-bounds short c few in
     by-test (isShort short)
     (λ e. rw (short-role pair b c some few (ap isShort (sym which) ∙ e), ← which, told, e)
-    (digits-read now (shortQuantity short) (shortUnit short) c (shortMost short c) some (most .0) (most .1) s (rw (told, e) at small)))
+    (digits-read current (shortQuantity short) (shortUnit short) c (shortMost short c) some (most .0) (most .1) s (rw (told, e) at small)))
     (λ e. let none : 100 < 100 = rw (told, e) at small in absurd (omega arith))
 
 pub short-within : (pair : Pair) (b c : ℕ) (s : List ℕ) {short : Short} {d : Digits} → 0 < c → c ≤ 2 → short ≡ shortOf pair b → d ≡ digitsOf short c s

@@ -38,21 +38,21 @@ none-for-zero : (n : ℕ) → zeroFor 0 n ≡ n
 none-for-zero n = by-test (eqb n 0) (λ e. rw (e, eqb-true n 0 e)) (λ e. rw e)
 
 -- a rule of one digit or two
-module _ (now : ℕ) (q : Quantity) (u : ParseUnit) (least most : ℕ) (some′ : 0 < least) (order : least ≤ most) (few : most ≤ 2) where
+module _ (current : ℕ) (q : Quantity) (u : ParseUnit) (least most : ℕ) (some′ : 0 < least) (order : least ≤ most) (few : most ≤ 2) where
   abbrev Reads : List ℕ → Digits → Type 0
-  Reads s d = readRule english now (Number q least most u 0) s ≡ got (d .taken) (Value u (pos (d .size)))
+  Reads s d = readRule english current (Number q least most u 0) s ≡ got (d .taken) (Value u (pos (d .size)))
 
   one-read : (a : ℕ) (s : List ℕ) → isDigit a ≡ true → least ≤ 1 → (1 < most → digitAt 0 s ≡ false) → Reads (a ∷ s) (found (a - 48) 1)
   unfolding decimal allDigits
   one-read a s d from free =
       let size : 0 * 10 + (a - 48) ≡ a - 48 = omega arith in
-      rw (size, none-for-zero (a - 48)) at (taken-comes-back least most (a ∷ []) s from (omega arith) (omega arith) (rw d) free english now q u 0 (omega (arith, digit-bounds a d .1)))
+      rw (size, none-for-zero (a - 48)) at (taken-comes-back least most (a ∷ []) s from (omega arith) (omega arith) (rw d) free english current q u 0 (omega (arith, digit-bounds a d .1)))
 
   two-read : (a b : ℕ) (s : List ℕ) → isDigit a ≡ true → isDigit b ≡ true → 1 < most → Reads (a ∷ b ∷ s) (found ((a - 48) * 10 + (b - 48)) 2)
   unfolding decimal allDigits
   two-read a b s d e two =
       let first : 0 * 10 + (a - 48) ≡ a - 48 = omega arith in
-      rw (first, none-for-zero ((a - 48) * 10 + (b - 48))) at (taken-comes-back least most (a ∷ b ∷ []) s (omega arith) (omega arith) two (rw (d, e)) (λ h. absurd (omega arith)) english now q u 0 (omega (arith, digit-bounds a d .1, digit-bounds b e .1)))
+      rw (first, none-for-zero ((a - 48) * 10 + (b - 48))) at (taken-comes-back least most (a ∷ b ∷ []) s (omega arith) (omega arith) two (rw (d, e)) (λ h. absurd (omega arith)) english current q u 0 (omega (arith, digit-bounds a d .1, digit-bounds b e .1)))
 
   alone-read : (a : ℕ) (s : List ℕ) → isDigit a ≡ true → digitAt 0 s ≡ false → when (eqb least 1) (found (a - 48) 1) (found 100 0) .size < 100
       → Reads (a ∷ s) (when (eqb least 1) (found (a - 48) 1) (found 100 0))

@@ -6,7 +6,7 @@ use native.Mathlib.Nat.{add-zero}
 use lib.IntN.{pos}
 use Rattle.meaning.specs.Numerals.{Signed}
 use Rattle.meaning.specs.Readers.{Got, got, stopped, Reader, _>>=_, done, skip, takeNumber, goOn}
-use Rattle.meaning.specs.Reading.{passed, takenNumber, zeroFor}
+use Rattle.meaning.specs.Reading.{passed, takenUnit, zeroFor}
 use Rattle.meaning.specs.declared.Carried.{Carried}
 use Rattle.meaning.specs.declared.Carried.the-variants.{Nothing, Value}
 use Rattle.meaning.specs.declared.Numeral.the-variants.{Count}
@@ -59,7 +59,7 @@ number-got f at (got n a) = refl
 number-got f at (stopped why i) = refl
 
 pub part-number : (u : ParseUnit) (z k at : ℕ) (s : List ℕ)
-    → partAt at (takenNumber u z k s) ≡ numberBy (λ n. Value u (pos (zeroFor z (n .size)))) (takenAt at (takeNumber Count k s))
+    → partAt at (takenUnit u z k s) ≡ numberBy (λ n. Value u (pos (zeroFor z (n .size)))) (takenAt at (takeNumber Count k s))
 part-number u z k at s =
     rw (
       made {B = Carried} (λ (n : ℕ). Value u (pos (zeroFor z n))) (takeNumber Count k >>= λ n. done (n .size)) s,

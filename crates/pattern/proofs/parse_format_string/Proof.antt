@@ -2,6 +2,7 @@
 use mathlib.Core.Path.{sym, _∙_}
 use borrow.Author.Needs.{needs}
 use denote.Ref.{now}
+use Rattle.laws.proofs.Told.{by-whole}
 use Rattle.pattern.proofs.checks.Checks.{fine-short}
 use Rattle.pattern.proofs.Splits.{split-fine, split-refused}
 use Rattle.pattern.proofs.parse_format_string.Statement.{statement}
@@ -28,13 +29,13 @@ returns : tie.Need-returns
 returns c =
     let s = c .before .before .before in
     let fine = sym (s .bytes-check .ensures) ∙ c .before .enum-told .given .1 in
-    c .split-parts .ensures ∙ split-fine (now (s .before .before .args .pattern)) fine
+    by-whole (c .split-parts .ensures ∙ split-fine (now (s .before .before .args .pattern)) fine)
 
 returns-2 : tie.Need-returns-2
 returns-2 c =
     let s = c .before .before .before .before in
     let refused = sym (s .bytes-check .ensures) ∙ c .before .before .checked .given .1 in
-    split-refused (now (s .before .before .args .pattern)) _ (c .no-part .result) (c .no-part .ensures) refused
+    by-whole (split-refused (now (s .before .before .args .pattern)) _ (c .no-part .result) (c .no-part .ensures) refused)
 
 pub parse-format-string-spec : {M : Type 1} → statement M
 parse-format-string-spec =

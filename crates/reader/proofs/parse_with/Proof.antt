@@ -2,6 +2,7 @@
 use borrow.Author.Needs.{needs}
 use mir.Syntax.{w32}
 use mir.ValLaws.{toZ-ofZ}
+use Rattle.laws.proofs.Told.{by-whole}
 use Rattle.meaning.specs.Whole.{read}
 use Rattle.reader.proofs.parse_with.Statement.{statement}
 use Rattle.reader.proofs.parse_with.Tie as tie
@@ -31,7 +32,7 @@ returns c =
     let same = toZ-ofZ w32 (a .year) (search needs) in
     let checked = rw same at (c .before .before .before .before .read-check .ensures) in
     let year = rw same at (c .before .size .ensures) in
-    rw (← checked, c .before .before .enum-told .given .1, ← year) (c .parse-parts .ensures)
+    by-whole (rw (← checked, c .before .before .enum-told .given .1, ← year) (c .parse-parts .ensures))
 
 returns-2 : tie.Need-returns-2
 unfolding read
@@ -39,7 +40,7 @@ returns-2 c =
     let a = c .before .before .before .before .before .before .args in
     let same = toZ-ofZ w32 (a .year) (search needs) in
     let checked = rw same at (c .before .before .before .read-check .ensures) in
-    rw (← checked, c .before .enum-told2 .given .1) (rw (c .before .enum-told2 .given .1) at (c .no-reading .ensures))
+    by-whole (rw (← checked, c .before .enum-told2 .given .1) (rw (c .before .enum-told2 .given .1) at (c .no-reading .ensures)))
 
 pub parse-with-spec : {M : Type 1} → statement M
 parse-with-spec =

@@ -22,15 +22,15 @@ use Rattle.pattern.specs.Next.{Next}
 use Rattle.pattern.proofs.parts.Walks.{steps-next, steps-done}
 use Rattle.pattern.specs.First.{contentOf}
 
-module _ (book : Book) (now i : ℕ) (text : List ℕ) (gave : List Carried) where
+module _ (book : Book) (current i : ℕ) (text : List ℕ) (gave : List Carried) where
   -- what follows a part, by what it gave
   abbrev pub walkBy : List Step → PartRead → Walk
   walkBy ss (part.Stopped why place) = refusedAt (Refused (InPart why i place))
-  walkBy ss (part.Got c next) = walk book now (i + 1) (next .at) ss (drop (next .at) text) (c ∷ gave)
+  walkBy ss (part.Got c next) = walk book current (i + 1) (next .at) ss (drop (next .at) text) (c ∷ gave)
 
   by-part : (at : ℕ) (ss : List Step) (g : Got Carried)
       → (elim g as (λ x. Walk) [
-        | got n c ↦ walk book now (suc i) (at + n) ss (drop n (drop at text)) (c ∷ gave)
+        | got n c ↦ walk book current (suc i) (at + n) ss (drop n (drop at text)) (c ∷ gave)
         | stopped why place ↦ refusedAt (Refused (InPart why i (at + place)))
       ])
       ≡ walkBy ss (partAt at g)
@@ -38,18 +38,18 @@ module _ (book : Book) (now i : ℕ) (text : List ℕ) (gave : List Carried) whe
   by-part at ss (stopped why place) = refl
 
   walk-on : (at : ℕ) (step : Step) (ss : List Step)
-      → walk book now i at (step ∷ ss) (drop at text) gave ≡ walkBy ss (partAt at (readStep book now step (drop at text)))
+      → walk book current i at (step ∷ ss) (drop at text) gave ≡ walkBy ss (partAt at (readStep book current step (drop at text)))
   unfolding walk
-  walk-on at step ss = by-part at ss (readStep book now step (drop at text))
+  walk-on at step ss = by-part at ss (readStep book current step (drop at text))
 
   pub walk-step : (pair : Pair) (at place : ℕ) (p : List ℕ) (part : Part) → Next p place part
-      → walk book now i at (steps pair (drop place p)) (drop at text) gave
+      → walk book current i at (steps pair (drop place p)) (drop at text) gave
       ≡ walkBy (steps pair (drop (place + part .length) p))
-      (partAt at (readStep book now (stepOf pair (contentOf p part)) (drop at text)))
+      (partAt at (readStep book current (stepOf pair (contentOf p part)) (drop at text)))
   walk-step pair at place p part n =
       rw (steps-next pair p place part n) (walk-on at (stepOf pair (contentOf p part)) (steps pair (drop (place + part .length) p)))
 
   pub walk-done : (pair : Pair) (at place : ℕ) (p : List ℕ) → length p ≤ place
-      → walk book now i at (steps pair (drop place p)) (drop at text) gave ≡ walked at gave
+      → walk book current i at (steps pair (drop place p)) (drop at text) gave ≡ walked at gave
   unfolding walk
   walk-done pair at place p h = rw (steps-done pair p place h)

@@ -11,7 +11,7 @@ use Rattle.meaning.specs.declared.Checked.{Checked}
 use Rattle.meaning.specs.declared.Checked.the-variants.{Fine, Refused}
 use Rattle.meaning.specs.declared.Refusal.{Refusal}
 use Rattle.meaning.specs.declared.Refusal.the-variants.{PatternTooLong, PatternByte}
-use Rattle.sheet.specs.Fits.{Count, WhyFits, CheckedFits}
+use Rattle.sheet.specs.Fits.{NumberFits, WhyFits, CheckedFits}
 
 pub else-fits : (a b : Checked) → CheckedFits a → (a ≡ Fine → CheckedFits b) → CheckedFits (a else b)
 else-fits Fine b h k = k refl
@@ -33,7 +33,7 @@ byte-fits why low high i (b ∷ s) h =
     pick-fits (within low high b) (byteCheck why low high (suc i) s) (Refused (why i))
     (byte-fits why low high (suc i) s (λ j k. h j (omega arith))) (h i (omega arith))
 
-pub bytes-fit : (p : List ℕ) → Count (length p) → CheckedFits (bytesCheck p)
+pub bytes-fit : (p : List ℕ) → NumberFits (length p) → CheckedFits (bytesCheck p)
 unfolding bytesCheck details
 bytes-fit p h =
     else-fits (refuseUnless (leb (length p) 256) (PatternTooLong (length p))) (byteCheck PatternByte 1 127 0 p)

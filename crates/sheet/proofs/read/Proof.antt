@@ -3,9 +3,9 @@ use denote.Ref.{now}
 use native.Mathlib.Omega.{arith}
 use mir.Syntax.{w32}
 use mir.ValLaws.{toZ-ofZ}
+use Rattle.meaning.specs.Answers.{readAnswer}
 use Rattle.meaning.specs.Names.{english}
 use Rattle.meaning.specs.Whole.{read}
-use Rattle.sheet.specs.Rows.{readAnswer}
 use Rattle.sheet.proofs.Fits.{read-fits}
 use Rattle.sheet.proofs.Rooms.{room, no-room}
 use borrow.Author.Needs.{needs}
@@ -23,7 +23,7 @@ parse-with-requires c κs = search needs
 give-reading-requires : tie.Need-give-reading-requires
 give-reading-requires c κs =
     let s = c .before .before .before .before .before in
-    let reads = rw (toZ-ofZ w32 (s .args .year) (s .fits .year)) at (c .before .parse-with .ensures) in
+    let reads = rw (toZ-ofZ w32 (s .args .year) (s .fits .year)) at (c .before .parse-with .ensures .whole) in
     (search needs, rw reads (read-fits (s .args .pair) (now (s .args .pattern)) (now (s .args .text)) (s .args .year) (omega (arith, s .good .1 .0 .1)) (omega (arith, s .good .1 .1 .0 .1)) (s .fits .year)))
 
 same-length : tie.Need-same-length
@@ -32,7 +32,7 @@ same-length c = search needs
 returns-2 : tie.Need-returns-2
 returns-2 c =
     let s = c .before .before .before .before .before .before .before in
-    let reads = rw (toZ-ofZ w32 (s .args .year) (s .fits .year)) at (c .before .before .before .parse-with .ensures) in
+    let reads = rw (toZ-ofZ w32 (s .args .year) (s .fits .year)) at (c .before .before .before .parse-with .ensures .whole) in
     room 18 (now (s .args .row)) (readAnswer (read (s .args .pair) english (now (s .args .pattern)) (now (s .args .text)) (s .args .year))) (omega (arith, c .before .before .before .before .if1 .left))
     (rw (← reads) (c .before .give-reading .ensures))
 

@@ -3,7 +3,7 @@ use denote.Ref.{now}
 use native.Mathlib.Omega.{arith}
 use mir.Syntax.{w32}
 use mir.ValLaws.{toZ-ofZ}
-use Rattle.sheet.specs.Rows.{verdictAnswer}
+use Rattle.meaning.specs.Answers.{verdictAnswer}
 use Rattle.trust.proofs.Verdicts.{verdict-says}
 use Rattle.trust.specs.Check.{verdictOf}
 use Rattle.sheet.proofs.Fits.{verdict-fits}

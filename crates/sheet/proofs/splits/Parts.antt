@@ -7,14 +7,14 @@ use lib.IntN.{ℤ, pos}
 use lib.ListN.{length, drop, replicate, drop-of-length-le}
 use lib.Seq.{sets, length-sets}
 use Rattle.laws.proofs.Laid.{sets-append}
-use Rattle.meaning.specs.Answers.{bytesCheck}
+use Rattle.meaning.specs.Answers.{accepted, refused, splitAnswer, bytesCheck}
 use Rattle.meaning.specs.Splitting.{contents, partsFrom, parts, noPart}
 use Rattle.meaning.specs.Whole.{split}
 use Rattle.meaning.specs.declared.Checked.the-variants.{Fine, Refused}
 use Rattle.meaning.specs.declared.Part.{Part}
 use Rattle.meaning.specs.declared.Refusal.{Refusal}
 use Rattle.pattern.specs.Next.{Next}
-use Rattle.sheet.specs.Rows.{laid, accepted, refused, splitAnswer, splitNumbers, partNumbers}
+use Rattle.sheet.specs.Rows.{laid, splitNumbers, partNumbers}
 
 -- the parts from a place on
 abbrev rest : List ℕ → ℕ → List Part
@@ -75,11 +75,11 @@ laying-end {p} {old} {row} {used} {at} h k l =
 -- a pattern that the checks pass, and one that they refuse
 module _ (p : List ℕ) where
   pub split-fine : bytesCheck p ≡ Fine
-      → (splitAnswer (split p) ≡ accepted (pos (length (parts p)) ∷ pos 0 ∷ []))
+      → (splitAnswer (split p) ≡ accepted (pos (length (parts p)) ∷ []))
       × (splitNumbers (split p) ≡ partNumbers (parts p ++ replicate (256 - length (parts p)) noPart))
   unfolding split
   split-fine e = rw e (refl, refl)
 
-  pub split-refused : (why : Refusal) → bytesCheck p ≡ Refused why → (splitAnswer (split p) ≡ refused 2 why) × (splitNumbers (split p) ≡ [])
+  pub split-refused : (why : Refusal) → bytesCheck p ≡ Refused why → (splitAnswer (split p) ≡ refused why) × (splitNumbers (split p) ≡ [])
   unfolding split
   split-refused why e = rw e (refl, refl)

@@ -22,7 +22,7 @@ give-wrote-requires c κs =
     let s = c .before .before .before .before .before .before .before .before in
     let a = s .args in
     let wrote = c .before .before .before .format-with .ensures in
-    (search needs, rw (wrote .0) (write-fits (a .pair) (now (a .pattern)) (a .f) (now (a .out)) (omega (arith, s .good .1 .0 .1)) (omega (arith, s .good .1 .1 .1 .0 .1))))
+    (search needs, rw (wrote .0 .whole) (write-fits (a .pair) (now (a .pattern)) (a .f) (now (a .out)) (omega (arith, s .good .1 .0 .1)) (omega (arith, s .good .1 .1 .1 .0 .1))))
 
 same-length : tie.Need-same-length
 same-length c = search needs
@@ -34,7 +34,7 @@ returns-2 : tie.Need-returns-2
 returns-2 c =
     let s = c .before .before .before .before .before .before .before .before .before .before in
     let wrote = c .before .before .before .before .before .format-with .ensures in
-    rw (le-leb 2 (length (now (s .args .row))) (omega (arith, c .before .before .before .before .before .before .before .if1 .left)), ← wrote .0) (c .before .give-wrote .ensures, wrote .1)
+    rw (le-leb 2 (length (now (s .args .row))) (omega (arith, c .before .before .before .before .before .before .before .if1 .left)), ← wrote .0 .whole) (c .before .give-wrote .ensures, wrote .1)
 
 pub write-spec : {M : Type 1} → statement M
 write-spec =

@@ -14,6 +14,7 @@ use Rattle.fields.proofs.checks.or_else.Reads as or-else
 use Rattle.writer.proofs.walk.format_parts.Reads as format-parts
 use Rattle.laws.proofs.Checks.{else-fine}
 use Rattle.laws.proofs.Sizes.{eight-bytes, text-fits}
+use Rattle.laws.proofs.Told.{by-whole}
 use Rattle.digits.proofs.laying.put_bytes.Reads as put-bytes
 use Rattle.meaning.specs.Answers.{_else_, patternCheck, fieldsCheck}
 use Rattle.meaning.specs.Names.{english}
@@ -140,7 +141,7 @@ module _ (t : ℕ) where
       let a = start .args in
       let row = row-front (left .before .before) in
       let room = with-room (a .pair) (now (a .pattern)) (a .f) (now (a .out)) (start .pre .1 .0) (start .pre .1 .1) (omega (arith, row .0, left .if1 .left)) in
-      rw (room .0, room .1) (ap wrote.Length (row .0), rw (row .1) at (c .before .before .put-bytes .ensures .held))
+      rw (room .0, room .1) (by-whole (ap wrote.Length (row .0)), rw (row .1) at (c .before .before .put-bytes .ensures .held))
 
   tight-returns-3 : tight-lts.Need-returns-3 (tight-calls t) (tight-at t) tight.Post
   tight-returns-3 c =
@@ -203,7 +204,7 @@ module _ (t : ℕ) where
       let checks = fine (then .before) in
       let room = with-room (a .pair) (now (a .pattern)) (a .f) (now (a .out)) (checks .0) (checks .1) (fits then) in
       let laid = c .before .before .format-parts .ensures in
-      rw (room .0, room .1) (ap wrote.Length (laid .end ∙ omega arith), laid .held)
+      rw (room .0, room .1) (by-whole (ap wrote.Length (laid .end ∙ omega arith)), laid .held)
 
   with-format-tight-requires : with-lts.Need-format-tight-requires (with-calls t) (with-at t) with.Post
   with-format-tight-requires c κs =

@@ -15,8 +15,8 @@ is-negative-requires c κs = search needs
 returns : tie.Need-returns
 unfolding currentYearCheck
 returns c =
-    let now = c .before .before .args .now in
-    let e = toZ-ofZ w32 now (c .before .before .fits .now) in
+    let year = c .before .before .args .year in
+    let e = toZ-ofZ w32 year (c .before .before .fits .year) in
     rw (e, ← (rw e at (c .before .is-negative .ensures)), c .if1 .taken)
 
 size-requires : tie.Need-size-requires
@@ -32,22 +32,22 @@ returns-2 : tie.Need-returns-2
 unfolding currentYearCheck
 returns-2 c =
     let a = c .before .before .before .before .before in
-    let e = toZ-ofZ w32 (a .args .now) (a .fits .now) in
+    let e = toZ-ofZ w32 (a .args .year) (a .fits .year) in
     let size = rw e at (c .before .before .size .ensures) in
     let tested = c .before .is-within .ensures in
     let found = c .if2 .taken in
-    let inside : within 1 9999 (natAbs (a .args .now)) ≡ true = cc in
+    let inside : within 1 9999 (natAbs (a .args .year)) ≡ true = cc in
     rw (← (rw e at (c .before .before .before .before .is-negative .ensures)), c .before .before .before .if1 .left, inside)
 
 returns-3 : tie.Need-returns-3
 unfolding currentYearCheck
 returns-3 c =
     let a = c .before .before .before .before .before in
-    let e = toZ-ofZ w32 (a .args .now) (a .fits .now) in
+    let e = toZ-ofZ w32 (a .args .year) (a .fits .year) in
     let size = rw e at (c .before .before .size .ensures) in
     let tested = c .before .is-within .ensures in
     let found = c .if2 .left in
-    let outside : within 1 9999 (natAbs (a .args .now)) ≡ false = cc in
+    let outside : within 1 9999 (natAbs (a .args .year)) ≡ false = cc in
     rw (
       e,
       ← (rw e at (c .before .before .before .before .is-negative .ensures)),

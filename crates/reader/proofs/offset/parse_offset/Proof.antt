@@ -2,6 +2,7 @@
 use denote.Ref.{now}
 use mathlib.Core.Logic.{⊎-elim}
 use mathlib.Core.Path.{sym, _∙_}
+use Rattle.laws.proofs.Told.{by-whole}
 use Rattle.reader.proofs.offset.Offsets.{refused-offset, no-first, z-offset, other-length, six-offset}
 use borrow.Author.Needs.{needs}
 use Rattle.reader.proofs.offset.parse_offset.Statement.{statement}
@@ -17,7 +18,7 @@ returns : tie.Need-returns
 returns c =
     let told = c .before .before .before in
     let s = now (told .before .before .args .text) in
-    sym (refused-offset s _ (sym (told .text-check .ensures) ∙ c .before .why .given .1))
+    by-whole (sym (refused-offset s _ (sym (told .text-check .ensures) ∙ c .before .why .given .1)))
 
 enum-told : tie.Need-enum-told
 enum-told c = search needs
@@ -30,7 +31,7 @@ returns-2 c =
     let told = c .before .before .before in
     let s = now (told .before .before .before .before .args .text) in
     let fine = sym (told .before .before .text-check .ensures) ∙ told .enum-told .given .1 in
-    sym (z-offset s fine (c .if2 .taken))
+    by-whole (sym (z-offset s fine (c .if2 .taken)))
 
 returns-3 : tie.Need-returns-3
 returns-3 c =
@@ -38,7 +39,7 @@ returns-3 c =
     let s = now (told .before .before .before .before .args .text) in
     let fine = sym (told .before .before .text-check .ensures) ∙ told .enum-told .given .1 in
     let other = ⊎-elim (λ w. w .2 .left) (λ w. no-first s (w .left)) (c .before .if1 .came) in
-    sym (other-length s fine other (c .if3 .taken))
+    by-whole (sym (other-length s fine other (c .if3 .taken)))
 
 hour-and-minute-requires : tie.Need-hour-and-minute-requires
 hour-and-minute-requires c κs = search needs
@@ -49,7 +50,7 @@ returns-4 c =
     let s = now (told .before .before .before .before .args .text) in
     let fine = sym (told .before .before .text-check .ensures) ∙ told .enum-told .given .1 in
     let other = ⊎-elim (λ w. w .2 .left) (λ w. no-first s (w .left)) (c .before .before .if1 .came) in
-    c .hour-and-minute .ensures ∙ sym (six-offset s fine other (c .before .if3 .left))
+    by-whole (c .hour-and-minute .ensures ∙ sym (six-offset s fine other (c .before .if3 .left)))
 
 pub parse-offset-spec : {M : Type 1} → statement M
 parse-offset-spec =

@@ -3,7 +3,7 @@ use lib.IntN.{pos, negℤ, +ℤ-idl}
 use mir.Syntax.{w64}
 use mir.ValLaws.{toZ-ofZ}
 use Rattle.sheet.proofs.entries.Stored.{stored}
-use Rattle.sheet.specs.Fits.{Count}
+use Rattle.sheet.specs.Fits.{NumberFits}
 use Rattle.sheet.proofs.entries.Stored.{size-of, negated-fits}
 use Rattle.sheet.proofs.answers.detail_entry.Statement.{statement}
 use Rattle.sheet.proofs.answers.detail_entry.Tie as tie
@@ -14,13 +14,13 @@ entry-requires c κs = let d = c .before .args .d in rw (size-of (d .negative) (
 sub-result : tie.Need-sub-result
 sub-result c =
     let d = c .before .before .args .d in
-    let small : Count (d .size) = rw (size-of (d .negative) (d .size)) at (c .before .before .pre) in
+    let small : NumberFits (d .size) = rw (size-of (d .negative) (d .size)) at (c .before .before .pre) in
     rw (stored (c .entry .result) (c .entry .ok), c .entry .ensures, +ℤ-idl (negℤ (pos (d .size)))) (negated-fits (d .size) small)
 
 returns : tie.Need-returns
 returns c =
     let d = c .before .before .args .d in
-    let small : Count (d .size) = rw (size-of (d .negative) (d .size)) at (c .before .before .pre) in
+    let small : NumberFits (d .size) = rw (size-of (d .negative) (d .size)) at (c .before .before .pre) in
     let minus = negℤ (pos (d .size)) in
     rw (stored (c .entry .result) (c .entry .ok), c .entry .ensures, +ℤ-idl minus, toZ-ofZ w64 minus (negated-fits (d .size) small), c .before .if1 .taken)
 

@@ -1,4 +1,4 @@
--- A count fits, so the cast leaves it as it is.
+-- The number fits, so the cast leaves it as it is.
 use mir.Facts.{toZ-pos}
 use mir.Syntax.{w64}
 use Rattle.sheet.proofs.entries.entry.Statement.{statement}

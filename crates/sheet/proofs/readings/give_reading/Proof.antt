@@ -1,5 +1,9 @@
 -- Each kind of answer has its own way to be given.
+use mathlib.Core.Path.{_≡_}
+use native.Mathlib.Omega.{arith}
 use borrow.Author.Needs.{needs}
+use lib.ListN.{length}
+use Rattle.sheet.proofs.Rooms.{full}
 use Rattle.sheet.proofs.readings.give_reading.Statement.{statement}
 use Rattle.sheet.proofs.readings.give_reading.Tie as tie
 
@@ -19,7 +23,10 @@ same-length : tie.Need-same-length
 same-length c = search needs
 
 returns : tie.Need-returns
-returns c = rw (c .before .before .before .enum-told .given .1) (c .before .give-values .ensures)
+returns c =
+    let values = c .before .before .before .before .before .args .reading .values in
+    let long : length values ≡ 15 = search needs in
+    rw (c .before .before .before .enum-told .given .1) (full 18 (omega arith) (c .before .give-values .ensures))
 
 same-length-2 : tie.Need-same-length-2
 same-length-2 c = search needs
