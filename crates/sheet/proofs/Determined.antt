@@ -82,14 +82,16 @@ module _ {row after after′ : List ℤ} {r r′ : ℕ} where
   verdicts-coincide : (v w : Verdict) → 10 ≤ length row → SameButRecord v w
       → Given (inRow 10 (verdictAnswer v)) row after r → Given (inRow 10 (verdictAnswer w)) row after′ r′ → SameCheck r r′ after after′
   verdicts-coincide Yes Yes h e x y = same-check (given-coincide x y)
-  verdicts-coincide Yes (No j g) h e x y = absurd e
-  verdicts-coincide Yes (Refused why) h e x y = absurd e
-  verdicts-coincide (No i f) Yes h e x y = absurd e
-  verdicts-coincide (No i f) (No j g) h e x y = no-check i f g h x (rw (← e) at y)
-  verdicts-coincide (No i f) (Refused why) h e x y = absurd e
-  verdicts-coincide (Refused why) Yes h e x y = absurd e
-  verdicts-coincide (Refused why) (No j g) h e x y = absurd e
-  verdicts-coincide (Refused why) (Refused why′) h e x y = same-check (given-coincide x (rw (← e) at y))
+  verdicts-coincide Yes (No j g) h e x y = absurd (let z : _≡_ {A = ℕ} 0 1 = cc in omega arith)
+  verdicts-coincide Yes (Refused why) h e x y = absurd (let z : _≡_ {A = ℕ} 0 1 = cc in omega arith)
+  verdicts-coincide (No i f) Yes h e x y = absurd (let z : _≡_ {A = ℕ} 0 1 = cc in omega arith)
+  verdicts-coincide (No i f) (No j g) h e x y = let same : i ≡ j = cc in no-check i f g h x (rw (← same) at y)
+  verdicts-coincide (No i f) (Refused why) h e x y = absurd (let z : _≡_ {A = ℕ} 0 1 = cc in omega arith)
+  verdicts-coincide (Refused why) Yes h e x y = absurd (let z : _≡_ {A = ℕ} 0 1 = cc in omega arith)
+  verdicts-coincide (Refused why) (No j g) h e x y = absurd (let z : _≡_ {A = ℕ} 0 1 = cc in omega arith)
+  verdicts-coincide (Refused why) (Refused why′) h e x y =
+      let same : why ≡ why′ = cc in
+      same-check (given-coincide x (rw (← same) at y))
 
   checks-by : (room : Bool) (v w : Verdict) → (room ≡ true → 10 ≤ length row) → SameButRecord v w
       → Given (ifRoom room (inRow 10 (verdictAnswer v))) row after r → Given (ifRoom room (inRow 10 (verdictAnswer w))) row after′ r′ → SameCheck r r′ after after′
