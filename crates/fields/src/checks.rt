@@ -7,6 +7,13 @@ use crate::signed::size;
 use meaning::Checked;
 use meaning::Fields;
 use meaning::Refusal;
+use meaning::unit_sizes::NANOS_PER_DAY;
+use meaning::unit_sizes::SECS_PER_DAY_U64;
+
+// Both stay within a day.
+const MOST_NANOS: u64 = NANOS_PER_DAY - 1;
+
+const MOST_OFFSET: u64 = SECS_PER_DAY_U64 - 1;
 
 fn is_within(low: u64, high: u64, n: u64) -> bool
     ensures { λ r. ⌜ r ≡ within low high n ⌝ }
@@ -48,10 +55,10 @@ fn field_out(f: Fields) -> u32
     if !is_within(0, 6, f.wday as u64) {
         return 6;
     }
-    if !is_within(0, 86399999999999, f.nanos) {
+    if !is_within(0, MOST_NANOS, f.nanos) {
         return 7;
     }
-    if !is_within(0, 86399, size(o) as u64) {
+    if !is_within(0, MOST_OFFSET, size(o) as u64) {
         return 8;
     }
     0

@@ -4,18 +4,22 @@ ghost use Prim.Native.Nat.{_+_, _-_, _/_, _%_, _^_, _≤_, _<_};
 ghost use lib.Dec.{eqb, ltb};
 ghost use Rattle.meaning.specs.Answers.{fieldsCheck};
 ghost use Rattle.meaning.specs.Bytes.{when};
+ghost use Rattle.meaning.specs.UnitSizes.{nanosPerSecond};
 ghost use Rattle.meaning.specs.Writing as written;
 ghost use Rattle.meaning.specs.declared.Checked.the-variants.{Fine};
 use crate::signed::is_negative;
 use meaning::Fields;
 use meaning::NameList;
 use meaning::Quantity;
+use meaning::unit_sizes::NANOS_PER_SEC;
+use meaning::unit_sizes::SECS_PER_HOUR;
+use meaning::unit_sizes::SECS_PER_MINUTE;
 
 pub fn second_of_day(nanos: u64) -> u32
     requires { ⌜ nanos ≤ 86399999999999 ⌝ }
-    ensures { λ r. ⌜ r ≡ nanos / 1000000000 ⌝ }
+    ensures { λ r. ⌜ r ≡ nanos / nanosPerSecond ⌝ }
 {
-    (nanos / 1000000000) as u32
+    (nanos / NANOS_PER_SEC) as u32
 }
 
 // The powers of ten that cut a second's fraction.
@@ -41,9 +45,9 @@ fn ten_to(n: u8) -> u32
 
 // So many digits of the second's fraction; nine where more are asked for.
 fn fraction(nanos: u64, digits: u8) -> u32
-    ensures { λ r. ⌜ r ≡ nanos % 1000000000 / 10 ^ (9 - digits) ⌝ }
+    ensures { λ r. ⌜ r ≡ nanos % nanosPerSecond / 10 ^ (9 - digits) ⌝ }
 {
-    let whole = (nanos % 1000000000) as u32;
+    let whole = (nanos % NANOS_PER_SEC) as u32;
     if 9 <= digits {
         return whole;
     }
@@ -68,12 +72,12 @@ pub fn quantity_of(quantity: Quantity, f: Fields) -> u32
         Quantity::DayOfYear => f.doy,
         Quantity::Weekday => f.wday + 1,
         Quantity::WeekdayFromMonday => (f.wday + 6) % 7 + 1,
-        Quantity::Hour1To12 => in_place_of_zero(12, second_of_day(f.nanos) / 3600 % 12),
-        Quantity::Hour0To11 => second_of_day(f.nanos) / 3600 % 12,
-        Quantity::Hour0To23 => second_of_day(f.nanos) / 3600,
-        Quantity::Hour1To24 => in_place_of_zero(24, second_of_day(f.nanos) / 3600),
-        Quantity::Minute => second_of_day(f.nanos) % 3600 / 60,
-        Quantity::Second => second_of_day(f.nanos) % 60,
+        Quantity::Hour1To12 => in_place_of_zero(12, second_of_day(f.nanos) / SECS_PER_HOUR % 12),
+        Quantity::Hour0To11 => second_of_day(f.nanos) / SECS_PER_HOUR % 12,
+        Quantity::Hour0To23 => second_of_day(f.nanos) / SECS_PER_HOUR,
+        Quantity::Hour1To24 => in_place_of_zero(24, second_of_day(f.nanos) / SECS_PER_HOUR),
+        Quantity::Minute => second_of_day(f.nanos) % SECS_PER_HOUR / SECS_PER_MINUTE,
+        Quantity::Second => second_of_day(f.nanos) % SECS_PER_MINUTE,
         Quantity::Fraction(digits) => fraction(f.nanos, digits),
     }
 }

@@ -21,6 +21,8 @@ use meaning::Fields;
 use meaning::NameList;
 use meaning::Pair;
 use meaning::Role;
+use meaning::unit_sizes::SECS_PER_HOUR;
+use meaning::unit_sizes::SECS_PER_MINUTE;
 use names::writing::format_name;
 use rules::role_of;
 use rules::short::Short;
@@ -95,9 +97,9 @@ fn short_number(short: Short, f: Fields) -> u32
     match short {
         Short::Month => f.month,
         Short::Day => f.day,
-        Short::Hour => second_of_day(f.nanos) / 3600,
-        Short::Minute => second_of_day(f.nanos) % 3600 / 60,
-        Short::Second => second_of_day(f.nanos) % 60,
+        Short::Hour => second_of_day(f.nanos) / SECS_PER_HOUR,
+        Short::Minute => second_of_day(f.nanos) % SECS_PER_HOUR / SECS_PER_MINUTE,
+        Short::Second => second_of_day(f.nanos) % SECS_PER_MINUTE,
         Short::Other => 100,
     }
 }

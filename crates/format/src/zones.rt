@@ -6,6 +6,7 @@ ghost use lib.Dec.{eqb};
 ghost use lib.ListN.{length};
 ghost use Rattle.laws.specs.Laid.{Laid};
 ghost use Rattle.meaning.specs.Bytes.{when, both, num, minus, plus};
+ghost use Rattle.meaning.specs.UnitSizes.{secondsPerHour, secondsPerMinute};
 ghost use Rattle.meaning.specs.Writing.{isThere, groupText, zoneText};
 use digits::laying::put_byte;
 use digits::numbers::put_marked;
@@ -13,6 +14,8 @@ use digits::numbers::zero_padded;
 use fields::signed::is_negative;
 use fields::signed::size;
 use meaning::Group;
+use meaning::unit_sizes::SECS_PER_HOUR;
+use meaning::unit_sizes::SECS_PER_MINUTE;
 
 fn is_there(group: Group, n: u32) -> bool
     ensures { λ r. ⌜ r ≡ isThere group n ⌝ }
@@ -43,12 +46,12 @@ fn put_offset(
     out: &mut [u8],
     at: usize,
 ) -> usize
-    requires { ⌜ at + length (num 2 (n / 3600) ++ groupText colon minutes (n % 3600 / 60) ++ groupText colon seconds (n % 60)) ≤ length (now out) ⌝ }
-    ensures { λ r. ⌜ Laid (now (out .entry)) (now (out .exit)) at r (num 2 (n / 3600) ++ groupText colon minutes (n % 3600 / 60) ++ groupText colon seconds (n % 60)) ⌝ }
+    requires { ⌜ at + length (num 2 (n / secondsPerHour) ++ groupText colon minutes (n % secondsPerHour / secondsPerMinute) ++ groupText colon seconds (n % secondsPerMinute)) ≤ length (now out) ⌝ }
+    ensures { λ r. ⌜ Laid (now (out .entry)) (now (out .exit)) at r (num 2 (n / secondsPerHour) ++ groupText colon minutes (n % secondsPerHour / secondsPerMinute) ++ groupText colon seconds (n % secondsPerMinute)) ⌝ }
 {
-    let a = zero_padded(n / 3600, 2, out, at);
-    let b = put_group(colon, minutes, n % 3600 / 60, out, a);
-    put_group(colon, seconds, n % 60, out, b)
+    let a = zero_padded(n / SECS_PER_HOUR, 2, out, at);
+    let b = put_group(colon, minutes, n % SECS_PER_HOUR / SECS_PER_MINUTE, out, a);
+    put_group(colon, seconds, n % SECS_PER_MINUTE, out, b)
 }
 
 fn sign_of(negative: bool) -> u8
@@ -66,8 +69,8 @@ fn put_zone(
     out: &mut [u8],
     at: usize,
 ) -> usize
-    requires { ⌜ at + length (when negative minus plus ∷ num 2 (n / 3600) ++ groupText colon minutes (n % 3600 / 60) ++ groupText colon seconds (n % 60)) ≤ length (now out) ⌝ }
-    ensures { λ r. ⌜ Laid (now (out .entry)) (now (out .exit)) at r (when negative minus plus ∷ num 2 (n / 3600) ++ groupText colon minutes (n % 3600 / 60) ++ groupText colon seconds (n % 60)) ⌝ }
+    requires { ⌜ at + length (when negative minus plus ∷ num 2 (n / secondsPerHour) ++ groupText colon minutes (n % secondsPerHour / secondsPerMinute) ++ groupText colon seconds (n % secondsPerMinute)) ≤ length (now out) ⌝ }
+    ensures { λ r. ⌜ Laid (now (out .entry)) (now (out .exit)) at r (when negative minus plus ∷ num 2 (n / secondsPerHour) ++ groupText colon minutes (n % secondsPerHour / secondsPerMinute) ++ groupText colon seconds (n % secondsPerMinute)) ⌝ }
 {
     let next = put_byte(sign_of(negative), out, at);
     put_offset(colon, minutes, seconds, n, out, next)

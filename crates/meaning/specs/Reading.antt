@@ -9,6 +9,7 @@ use lib.ListN.{length, drop}
 use Rattle.meaning.specs.Bytes.{when, isDigit, digitAt, minus}
 use Rattle.meaning.specs.Names.{Book, names}
 use Rattle.meaning.specs.Readers.{Reader, _>>=_, _>>_, done, skip, takeCount, takeYear, reach, ifDigit, matchName, letters, ZoneSign, utc, ahead, behindUtc, zoneSign}
+use Rattle.meaning.specs.UnitSizes.{secondsPerHour, secondsPerMinute}
 use Rattle.meaning.specs.Writing.{quantityOf, secondOfDay, isNegative, Step, literal, field}
 use Rattle.meaning.specs.declared.Carried.{Carried}
 use Rattle.meaning.specs.declared.Carried.the-variants.{Nothing, Value}
@@ -100,7 +101,7 @@ zoneSize c minutes seconds = do
   hh ← takeCount 2
   mm ← zoneGroup c minutes
   ss ← zoneGroup c seconds
-  done (hh * 3600 + mm * 60 + ss)
+  done (hh * secondsPerHour + mm * secondsPerMinute + ss)
 
 abbrev pub zoneBehind : Reader ℕ → ZoneSign → Reader ℤ
 zoneBehind size utc = done (pos 0)
@@ -195,7 +196,7 @@ carriedName NoonLetter f = periodOf f
 
 -- "cut to minutes toward zero unless c is 4 or 5": a zone of those counts has seconds
 abbrev pub cutToMinutes : ℤ → ℤ
-cutToMinutes z = when (isNegative z) (negℤ (pos (natAbs z / 60 * 60))) (pos (natAbs z / 60 * 60))
+cutToMinutes z = when (isNegative z) (negℤ (pos (natAbs z / secondsPerMinute * secondsPerMinute))) (pos (natAbs z / secondsPerMinute * secondsPerMinute))
 
 abbrev pub carriedOffset : Group → ℤ → ℤ
 carriedOffset Never z = cutToMinutes z

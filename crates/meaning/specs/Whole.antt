@@ -16,6 +16,7 @@ use Rattle.meaning.specs.Numerals.{Signed, numberOf}
 use Rattle.meaning.specs.Readers.{got, stopped}
 use Rattle.meaning.specs.Reading.{readStep}
 use Rattle.meaning.specs.Splitting.{parts, noPart}
+use Rattle.meaning.specs.UnitSizes.{secondsPerHour, secondsPerMinute}
 use Rattle.meaning.specs.Writing.{Step, steps, texts}
 use Rattle.meaning.specs.declared.Carried.{Carried}
 use Rattle.meaning.specs.declared.Carried.the-variants.{Nothing, Value}
@@ -174,7 +175,7 @@ offsetBy (Refused why) o = offset.Refused why
 abbrev pub seconds : Bool → ℕ → ℕ → Offset
 seconds ahead hour minute =
     offsetBy (refuseUnless (leb hour 23) (OffsetRange 1) else refuseUnless (leb minute 59) (OffsetRange 2))
-    (offset.Seconds (when ahead (pos (hour * 3600 + minute * 60)) (negℤ (pos (hour * 3600 + minute * 60)))))
+    (offset.Seconds (when ahead (pos (hour * secondsPerHour + minute * secondsPerMinute)) (negℤ (pos (hour * secondsPerHour + minute * secondsPerMinute)))))
 
 abbrev pub hourAndMinute : Bool → Option Signed → Option Signed → Offset
 hourAndMinute ahead none minute = offset.Refused (InPart NoNumber 0 1)

@@ -11,6 +11,7 @@ use Rattle.meaning.specs.Bytes.{when, both, num, minus, plus, colon, quo
 use Rattle.meaning.specs.Names.{Book, names}
 use Rattle.meaning.specs.Rules.{roleOf}
 use Rattle.meaning.specs.Splitting.{Content, run, quotes, quoted, unclosed, contents}
+use Rattle.meaning.specs.UnitSizes.{nanosPerSecond, secondsPerHour, secondsPerMinute}
 use Rattle.meaning.specs.declared.Fields.{Fields}
 use Rattle.meaning.specs.declared.Group.{Group}
 use Rattle.meaning.specs.declared.Group.the-variants.{Never, NotZero, Always}
@@ -26,10 +27,10 @@ use Rattle.meaning.specs.declared.Rule.the-variants.{Number, SkippedNumb
 
 -- the whole second of the day, and its hour
 abbrev pub secondOfDay : Fields → ℕ
-secondOfDay f = f .nanos / 1000000000
+secondOfDay f = f .nanos / nanosPerSecond
 
 abbrev pub hourOf : Fields → ℕ
-hourOf f = secondOfDay f / 3600
+hourOf f = secondOfDay f / secondsPerHour
 
 -- a number, or another in the place of zero
 abbrev pub inPlaceOfZero : ℕ → ℕ → ℕ
@@ -48,9 +49,9 @@ quantityOf Hour1To12 f = inPlaceOfZero 12 (hourOf f % 12)
 quantityOf Hour0To11 f = hourOf f % 12
 quantityOf Hour0To23 f = hourOf f
 quantityOf Hour1To24 f = inPlaceOfZero 24 (hourOf f)
-quantityOf Minute f = secondOfDay f % 3600 / 60
-quantityOf Second f = secondOfDay f % 60
-quantityOf (Fraction k) f = f .nanos % 1000000000 / 10 ^ (9 - k)
+quantityOf Minute f = secondOfDay f % secondsPerHour / secondsPerMinute
+quantityOf Second f = secondOfDay f % secondsPerMinute
+quantityOf (Fraction k) f = f .nanos % nanosPerSecond / 10 ^ (9 - k)
 
 abbrev pub isNegative : ℤ → Bool
 isNegative (pos n) = false
@@ -118,8 +119,8 @@ groupText c g n = when (isThere g n) (colonText c ++ num 2 n) []
 -- "the sign is minus exactly when the offset is below zero, then hh", then the groups
 unfoldable pub offsetText : Bool → Group → Group → ℤ → List ℕ
 offsetText c minutes seconds z =
-    when (isNegative z) minus plus ∷ num 2 (natAbs z / 3600) ++ groupText c minutes (natAbs z % 3600 / 60)
-    ++ groupText c seconds (natAbs z % 60)
+    when (isNegative z) minus plus ∷ num 2 (natAbs z / secondsPerHour) ++ groupText c minutes (natAbs z % secondsPerHour / secondsPerMinute)
+    ++ groupText c seconds (natAbs z % secondsPerMinute)
 
 -- "X with offset 0 writes Z at any count"
 abbrev pub zoneText : Bool → Bool → Group → Group → ℤ → List ℕ

@@ -1,6 +1,7 @@
 // The types of document 01, which every crate shares. What they mean is defined in specs/.
-// "The field record and the numbers": the eight fields, in its order.
+pub mod unit_sizes;
 
+// "The field record and the numbers": the eight fields, in its order.
 pub struct Fields {
     pub year: i32,
     pub month: u32,

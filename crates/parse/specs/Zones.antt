@@ -4,6 +4,7 @@ use Prim.Native.Nat.{ℕ, _+_, _*_}
 use Rattle.meaning.specs.Numerals.{integer}
 use Rattle.meaning.specs.Readers.{Got, got, stopped, Reader, _>>=_, done, takeCount, ZoneSign, utc, ahead, behindUtc}
 use Rattle.meaning.specs.Reading.{zoneGroup}
+use Rattle.meaning.specs.UnitSizes.{secondsPerHour, secondsPerMinute}
 use Rattle.meaning.specs.declared.Carried.{Carried}
 use Rattle.meaning.specs.declared.Carried.the-variants.{Value}
 use Rattle.meaning.specs.declared.Group.{Group}
@@ -31,4 +32,4 @@ zoneFrom negative c minutes seconds = do
   hh ← takeCount 2
   mm ← zoneGroup c minutes
   ss ← zoneGroup c seconds
-  done (offset negative (hh * 3600 + mm * 60 + ss))
+  done (offset negative (hh * secondsPerHour + mm * secondsPerMinute + ss))

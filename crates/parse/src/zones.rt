@@ -17,6 +17,8 @@ use meaning::Group;
 use meaning::Numeral;
 use meaning::ParseUnit;
 use meaning::Trouble;
+use meaning::unit_sizes::SECS_PER_HOUR_U64;
+use meaning::unit_sizes::SECS_PER_MINUTE_U64;
 use numerals::integer_of;
 use numerals::is_digit;
 
@@ -157,7 +159,9 @@ fn zone_from(
                     match zone_group(colon, seconds, text, behind_mm) {
                         Counted::Stopped { trouble, place } => PartRead::Stopped { trouble, place },
                         Counted::Number { size: ss, next } => {
-                            let n = hh as u64 * 3600 + mm as u64 * 60 + ss as u64;
+                            let n = hh as u64 * SECS_PER_HOUR_U64
+                                + mm as u64 * SECS_PER_MINUTE_U64
+                                + ss as u64;
                             let value = integer_of(negative, n);
                             PartRead::Got {
                                 carried: Carried::Value(ParseUnit::Offset, value),

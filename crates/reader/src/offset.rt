@@ -13,6 +13,8 @@ use meaning::Numeral;
 use meaning::Offset;
 use meaning::Refusal;
 use meaning::Trouble;
+use meaning::unit_sizes::SECS_PER_HOUR;
+use meaning::unit_sizes::SECS_PER_MINUTE;
 use numerals::Number;
 use numerals::read_number;
 
@@ -34,7 +36,7 @@ fn seconds(ahead: bool, hour: u32, minute: u32) -> Offset
     if 59 < minute {
         return Offset::Refused(Refusal::OffsetRange(2));
     }
-    let n = (hour * 3600 + minute * 60) as i32;
+    let n = (hour * SECS_PER_HOUR + minute * SECS_PER_MINUTE) as i32;
     if ahead {
         Offset::Seconds(n)
     } else {
