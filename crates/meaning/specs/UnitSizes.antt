@@ -1,4 +1,4 @@
--- The unit sizes of the Rust's constants.rs, which document 01 carries over.
+-- Document 01, "What is carried over": the unit sizes of constants.rs.
 use Prim.Native.Nat.{ℕ}
 
 abbrev pub nanosPerSecond : ℕ

@@ -1,4 +1,4 @@
-// The unit sizes of the Rust's constants.rs.
+// "What is carried over": the unit sizes of constants.rs.
 
 pub const SECS_PER_MINUTE: u32 = 60;
 

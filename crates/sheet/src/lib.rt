@@ -1,5 +1,5 @@
-// The functions for C and Rust. Each returns 0 where it accepts and document 01's number where it refuses, and lays its answer
-// over the start of a lent row. Where a lent row is too small for the answer it returns 100 and alters nothing.
+// The functions for C and Rust. Each that is lent a row returns 0 where it accepts and document 01's number where it refuses, and
+// lays its answer over the row's start. Where the row is too small for the answer it returns 100 and alters nothing.
 pub mod answers;
 pub mod entries;
 pub mod readings;

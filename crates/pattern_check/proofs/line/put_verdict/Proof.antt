@@ -1,6 +1,8 @@
 -- Each verdict in its words.
 use native.Mathlib.Omega.{arith}
+use mathlib.Core.Path.{ap}
 use mir.Facts.{fits-below}
+use Rattle.refusals.specs.declared.Told.{Told}
 use Rattle.pattern_check.proofs.line.Words.{yes-text, no-text, refused-text}
 use borrow.Author.Needs.{needs}
 use Rattle.pattern_check.proofs.line.put_verdict.Statement.{statement}
@@ -42,7 +44,7 @@ tell-requires c κs = search needs
 
 put-counted-requires-2 : tie.Need-put-counted-requires-2
 put-counted-requires-2 c κs =
-    rw (c .before .before .before .before .verdict2 .given .1, refused-text, ← c .before .tell .ensures .0) at (c .before .before .before .before .before .before .before .pre .1)
+    rw (c .before .before .before .before .verdict2 .given .1, refused-text, ← ap (λ (t : Told). t .number) (c .before .tell .ensures)) at (c .before .before .before .before .before .before .before .pre .1)
 
 same-length : tie.Need-same-length
 same-length c = search needs
@@ -60,7 +62,7 @@ same-length-3 : tie.Need-same-length-3
 same-length-3 c = search needs
 
 returns-3 : tie.Need-returns-3
-returns-3 c = rw (c .before .before .before .before .before .before .before .verdict2 .given .1, refused-text, ← c .before .before .before .before .tell .ensures .0) (c .before .before .put-counted2 .ensures)
+returns-3 c = rw (c .before .before .before .before .before .before .before .verdict2 .given .1, refused-text, ← ap (λ (t : Told). t .number) (c .before .before .before .before .tell .ensures)) (c .before .before .put-counted2 .ensures)
 
 pub put-verdict-spec : {M : Type 1} → statement M
 put-verdict-spec =
