@@ -1,7 +1,7 @@
 // "Answer numbers" of document 01: a refusal's number and what it returns.
 ghost use mathlib.Core.Path.{_≡_};
-ghost use Rattle.meaning.specs.Answers.{troubleNumber, number, details};
-ghost use Rattle.refusals.specs.Told.{unsigned, oneDetail, detailsOf};
+ghost use Rattle.meaning.specs.Answers.{troubleNumber};
+ghost use Rattle.refusals.specs.Told.{told, unsigned, oneDetail};
 use fields::signed::is_negative;
 use fields::signed::size;
 use meaning::Refusal;
@@ -52,7 +52,7 @@ fn with_one(number: u32, n: usize) -> Told
 }
 
 pub fn tell(why: Refusal) -> Told
-    ensures { λ r. ⌜ (r .number ≡ number why) × (detailsOf r ≡ details why) ⌝ }
+    ensures { λ r. ⌜ r ≡ told why ⌝ }
 {
     match why {
         Refusal::PatternTooLong(n) => with_one(1, n),

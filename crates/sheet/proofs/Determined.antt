@@ -1,13 +1,23 @@
--- Two results that a promise of `Sheet` allows coincide, with the rows and the output; that of the check leaves its record open.
-use mathlib.Core.List.{List}
-use mathlib.Core.Path.{_≡_}
-use Prim.Native.Nat.{ℕ}
-use lib.IntN.{ℤ}
+-- Two results that a promise of `Sheet` allows coincide, with the rows and the output; those of the check but for the record
+-- that a no shows.
+use mathlib.Core.Bool.{Bool, true, false}
+use mathlib.Core.List.{List, _∷_, _++_}
+use mathlib.Core.Logic.{_⊎_, inl, inr}
+use mathlib.Core.Path.{_≡_, refl, ap, _∙_}
+use Prim.Native.Nat.{ℕ, _≤_}
+use lib.IntN.{ℤ, pos}
+use lib.ListN.{length, getD, take, drop}
+use lib.Seq.{sets-eq}
+use borrow.Author.Tests.{leb-true}
 use Rattle.laws.proofs.Determined.{determined}
+use Rattle.meaning.specs.Names.{english}
 use Rattle.meaning.specs.declared.Fields.{Fields}
 use Rattle.meaning.specs.declared.Pair.{Pair}
-use Rattle.sheet.specs.Rows.{Answer, Given}
-use Rattle.sheet.specs.Sheet.{SheetWrites, SheetReads, SheetParsesOffset, SheetSplits}
+use Rattle.meaning.specs.declared.Verdict.{Verdict}
+use Rattle.meaning.specs.declared.Verdict.the-variants.{Yes, No, Refused}
+use Rattle.sheet.specs.Rows.{Answer, Given, accepted, fieldNumbers, verdictAnswer}
+use Rattle.sheet.specs.Sheet.{has, ifRoom, SheetWrites, SheetReads, SheetTellsRead, SheetParsesOffset, SheetSplits, SheetChecks}
+use Rattle.trust.proofs.Agreement.{SameButRecord, answers-coincide}
 
 given-coincide : {answer : Answer} {old new new′ : List ℤ} {r r′ : ℕ} → Given answer old new r → Given answer old new′ r′ → (r ≡ r′) × (new ≡ new′)
 given-coincide g h = (determined (g .number) (h .number), determined (g .row) (h .row))
@@ -22,6 +32,9 @@ pub reads-coincide : (pair : Pair) (p s : List ℕ) (now : ℤ) (row : List ℤ)
     → SheetReads pair p s now row r rowAfter → SheetReads pair p s now row r′ rowAfter′ → (r ≡ r′) × (rowAfter ≡ rowAfter′)
 reads-coincide pair p s now row = given-coincide
 
+pub told-coincide : (mask : ℤ) (unit : ℕ) {r r′ : ℕ} → SheetTellsRead mask unit r → SheetTellsRead mask unit r′ → r ≡ r′
+told-coincide mask unit = determined
+
 pub offsets-coincide : (s : List ℕ) (row : List ℤ) {r r′ : ℕ} {rowAfter rowAfter′ : List ℤ}
     → SheetParsesOffset s row r rowAfter → SheetParsesOffset s row r′ rowAfter′ → (r ≡ r′) × (rowAfter ≡ rowAfter′)
 offsets-coincide s row = given-coincide
@@ -31,3 +44,59 @@ pub splits-coincide : (p : List ℕ) (row parts : List ℤ) {r r′ : ℕ} {rowA
     → (r ≡ r′) × (rowAfter ≡ rowAfter′) × (partsAfter ≡ partsAfter′)
 splits-coincide p row parts w v =
     let g = given-coincide (w .0) (v .0) in (g .0, g .1, determined (w .1) (v .1))
+
+-- the check
+
+-- a no: 0 is returned, and the row starts with 0
+abbrev pub SaysNo : ℕ → List ℤ → Type 0
+SaysNo r row = (r ≡ 0) × (getD row 0 (pos 1) ≡ pos 0)
+
+-- the same number, and rows that are the same before the record and behind it; and all the same, unless they say no
+pub record SameCheck (r r′ : ℕ) (row row′ : List ℤ) : Type 0 where
+  pub number : r ≡ r′
+  pub before : take 2 row ≡ take 2 row′
+  pub behind : drop 10 row ≡ drop 10 row′
+  pub all : SaysNo r row ⊎ (row ≡ row′)
+
+same-check : {r r′ : ℕ} {row row′ : List ℤ} → (r ≡ r′) × (row ≡ row′) → SameCheck r r′ row row′
+same-check e =
+    record { number = e .0; before = ap (take 2) (e .1); behind = ap (drop 10) (e .1); all = inr (e .1) }
+
+abbrev noNumbers : ℕ → Fields → List ℤ
+noNumbers part f = pos 0 ∷ pos part ∷ fieldNumbers f
+
+module _ {row after after′ : List ℤ} {r r′ : ℕ} where
+  no-check : (part : ℕ) (f g : Fields) → 10 ≤ length row
+      → Given (accepted (noNumbers part f)) row after r → Given (accepted (noNumbers part g)) row after′ r′ → SameCheck r r′ after after′
+  no-check part f g h x y =
+      let e : after ≡ noNumbers part f ++ drop 10 row = x .row ∙ sets-eq (noNumbers part f) row 0 h in
+      let e′ : after′ ≡ noNumbers part g ++ drop 10 row = y .row ∙ sets-eq (noNumbers part g) row 0 h in
+      record {
+        number = determined (x .number) (y .number);
+        before = determined (ap (take 2) e) (ap (take 2) e′);
+        behind = determined (ap (drop 10) e) (ap (drop 10) e′);
+        all = inl (x .number, ap (λ (l : List ℤ). getD l 0 (pos 1)) e);
+      }
+
+  verdicts-coincide : (v w : Verdict) → 10 ≤ length row → SameButRecord v w
+      → Given (verdictAnswer v) row after r → Given (verdictAnswer w) row after′ r′ → SameCheck r r′ after after′
+  verdicts-coincide Yes Yes h e x y = same-check (given-coincide x y)
+  verdicts-coincide Yes (No j g) h e x y = absurd e
+  verdicts-coincide Yes (Refused why) h e x y = absurd e
+  verdicts-coincide (No i f) Yes h e x y = absurd e
+  verdicts-coincide (No i f) (No j g) h e x y = no-check i f g h x (rw (← e) at y)
+  verdicts-coincide (No i f) (Refused why) h e x y = absurd e
+  verdicts-coincide (Refused why) Yes h e x y = absurd e
+  verdicts-coincide (Refused why) (No j g) h e x y = absurd e
+  verdicts-coincide (Refused why) (Refused why′) h e x y = same-check (given-coincide x (rw (← e) at y))
+
+  checks-by : (room : Bool) (v w : Verdict) → (room ≡ true → 10 ≤ length row) → SameButRecord v w
+      → Given (ifRoom room (verdictAnswer v)) row after r → Given (ifRoom room (verdictAnswer w)) row after′ r′ → SameCheck r r′ after after′
+  checks-by true v w h e x y = verdicts-coincide v w (h refl) e x y
+  checks-by false v w h e x y = same-check (given-coincide x y)
+
+pub checks-coincide : (p : List ℕ) (current : ℤ) (row : List ℤ) {r r′ : ℕ} {rowAfter rowAfter′ : List ℤ}
+    → SheetChecks p current row r rowAfter → SheetChecks p current row r′ rowAfter′ → SameCheck r r′ rowAfter rowAfter′
+checks-coincide p current row a b =
+    checks-by (has 10 row) (a .verdict) (b .verdict) (leb-true 10 (length row))
+    (answers-coincide english p current (a .verdict) (b .verdict) (a .says) (b .says)) (a .given) (b .given)

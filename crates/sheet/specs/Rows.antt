@@ -1,11 +1,15 @@
 -- Document 01's answers as numbers: what a function returns, and the numbers that it lays over the start of a lent row.
+use mathlib.Core.Bool.{Bool, false}
 use mathlib.Core.List.{List, [], _∷_, _++_}
 use mathlib.Core.Path.{_≡_}
 use Prim.Native.Nat.{ℕ, _-_}
-use lib.IntN.{ℤ, pos}
+use lib.Dec.{leb}
+use lib.IntN.{ℤ, pos, negsuc}
 use lib.ListN.{length, replicate}
 use lib.Seq.{sets}
 use Rattle.meaning.specs.Answers as answers
+use Rattle.meaning.specs.Bytes.{both}
+use Rattle.meaning.specs.Whole.{marked}
 use Rattle.meaning.specs.declared.Checked.{Checked}
 use Rattle.meaning.specs.declared.Checked.the-variants.{Fine, Refused}
 use Rattle.meaning.specs.declared.Fields.{Fields}
@@ -49,6 +53,11 @@ wroteAnswer (wrote.Refused why) = refused 2 why
 -- the bytes read, the mask, how many units, and the fifteen values
 abbrev pub readAnswer : Reading → Answer
 readAnswer r = answerBy (r .checked) 18 (pos (r .taken) ∷ pos (r .mask) ∷ pos (r .units) ∷ r .values)
+
+-- whether a mask has the bit of a unit, of which there are fifteen; a number below 0 is no mask and has none
+abbrev pub isMarked : ℤ → ℕ → Bool
+isMarked (pos mask) unit = both (leb unit 14) (marked mask unit)
+isMarked (negsuc n) unit = false
 
 -- the seconds, and 0
 abbrev pub offsetAnswer : Offset → Answer

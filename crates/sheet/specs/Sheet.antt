@@ -14,7 +14,7 @@ use Rattle.meaning.specs.Whole.{split, write, output, read, parseOffset}
 use Rattle.meaning.specs.declared.Fields.{Fields}
 use Rattle.meaning.specs.declared.Pair.{Pair}
 use Rattle.meaning.specs.declared.Verdict.{Verdict}
-use Rattle.sheet.specs.Rows.{Answer, Given, laid, wroteAnswer, readAnswer, offsetAnswer, verdictAnswer, splitAnswer, splitNumbers}
+use Rattle.sheet.specs.Rows.{Answer, Given, laid, wroteAnswer, readAnswer, isMarked, offsetAnswer, verdictAnswer, splitAnswer, splitNumbers}
 
 -- whether a row has so many entries
 abbrev pub has : {A : Type 0} → ℕ → List A → Bool
@@ -31,6 +31,9 @@ SheetWrites pair p f out row r outAfter rowAfter =
 
 abbrev pub SheetReads : Pair → List ℕ → List ℕ → ℤ → List ℤ → ℕ → List ℤ → Type 0
 SheetReads pair p s now row r rowAfter = Given (ifRoom (has 18 row) (readAnswer (read pair english p s now))) row rowAfter r
+
+abbrev pub SheetTellsRead : ℤ → ℕ → ℕ → Type 0
+SheetTellsRead mask unit r = r ≡ when (isMarked mask unit) 1 0
 
 abbrev pub SheetParsesOffset : List ℕ → List ℤ → ℕ → List ℤ → Type 0
 SheetParsesOffset s row r rowAfter = Given (ifRoom (has 2 row) (offsetAnswer (parseOffset s))) row rowAfter r

@@ -6,10 +6,11 @@ pub mod readings;
 pub mod splits;
 pub mod verdicts;
 
-ghost use Rattle.sheet.specs.Sheet.{SheetWrites, SheetReads, SheetParsesOffset, SheetSplits, SheetChecks};
+ghost use Rattle.sheet.specs.Sheet.{SheetWrites, SheetReads, SheetParsesOffset, SheetSplits, SheetChecks, SheetTellsRead};
 use crate::answers::give_offset;
 use crate::answers::give_wrote;
 use crate::readings::give_reading;
+use crate::readings::is_marked;
 use crate::splits::give_split;
 use crate::verdicts::give_verdict;
 use meaning::Fields;
@@ -112,6 +113,14 @@ pub extern "C" fn sheet_read_date(pattern: &[u8], text: &[u8], year: i32, answer
     ensures { λ r. ⌜ SheetReads Pair.Date (now (pattern .entry)) (now (text .entry)) year (now (answer .entry)) r (now (answer .exit)) ⌝ }
 {
     read(Pair::Date, pattern, text, year, answer)
+}
+
+// 1 where a unit was read, by the mask of a reading, the second number of its row; else 0.
+#[no_mangle]
+pub extern "C" fn sheet_was_read(mask: i64, unit: u32) -> u32
+    ensures { λ r. ⌜ SheetTellsRead mask unit r ⌝ }
+{
+    if is_marked(mask, unit) { 1 } else { 0 }
 }
 
 // The row: the seconds and 0, or the refusal's details.

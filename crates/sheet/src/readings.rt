@@ -1,15 +1,19 @@
-// Readings as rows of numbers.
+// Readings as rows of numbers, and the mask of one looked at.
 ghost use mathlib.Core.List.{_∷_};
+ghost use mathlib.Core.Path.{_≡_};
 ghost use Prim.Native.Nat.{_≤_};
 ghost use lib.IntN.{pos};
 ghost use lib.ListN.{length};
+ghost use Rattle.meaning.specs.Whole.{unitNumber};
 ghost use Rattle.sheet.specs.Fits.{Count, ReadFits};
-ghost use Rattle.sheet.specs.Rows.{Given, accepted, readAnswer};
+ghost use Rattle.sheet.specs.Rows.{Given, accepted, readAnswer, isMarked};
 use crate::answers::give_refusal;
 use crate::entries::entry;
 use crate::entries::lay;
 use meaning::Checked;
+use meaning::ParseUnit;
 use meaning::Reading;
+use reader::record::was_read;
 
 fn give_values(reading: Reading, row: &mut [i64]) -> u32
     requires { ⌜ (18 ≤ length (now row)) × Count (reading .taken) ⌝ }
@@ -33,4 +37,38 @@ pub fn give_reading(reading: Reading, row: &mut [i64]) -> u32
         Checked::Fine => give_values(reading, row),
         Checked::Refused(why) => give_refusal(why, 18, row),
     }
+}
+
+// The unit of a number: `unit_number` the other way round.
+fn unit_of(number: u32) -> ParseUnit
+    requires { ⌜ number ≤ 14 ⌝ }
+    ensures { λ r. ⌜ unitNumber r ≡ number ⌝ }
+{
+    match number {
+        0 => ParseUnit::Year,
+        1 => ParseUnit::Month,
+        2 => ParseUnit::DayOfMonth,
+        3 => ParseUnit::DayOfYear,
+        4 => ParseUnit::Hour,
+        5 => ParseUnit::Period,
+        6 => ParseUnit::PeriodHour,
+        7 => ParseUnit::Minute,
+        8 => ParseUnit::Second,
+        9 => ParseUnit::Decis,
+        10 => ParseUnit::Centis,
+        11 => ParseUnit::Millis,
+        12 => ParseUnit::Micros,
+        13 => ParseUnit::Nanos,
+        _ => ParseUnit::Offset,
+    }
+}
+
+// No unit has a bit above the fifteen.
+pub fn is_marked(mask: i64, unit: u32) -> bool
+    ensures { λ r. ⌜ r ≡ isMarked mask unit ⌝ }
+{
+    if mask < 0 || 14 < unit {
+        return false;
+    }
+    was_read((mask as u64 % 32768) as u16, unit_of(unit))
 }

@@ -1,11 +1,7 @@
 -- Each refusal has the number and the details of the table.
-use mathlib.Core.List.{[], _∷_}
-use mathlib.Core.Path.{refl, ap, _∙_}
 use mir.Facts.{toZ-ofZ}
 use mir.Syntax.{w32}
-use mir.Val.{toZ, ofZ}
 use borrow.Author.Needs.{needs}
-use Rattle.refusals.proofs.Integers.{sign-and-size}
 use Rattle.meaning.specs.Answers.{number, details}
 use Rattle.refusals.proofs.tell.Statement.{statement}
 use Rattle.refusals.proofs.tell.Tie as tie
@@ -99,54 +95,51 @@ detail-of-requires-3 c κs = search needs
 
 returns : tie.Need-returns
 unfolding number details
-returns c = rw (c .with-one .ensures, c .before .before .why .given .1) (refl, refl)
+returns c = rw (c .with-one .ensures, c .before .before .why .given .1)
 
 returns-2 : tie.Need-returns-2
 unfolding number details
-returns-2 c = rw (c .with-one2 .ensures, c .before .before .why2 .given .1) (refl, refl)
+returns-2 c = rw (c .with-one2 .ensures, c .before .before .why2 .given .1)
 
 returns-3 : tie.Need-returns-3
 unfolding number details
-returns-3 c = rw (c .with-one3 .ensures, c .before .before .why3 .given .1) (refl, refl)
+returns-3 c = rw (c .with-one3 .ensures, c .before .before .why3 .given .1)
 
 returns-4 : tie.Need-returns-4
 unfolding number details
-returns-4 c = rw (c .with-one4 .ensures, c .before .before .why4 .given .1) (refl, refl)
+returns-4 c = rw (c .with-one4 .ensures, c .before .before .why4 .given .1)
 
 returns-5 : tie.Need-returns-5
 unfolding number details
-returns-5 c = rw (c .with-one5 .ensures, c .before .before .why5 .given .1) (refl, refl)
+returns-5 c = rw (c .with-one5 .ensures, c .before .before .why5 .given .1)
 
 returns-6 : tie.Need-returns-6
 unfolding number details
-returns-6 c = rw (c .with-one6 .ensures, c .before .before .why6 .given .1) (refl, refl)
+returns-6 c = rw (c .with-one6 .ensures, c .before .before .why6 .given .1)
 
 returns-7 : tie.Need-returns-7
 unfolding number details
-returns-7 c = rw (c .with-one7 .ensures, c .before .before .why7 .given .1) (refl, refl)
+returns-7 c = rw (c .with-one7 .ensures, c .before .before .why7 .given .1)
 
 returns-8 : tie.Need-returns-8
 unfolding number details
 returns-8 c =
     rw (c .before .before .number-of .ensures, c .before .detail-of .ensures, c .detail-of2 .ensures, c .before .before .before .before .why8 .given .1)
-    (refl, refl)
 
 returns-9 : tie.Need-returns-9
 unfolding number details
-returns-9 c = rw (c .with-one8 .ensures, c .before .before .why9 .given .1) (refl, refl)
+returns-9 c = rw (c .with-one8 .ensures, c .before .before .why9 .given .1)
 
 returns-10 : tie.Need-returns-10
 unfolding number details
-returns-10 c = rw (c .with-one9 .ensures, c .before .before .why10 .given .1) (refl, refl)
+returns-10 c = rw (c .with-one9 .ensures, c .before .before .why10 .given .1)
 
 returns-11 : tie.Need-returns-11
 unfolding number details
 returns-11 c =
     let year = c .before .before .before .before .why11 .given .0 .0 in
-    let bits = toZ-ofZ {z = year} (record { sfits = c .before .before .before .known-told11 .given .0 .1 }) in
-    let whole = ap (λ z. z ∷ []) (sign-and-size (toZ w32 (ofZ w32 year)) ∙ bits) in
-    rw (c .before .before .is-negative .ensures, c .before .size .ensures, c .before .before .before .before .why11 .given .1)
-    (refl, whole)
+    let bits = toZ-ofZ {w = w32} {z = year} (record { sfits = c .before .before .before .known-told11 .given .0 .1 }) in
+    rw (c .before .before .is-negative .ensures, c .before .size .ensures, c .detail-of3 .ensures, c .before .before .before .before .why11 .given .1, bits)
 
 pub tell-spec : {M : Type 1} → statement M
 tell-spec =

@@ -16,7 +16,8 @@ use Rattle.meaning.specs.Numerals.{integer}
 use Rattle.meaning.specs.declared.Kind.{Kind}
 use Rattle.meaning.specs.declared.Kind.the-variants.{Run, Quotes, Quoted, Open}
 use Rattle.meaning.specs.declared.Refusal.{Refusal}
-use Rattle.refusals.specs.Told.{detailOf, detailsOf}
+use Rattle.refusals.proofs.Integers.{detailsOf}
+use Rattle.refusals.specs.Told.{detailOf}
 use Rattle.refusals.specs.declared.Told.{Told}
 use Rattle.sheet.specs.Fits.{WhyFits, Count}
 use Rattle.sheet.specs.Rows.{laid, refused, kindNumber}

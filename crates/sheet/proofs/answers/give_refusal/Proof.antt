@@ -1,8 +1,8 @@
 -- Zeros lie behind the two details, or behind the one.
-use mathlib.Core.Path.{_∙_}
+use mathlib.Core.Path.{ap, _∙_}
 use denote.Ref.{now}
-use Rattle.sheet.proofs.entries.Stored.{stored}
-use Rattle.sheet.proofs.entries.Stored.{first-fits, second-fits, two-details, one-detail}
+use Rattle.refusals.proofs.Integers.{tells-details}
+use Rattle.sheet.proofs.entries.Stored.{stored, first-fits, second-fits, two-details, one-detail}
 use borrow.Author.Needs.{needs}
 use Rattle.sheet.proofs.answers.give_refusal.Statement.{statement}
 use Rattle.sheet.proofs.answers.give_refusal.Tie as tie
@@ -11,12 +11,14 @@ tell-requires : tie.Need-tell-requires
 tell-requires c κs = search needs
 
 detail-entry-requires : tie.Need-detail-entry-requires
-detail-entry-requires c κs = first-fits (c .tell .result) (c .before .args .why) (c .tell .ensures .1) (c .before .pre .2)
+detail-entry-requires c κs = let why = c .before .args .why in
+    first-fits (c .tell .result) why (tells-details why (c .tell .ensures)) (c .before .pre .2)
 
 detail-entry-requires-2 : tie.Need-detail-entry-requires-2
 detail-entry-requires-2 c κs =
     let tell = c .before .before .tell in
-    second-fits (tell .result) (c .before .before .before .args .why) (tell .ensures .1) (c .before .before .before .pre .2) (c .if1 .taken)
+    let why = c .before .before .before .args .why in
+    second-fits (tell .result) why (tells-details why (tell .ensures)) (c .before .before .before .pre .2) (c .if1 .taken)
 
 slice-aggregate-lay : tie.Need-slice-aggregate-lay
 slice-aggregate-lay c = search needs
@@ -40,11 +42,11 @@ returns c =
     let first = c .before .before .before .before .before .before .before .before .before .detail-entry in
     let second = c .before .before .before .before .before .before .before .detail-entry2 in
     record {
-      number = tell .ensures .0;
+      number = ap (λ t. t .number) (tell .ensures);
       row =
           c .before .lay-zeros .ensures
           ∙ rw (c .before .before .before .before .lay .ensures, stored (first .result) (first .ok), first .ensures, stored (second .result) (second .ok), second .ensures)
-          (two-details (tell .result) (a .why) (tell .ensures .1) (a .entries) (now (a .row)) (c .before .before .before .before .before .before .before .before .if1 .taken));
+          (two-details (tell .result) (a .why) (tells-details (a .why) (tell .ensures)) (a .entries) (now (a .row)) (c .before .before .before .before .before .before .before .before .if1 .taken));
     }
 
 slice-aggregate-lay-2 : tie.Need-slice-aggregate-lay-2
@@ -68,11 +70,11 @@ returns-2 c =
     let tell = c .before .before .before .before .before .before .before .before .before .tell in
     let first = c .before .before .before .before .before .before .before .before .detail-entry in
     record {
-      number = tell .ensures .0;
+      number = ap (λ t. t .number) (tell .ensures);
       row =
           c .before .lay-zeros2 .ensures
           ∙ rw (c .before .before .before .before .lay2 .ensures, stored (first .result) (first .ok), first .ensures)
-          (one-detail (tell .result) (a .why) (tell .ensures .1) (a .entries) (now (a .row)) (c .before .before .before .before .before .before .before .if1 .left));
+          (one-detail (tell .result) (a .why) (tells-details (a .why) (tell .ensures)) (a .entries) (now (a .row)) (c .before .before .before .before .before .before .before .if1 .left));
     }
 
 pub give-refusal-spec : {M : Type 1} → statement M
