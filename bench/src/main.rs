@@ -6,6 +6,7 @@ mod contender;
 mod glibc;
 #[cfg(icu)]
 mod icu;
+mod machine;
 mod measure;
 mod ours;
 mod plot;
@@ -45,6 +46,8 @@ fn main() -> ExitCode {
 fn run(picture: &str) -> Result<(), String> {
     let (rows, records) = (rows::rows(), records());
     agreed(&rows, &records)?;
+    let machine_and_day = machine::machine_and_day();
+    println!("{machine_and_day}\n");
     if cfg!(not(icu)) {
         println!("ICU is left out: pkg-config finds no icu-i18n\n");
     }
@@ -61,7 +64,8 @@ fn run(picture: &str) -> Result<(), String> {
     println!("{}", table::checks(&patterns, &measure::checked(&patterns)));
     let growths = measure::grown(&records);
     println!("{}", table::growths(&growths));
-    fs::write(picture, plot::picture(&written, &read, &growths)).map_err(|why| format!("{picture}: {why}"))?;
+    fs::write(picture, plot::picture(&machine_and_day, &written, &read, &growths))
+        .map_err(|why| format!("{picture}: {why}"))?;
     println!("picture: {picture}");
     Ok(())
 }

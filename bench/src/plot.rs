@@ -2,24 +2,27 @@
 
 use crate::measure::{Growth, Line, NAMES};
 
-const WIDTH: f64 = 960.0;
+const WIDTH: f64 = 1080.0;
 const PANEL: f64 = 260.0;
-const LEFT: f64 = 70.0;
+const LEFT: f64 = 100.0;
 const RIGHT: f64 = 30.0;
-const GAP: f64 = 80.0;
-const TOP: f64 = 60.0;
+const GAP: f64 = 120.0;
+const TOP: f64 = 100.0;
+const LINE: f64 = 15.0;
 const COLOURS: [&str; 4] = ["#1b6ca8", "#c8553d", "#7a9e3f", "#8a8a8a"];
 const CURVES: [&str; 3] = ["write", "read", "check"];
 
-pub fn picture(written: &[Line], read: &[Line], growths: &[Growth]) -> String {
+/// All three panels, with the machine and the day of the run above them.
+pub fn picture(machine_and_day: &str, written: &[Line], read: &[Line], growths: &[Growth]) -> String {
     let height = TOP + 3.0 * (PANEL + GAP);
     let mut svg = format!(
         "<svg xmlns=\"http://www.w3.org/2000/svg\" viewBox=\"0 0 {WIDTH} {height}\" \
          font-family=\"sans-serif\" font-size=\"12\">\n\
          <rect width=\"{WIDTH}\" height=\"{height}\" fill=\"white\"/>\n"
     );
-    svg += &bars("Writing, ns a call", written, TOP);
-    svg += &bars("Reading, ns a call", read, TOP + PANEL + GAP);
+    svg += &words(LEFT, 30.0, "start", machine_and_day);
+    svg += &bars("Writing", written, TOP);
+    svg += &bars("Reading", read, TOP + PANEL + GAP);
     svg += &curves(growths, TOP + 2.0 * (PANEL + GAP));
     svg + "</svg>\n"
 }
@@ -57,14 +60,22 @@ fn bars(title: &str, lines: &[Line], top: f64) -> String {
     let scale = Scale::around(lines, top + PANEL);
     let group = (WIDTH - LEFT - RIGHT) / lines.len() as f64;
     let mut svg = heading(title, top) + &legend(&NAMES, top);
+    svg += &axes("ns a call, each line ten times the one below", "pattern", top);
     for decade in scale.decades.0 as i32..=scale.decades.1 as i32 {
         let value = 10f64.powi(decade);
-        svg += &level(scale.place(value), &value.to_string());
+        svg += &level(scale.place(value), value);
     }
     for (number, line) in lines.iter().enumerate() {
         let left = LEFT + group * number as f64;
         svg += &group_of_bars(line, left, group, &scale);
-        svg += &words(left + group / 2.0, scale.foot + 18.0, "middle", &short(&line.label));
+        for (row, words_of_it) in (1..).zip(wrapped(&line.label)) {
+            svg += &words(
+                left + group / 2.0,
+                scale.foot + 3.0 + LINE * f64::from(row),
+                "middle",
+                &words_of_it,
+            );
+        }
     }
     svg
 }
@@ -81,7 +92,7 @@ fn group_of_bars(line: &Line, left: f64, group: f64, scale: &Scale) -> String {
             scale.foot - y,
             COLOURS[number]
         );
-        svg += &words(x + wide / 2.0 - 1.0, y - 4.0, "middle", &format!("{:.0}", timing.nanos));
+        svg += &words(x + wide / 2.0 - 1.0, y - 4.0, "middle", &grouped(timing.nanos));
     }
     svg
 }
@@ -93,11 +104,14 @@ fn curves(growths: &[Growth], top: f64) -> String {
     let most = growths.iter().flat_map(costs).fold(1.0, f64::max) * 1.1;
     let x = |growth: &Growth| LEFT + (WIDTH - LEFT - RIGHT) * growth.length as f64 / longest;
     let y = |cost: f64| foot - PANEL * cost / most;
-    let mut svg = heading("Growth of ours with the bytes of the pattern, ns a call", top) + &legend(&CURVES, top);
-    svg += &level(foot, "0");
-    svg += &level(y(most / 1.1), &format!("{:.0}", most / 1.1));
+    let mut svg = heading("Growth of ours with the pattern", top) + &legend(&CURVES, top);
+    svg += &axes("ns a call", "bytes of the pattern", top);
+    for number in 0..=(most / step(most)) as i32 {
+        let cost = step(most) * f64::from(number);
+        svg += &level(y(cost), cost);
+    }
     for growth in growths {
-        svg += &words(x(growth), foot + 18.0, "middle", &growth.length.to_string());
+        svg += &words(x(growth), foot + 3.0 + LINE, "middle", &growth.length.to_string());
     }
     for (number, colour) in COLOURS.iter().enumerate().take(CURVES.len()) {
         let places = growths
@@ -130,22 +144,89 @@ fn legend(names: &[&str], top: f64) -> String {
     svg
 }
 
+/// What stands beside the panel, read upwards, and below it.
+fn axes(up: &str, along: &str, top: f64) -> String {
+    let (x, y) = (30.0, top + PANEL / 2.0);
+    let beside = words(x, y, "middle", up);
+    format!("<g transform=\"rotate(-90 {x} {y})\">{beside}</g>\n")
+        + &words(
+            (LEFT + WIDTH - RIGHT) / 2.0,
+            top + PANEL + 3.0 + 3.5 * LINE,
+            "middle",
+            along,
+        )
+}
+
 /// A line across the panel with its value beside it.
-fn level(y: f64, value: &str) -> String {
+fn level(y: f64, value: f64) -> String {
     let right = WIDTH - RIGHT;
     format!("<line x1=\"{LEFT}\" y1=\"{y:.1}\" x2=\"{right}\" y2=\"{y:.1}\" stroke=\"#dddddd\"/>\n")
-        + &words(LEFT - 8.0, y + 4.0, "end", value)
+        + &words(LEFT - 8.0, y + 4.0, "end", &grouped(value))
+}
+
+/// A round distance of levels, of which there are three to eight.
+fn step(most: f64) -> f64 {
+    let decade = 10f64.powf((most / 3.0).log10().floor());
+    let fits = |times: &&f64| decade * **times <= most / 3.0;
+    decade * [5.0, 2.0, 1.0].iter().find(fits).unwrap_or(&1.0)
 }
 
 fn words(x: f64, y: f64, anchor: &str, text: &str) -> String {
+    let text = text.replace('&', "&amp;").replace('<', "&lt;");
     format!("<text x=\"{x:.1}\" y=\"{y:.1}\" text-anchor=\"{anchor}\">{text}</text>\n")
 }
 
-/// As much of a label as stands under a group of bars.
-fn short(label: &str) -> String {
-    const MOST: usize = 19;
-    if label.len() <= MOST {
-        return label.to_string();
+/// A whole number, its digits in groups of three.
+fn grouped(value: f64) -> String {
+    let digits = format!("{value:.0}");
+    let mut grouped = String::new();
+    for (place, digit) in digits.chars().enumerate() {
+        if place > 0 && (digits.len() - place) % 3 == 0 {
+            grouped.push(',');
+        }
+        grouped.push(digit);
     }
-    format!("{}..", &label[..MOST - 2])
+    grouped
+}
+
+/// A label in lines that stand under a group of bars, broken at spaces.
+fn wrapped(label: &str) -> Vec<String> {
+    const MOST: usize = 21;
+    let mut lines: Vec<String> = Vec::new();
+    for word in label.split(' ') {
+        match lines.last_mut() {
+            Some(line) if line.len() + word.len() < MOST => *line += &format!(" {word}"),
+            _ => lines.push(word.to_string()),
+        }
+    }
+    lines
+}
+
+#[cfg(test)]
+mod tests {
+    use super::{grouped, step, wrapped};
+
+    #[test]
+    fn digits_in_groups() {
+        assert_eq!(
+            [0.0, 999.6, 100_000.0, 1_234_567.0].map(grouped),
+            ["0", "1,000", "100,000", "1,234,567"]
+        );
+    }
+
+    #[test]
+    fn levels_at_round_distances() {
+        assert_eq!(
+            [3.0, 10.0, 1478.0, 1500.0, 2999.0].map(step),
+            [1.0, 2.0, 200.0, 500.0, 500.0]
+        );
+    }
+
+    #[test]
+    fn labels_lose_nothing() {
+        for row in crate::rows::rows() {
+            assert_eq!(wrapped(&row.label).join(" "), row.label);
+            assert!(wrapped(&row.label).iter().all(|line| line.len() <= 21));
+        }
+    }
 }

@@ -5,29 +5,37 @@ use crate::rows::Row;
 
 /// Ours, then for each other contender the nanoseconds and how many times ours that is.
 pub fn comparison(title: &str, lines: &[Line]) -> String {
-    let mut table = format!("{title}, ns a call, and how many times ours\n{:35}", "pattern");
-    for name in NAMES {
-        table += &format!("{name:>18}");
-    }
+    let headings = (0..NAMES.len()).map(|number| columns(number, NAMES[number], ' ', "x ours"));
+    let mut table = format!("{title}, ns a call, and how many times ours\n");
+    table += &table_row("pattern", headings);
     for line in lines {
-        table += &format!("\n{:35}", line.label);
-        for number in 0..NAMES.len() {
-            table += &cell(line, number);
-        }
+        table += &table_row(&line.label, (0..NAMES.len()).map(|number| cell(line, number)));
     }
-    table + "\n"
+    table
+}
+
+fn table_row(label: &str, cells: impl Iterator<Item = String>) -> String {
+    let row = format!("{label:35}") + &cells.collect::<String>();
+    row.trim_end().to_string() + "\n"
 }
 
 fn cell(line: &Line, number: usize) -> String {
-    let Some(timing) = line.timings[number] else {
-        return format!("{:>18}", "-");
-    };
-    let ratio = match number {
-        0 => String::new(),
-        _ => format!("x{:.2}", timing.ratio),
-    };
-    let mark = if line.same[number] { ' ' } else { '*' };
-    format!("{:>9.1}{mark}{ratio:>8}", timing.nanos)
+    match line.timings[number] {
+        None => columns(number, "-", ' ', ""),
+        Some(timing) => {
+            let mark = if line.same[number] { ' ' } else { '*' };
+            let (nanos, ratio) = (format!("{:.1}", timing.nanos), format!("x{:.2}", timing.ratio));
+            columns(number, &nanos, mark, &ratio)
+        }
+    }
+}
+
+/// The columns of a contender: nanoseconds with a mark behind them and, but for ours, the ratio.
+fn columns(number: usize, nanos: &str, mark: char, ratio: &str) -> String {
+    match number {
+        0 => format!("{nanos:>9}{mark}"),
+        _ => format!("{nanos:>10}{mark}{ratio:>7}"),
+    }
 }
 
 /// What the marked texts differ in, and what stands between the contenders otherwise.

@@ -2,7 +2,6 @@
 #include "sheet.h"
 
 #include <inttypes.h>
-#include <stdbool.h>
 #include <stdio.h>
 #include <string.h>
 
@@ -18,12 +17,8 @@ static uint32_t write_sample(const char *pattern, char *out, size_t out_len, int
                        (uint8_t *)out, out_len, answer, SHEET_WRITE_ANSWER);
 }
 
-static bool was_read(const int64_t *answer, int unit) {
-    return ((answer[1] >> unit) & 1) == 1;
-}
-
-static void show_value(const char *name, const int64_t *answer, int unit) {
-    if (was_read(answer, unit))
+static void show_value(const char *name, const int64_t *answer, uint32_t unit) {
+    if (sheet_was_read(answer[1], unit))
         printf("  %s %" PRId64 "\n", name, answer[SHEET_READ_VALUES + unit]);
     else
         printf("  no %s\n", name);
@@ -50,7 +45,7 @@ static void check(const char *pattern) {
     int64_t answer[SHEET_CHECK_ANSWER];
     uint32_t number = sheet_check(bytes(pattern), strlen(pattern), CURRENT_YEAR, answer, SHEET_CHECK_ANSWER);
     if (number != SHEET_ACCEPTED)
-        printf("%s is refused: %" PRIu32 "\n", pattern, number);
+        printf("%s is refused with %" PRIu32 ": %s\n", pattern, number, sheet_refusal_text(number));
     else if (answer[0] == 1)
         printf("%s can be trusted\n", pattern);
     else

@@ -1,8 +1,15 @@
 /* sheet.h: dates, times and zone offsets by patterns such as yyyy/MM/dd, for C and C++.
  *
  * What is lent. A pattern or a text is bytes with their number and needs no zero byte at its end. Text goes to `out`, numbers
- * go to the rows `answer` and `parts`. No pointer may be null, not even with the length 0, and what a function may alter must
- * overlap nothing else that it is lent. Nothing is kept after the return, and no memory is asked for.
+ * go to the rows `answer` and `parts`, which are aligned as int64_t is. What a function may alter must overlap nothing else that
+ * it is lent. Nothing is kept after the return, and no memory is asked for.
+ *
+ * Lengths. A length says how many bytes or entries stand behind the pointer, and never more, not even where the pattern or the
+ * text is too long and will be refused. A null pointer with the length 0 is an empty slice. What is proved of the functions is
+ * proved for every slice that memory can hold; no memory holds one of 2^63 bytes.
+ *
+ * Threads and stack. The functions have no state: any thread may call any of them at any time, with rows and an `out` that no
+ * other thread uses meanwhile. A call takes no more than SHEET_MOST_STACK bytes of the stack.
  *
  * What is returned. SHEET_ACCEPTED; or the number of a refusal, 1 to 14; or SHEET_ROW_TOO_SMALL where `answer` or `parts` has
  * fewer entries than the function asks for: then nothing is altered.
@@ -11,7 +18,7 @@
  * writer alters so many bytes of `out` as it answers. Refused, these entries are the refusal's details, then zeros, and neither
  * `out` nor `parts` is altered. Nothing behind them ever is.
  *
- * Parts of a pattern and places in a pattern or a text are counted from 0.
+ * Parts of a pattern and places in a pattern or a text are counted from 0. docs/SPECIFICATION.md says what a pattern means.
  */
 #ifndef SHEET_H
 #define SHEET_H
@@ -23,12 +30,22 @@
 extern "C" {
 #endif
 
+/* The version of the library that this header belongs to. */
+#define SHEET_VERSION "0.1.0"
+#define SHEET_VERSION_MAJOR 0
+#define SHEET_VERSION_MINOR 1
+#define SHEET_VERSION_PATCH 0
+
 /* The longest pattern and the longest text, in bytes. */
 #define SHEET_LONGEST_PATTERN 256
 #define SHEET_LONGEST_TEXT 2048
 
 /* A writer needs no more than so many bytes of output for each byte of the pattern, so SHEET_LONGEST_TEXT are always enough. */
 #define SHEET_BYTES_A_PATTERN_BYTE 8
+
+/* No call takes more bytes of the stack. As measured on x86-64, a write takes 5,600 where `out` has less room than that, since the
+ * text then goes through a row of its own, and 3,300 otherwise; the other functions take fewer. */
+#define SHEET_MOST_STACK 8192
 
 /* How many entries each function asks for in `answer`, and sheet_split in `parts`. */
 #define SHEET_WRITE_ANSWER 2
@@ -107,6 +124,9 @@ uint32_t sheet_read(const uint8_t *pattern, size_t pattern_len, const uint8_t *t
 uint32_t sheet_read_date(const uint8_t *pattern, size_t pattern_len, const uint8_t *text, size_t text_len, int32_t year,
                          int64_t *answer, size_t answer_len);
 
+/* Whether a unit was read: 1 or 0, by the mask of a reading, the second entry of its `answer`. For a number that is no unit 0. */
+uint32_t sheet_was_read(int64_t mask, uint32_t unit);
+
 /* Reads an offset such as +05:30, or Z, by itself.
  * Answers: the seconds, and 0.
  * Refuses: 6, 7, 12, 9 (part 0, place), 13, the first in this order. */
@@ -123,6 +143,29 @@ uint32_t sheet_split(const uint8_t *pattern, size_t pattern_len, int64_t *answer
  * a record, in the order of sheet_write.
  * Refuses: 1, 2, 3, 14, the first in this order. */
 uint32_t sheet_check(const uint8_t *pattern, size_t pattern_len, int32_t year, int64_t *answer, size_t answer_len);
+
+/* What a number that was returned says, in words that need no details. */
+static inline const char *sheet_refusal_text(uint32_t number) {
+    switch (number) {
+    case SHEET_ACCEPTED: return "accepted";
+    case SHEET_PATTERN_TOO_LONG: return "the pattern has over 256 bytes";
+    case SHEET_PATTERN_BYTE: return "the pattern has a byte that is zero or not plain ASCII";
+    case SHEET_LONE_QUOTE: return "the pattern ends with a quote that opens nothing";
+    case SHEET_FIELD_RANGE: return "a field is out of its range";
+    case SHEET_NO_ROOM: return "the output is too short for the text";
+    case SHEET_TEXT_TOO_LONG: return "the text has over 2,048 bytes";
+    case SHEET_TEXT_BYTE: return "the text has a byte that is not plain ASCII";
+    case SHEET_TOO_FEW: return "the text has too few bytes left";
+    case SHEET_NO_NUMBER: return "the text has no number where one should stand";
+    case SHEET_NO_NAME: return "the text has no name or period that fits where one should stand";
+    case SHEET_NO_SIGN: return "the text has no sign of a zone where one should stand";
+    case SHEET_OFFSET_LENGTH: return "the offset has another length than +05:30, and does not begin with Z";
+    case SHEET_OFFSET_RANGE: return "the hour or the minute of the offset is too large";
+    case SHEET_CURRENT_YEAR: return "the current year is not from 1 to 9999";
+    case SHEET_ROW_TOO_SMALL: return "a row for the answer is too small";
+    default: return "no such number";
+    }
+}
 
 #ifdef __cplusplus
 }

@@ -1,6 +1,7 @@
 #![doc = include_str!("../README.md")]
 
 mod checking;
+mod explaining;
 mod fields;
 mod reading;
 mod refusal;
@@ -10,6 +11,7 @@ mod writing;
 pub mod raw;
 
 pub use checking::{check, Verdict};
+pub use explaining::{explain, explain_date};
 pub use fields::Fields;
 pub use reading::{parse_offset, read, read_date, ParseUnit, Reading};
 pub use refusal::Refusal;

@@ -6,6 +6,8 @@ pub const LONGEST_PATTERN: usize = 256;
 pub const LONGEST_TEXT: usize = 2048;
 /// The most bytes of output that a writer needs for each byte of the pattern.
 pub const BYTES_A_PATTERN_BYTE: usize = 8;
+/// The most bytes of the stack that a call takes.
+pub const MOST_STACK: usize = 8192;
 
 /// How many entries of `answer` a writer asks for.
 pub const WRITE_ANSWER: usize = 2;
@@ -25,7 +27,7 @@ pub const CHECK_ANSWER: usize = 10;
 /// What is returned where an answer is accepted.
 pub const ACCEPTED: u32 = 0;
 
-// What is returned where it is refused; the table of `Refusal` says when.
+// What is returned where it is refused; `refusal_text` has it in words, the table of `Refusal` with its details.
 pub const PATTERN_TOO_LONG: u32 = 1;
 pub const PATTERN_BYTE: u32 = 2;
 pub const LONE_QUOTE: u32 = 3;
@@ -116,6 +118,7 @@ extern "C" {
         answer: *mut i64,
         answer_len: usize,
     ) -> u32;
+    pub fn sheet_was_read(mask: i64, unit: u32) -> u32;
     pub fn sheet_parse_offset(text: *const u8, text_len: usize, answer: *mut i64, answer_len: usize) -> u32;
     pub fn sheet_split(
         pattern: *const u8,
@@ -126,4 +129,27 @@ extern "C" {
         parts_len: usize,
     ) -> u32;
     pub fn sheet_check(pattern: *const u8, pattern_len: usize, year: i32, answer: *mut i64, answer_len: usize) -> u32;
+}
+
+/// What a number that was returned says, in words that need no details.
+pub fn refusal_text(number: u32) -> &'static str {
+    match number {
+        ACCEPTED => "accepted",
+        PATTERN_TOO_LONG => "the pattern has over 256 bytes",
+        PATTERN_BYTE => "the pattern has a byte that is zero or not plain ASCII",
+        LONE_QUOTE => "the pattern ends with a quote that opens nothing",
+        FIELD_RANGE => "a field is out of its range",
+        NO_ROOM => "the output is too short for the text",
+        TEXT_TOO_LONG => "the text has over 2,048 bytes",
+        TEXT_BYTE => "the text has a byte that is not plain ASCII",
+        TOO_FEW => "the text has too few bytes left",
+        NO_NUMBER => "the text has no number where one should stand",
+        NO_NAME => "the text has no name or period that fits where one should stand",
+        NO_SIGN => "the text has no sign of a zone where one should stand",
+        OFFSET_LENGTH => "the offset has another length than +05:30, and does not begin with Z",
+        OFFSET_RANGE => "the hour or the minute of the offset is too large",
+        CURRENT_YEAR => "the current year is not from 1 to 9999",
+        ROW_TOO_SMALL => "a row for the answer is too small",
+        _ => "no such number",
+    }
 }

@@ -59,7 +59,8 @@ pub struct Reading {
 impl Reading {
     /// Whether a unit was read, by the mask.
     pub fn was_read(&self, unit: ParseUnit) -> bool {
-        (self.mask >> unit as u16) & 1 == 1
+        // SAFETY: it takes two numbers, and any will do.
+        unsafe { raw::sheet_was_read(i64::from(self.mask), unit as u32) == 1 }
     }
 
     /// The value of a unit that was read.

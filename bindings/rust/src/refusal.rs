@@ -24,9 +24,10 @@ use std::fmt;
 /// ```
 /// let refusal = sheet::read("dd/MM", "3/12", 2025).unwrap_err();
 /// assert_eq!((refusal.number(), refusal.details()), (9, &[0, 0][..]));
+/// assert_eq!(refusal.text(), "the text has no number where one should stand");
 /// assert_eq!(
 ///     refusal.to_string(),
-///     "no number stands at place 0 of the text for part 0 (both count from 0)"
+///     "the text has no number where one should stand: at place 0, for part 0, both counted from 0"
 /// );
 /// ```
 #[derive(Clone, Copy, Debug, PartialEq, Eq, Hash)]
@@ -48,9 +49,14 @@ const FIELDS: [(&str, &str); 8] = [
 ];
 
 impl Refusal {
-    /// Document 01's number, 1 to 14.
+    /// The number, 1 to 14.
     pub fn number(&self) -> u32 {
         self.number
+    }
+
+    /// What the number says, without the details.
+    pub fn text(&self) -> &'static str {
+        raw::refusal_text(self.number)
     }
 
     /// What is returned with the number, one or two details.
@@ -71,53 +77,25 @@ impl Refusal {
             }),
         }
     }
-
-    /// What was missing, at the place in the text that the details name.
-    fn missing(&self, what: &str, f: &mut fmt::Formatter<'_>) -> fmt::Result {
-        let [part, place] = self.details;
-        write!(
-            f,
-            "{what} at place {place} of the text for part {part} (both count from 0)"
-        )
-    }
 }
 
 impl fmt::Display for Refusal {
     fn fmt(&self, f: &mut fmt::Formatter<'_>) -> fmt::Result {
-        let detail = self.details[0];
-        match self.number {
-            raw::PATTERN_TOO_LONG => write!(f, "the pattern has {detail} bytes, and 256 is the most"),
-            raw::PATTERN_BYTE => write!(
-                f,
-                "the pattern has a byte at place {detail} (from 0) that is not plain ASCII"
-            ),
-            raw::LONE_QUOTE => write!(
-                f,
-                "the quote at place {detail} (from 0) ends the pattern, and opens nothing"
-            ),
+        let [detail, place] = self.details;
+        let details = match self.number {
+            raw::PATTERN_TOO_LONG | raw::TEXT_TOO_LONG | raw::OFFSET_LENGTH => format!("it has {detail} bytes"),
+            raw::PATTERN_BYTE | raw::LONE_QUOTE | raw::TEXT_BYTE => format!("at place {detail}, counted from 0"),
             raw::FIELD_RANGE => {
                 let (field, range) = FIELDS[(detail - 1) as usize];
-                write!(f, "the {field} is out of its range, {range}")
+                format!("the {field}, which is {range}")
             }
-            raw::NO_ROOM => write!(f, "the text needs {detail} bytes, more than the output has"),
-            raw::TEXT_TOO_LONG => write!(f, "the text has {detail} bytes, and 2,048 is the most"),
-            raw::TEXT_BYTE => write!(
-                f,
-                "the text has a byte at place {detail} (from 0) that is not plain ASCII"
-            ),
-            raw::TOO_FEW => self.missing("too few bytes are left", f),
-            raw::NO_NUMBER => self.missing("no number stands", f),
-            raw::NO_NAME => self.missing("no name or period that fits stands", f),
-            raw::NO_SIGN => self.missing("no sign of a zone stands", f),
-            raw::OFFSET_LENGTH => write!(
-                f,
-                "the offset has {detail} bytes; it should have 6, as in +05:30, or be Z"
-            ),
-            raw::OFFSET_RANGE if detail == 1 => f.write_str("the offset's hour is over 23"),
-            raw::OFFSET_RANGE => f.write_str("the offset's minute is over 59"),
-            raw::CURRENT_YEAR => write!(f, "the current year is {detail}, and has to be from 1 to 9999"),
-            number => write!(f, "refused with the number {number}"),
-        }
+            raw::NO_ROOM => format!("it needs {detail} bytes"),
+            raw::TOO_FEW..=raw::NO_SIGN => format!("at place {place}, for part {detail}, both counted from 0"),
+            raw::OFFSET_RANGE if detail == 1 => "the hour is over 23".to_string(),
+            raw::OFFSET_RANGE => "the minute is over 59".to_string(),
+            _ => format!("it is {detail}"),
+        };
+        write!(f, "{}: {details}", self.text())
     }
 }
 

@@ -19,7 +19,7 @@ use crate::{Fields, Refusal};
 /// assert_eq!(sheet::write("eeee, h 'o''clock' XXXXX", &fields)?, "Wednesday, 7 o'clock +05:30");
 ///
 /// let refusal = sheet::write("dd", &sheet::Fields { day: 32, ..fields }).unwrap_err();
-/// assert_eq!(refusal.to_string(), "the day is out of its range, 1 to 31");
+/// assert_eq!(refusal.to_string(), "a field is out of its range: the day, which is 1 to 31");
 /// # Ok(())
 /// # }
 /// ```

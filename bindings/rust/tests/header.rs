@@ -1,4 +1,4 @@
-//! The constants of the header for C are those of this crate, and no others.
+//! The constants of the header for C are those of this crate, and no others, and it has the same words for a refusal.
 
 use sheet::{raw, Kind, ParseUnit};
 use std::collections::BTreeMap;
@@ -21,6 +21,10 @@ fn defined() -> BTreeMap<String, i64> {
     HEADER.lines().filter_map(definition).collect()
 }
 
+fn number(text: &str) -> i64 {
+    text.parse().expect("a number")
+}
+
 /// A variant's name as C spells it.
 fn in_capitals(variant: impl Debug) -> String {
     let mut name = String::new();
@@ -33,10 +37,49 @@ fn in_capitals(variant: impl Debug) -> String {
     name
 }
 
+/// What the header says of each number that it has words for, and of all others.
+fn texts() -> (BTreeMap<u32, &'static str>, &'static str) {
+    let mut by_number = BTreeMap::new();
+    let mut of_others = "";
+    for (case, text) in HEADER.lines().filter_map(|line| line.split_once(": return \"")) {
+        let text = text.strip_suffix("\";").expect("a text ends its line");
+        match case.trim().strip_prefix("case SHEET_") {
+            Some(name) => assert_eq!(by_number.insert(defined()[name] as u32, text), None),
+            None => of_others = text,
+        }
+    }
+    (by_number, of_others)
+}
+
+#[test]
+fn version() {
+    let line = format!("#define SHEET_VERSION \"{}\"", env!("CARGO_PKG_VERSION"));
+    assert!(HEADER.lines().any(|defined| defined == line));
+}
+
+#[test]
+fn texts_of_refusals() {
+    let (by_number, of_others) = texts();
+    let numbers: Vec<u32> = by_number.keys().copied().collect();
+    assert_eq!(numbers, (0..=14).chain([100]).collect::<Vec<_>>());
+    for number in (0..=1000).chain([u32::MAX]) {
+        assert_eq!(
+            raw::refusal_text(number),
+            *by_number.get(&number).unwrap_or(&of_others),
+            "{number}"
+        );
+    }
+}
+
 #[test]
 fn constants() {
     let mut ours = BTreeMap::new();
-    ours.extend(of_raw!(LONGEST_PATTERN LONGEST_TEXT BYTES_A_PATTERN_BYTE));
+    ours.extend([
+        ("VERSION_MAJOR".to_string(), number(env!("CARGO_PKG_VERSION_MAJOR"))),
+        ("VERSION_MINOR".to_string(), number(env!("CARGO_PKG_VERSION_MINOR"))),
+        ("VERSION_PATCH".to_string(), number(env!("CARGO_PKG_VERSION_PATCH"))),
+    ]);
+    ours.extend(of_raw!(LONGEST_PATTERN LONGEST_TEXT BYTES_A_PATTERN_BYTE MOST_STACK));
     ours.extend(of_raw!(WRITE_ANSWER READ_ANSWER READ_VALUES OFFSET_ANSWER SPLIT_ANSWER SPLIT_PARTS CHECK_ANSWER));
     ours.extend(of_raw!(ACCEPTED PATTERN_TOO_LONG PATTERN_BYTE LONE_QUOTE FIELD_RANGE NO_ROOM TEXT_TOO_LONG TEXT_BYTE));
     ours.extend(of_raw!(TOO_FEW NO_NUMBER NO_NAME NO_SIGN OFFSET_LENGTH OFFSET_RANGE CURRENT_YEAR ROW_TOO_SMALL));

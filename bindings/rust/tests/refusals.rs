@@ -20,6 +20,7 @@ fn refused<T: Debug>(answer: Result<T, Refusal>, number: u32, details: &[i64], s
     let refusal = answer.expect_err("this is refused");
     assert_eq!((refusal.number(), refusal.details()), (number, details));
     assert_eq!(refusal.to_string(), sentence);
+    assert!(sentence.starts_with(refusal.text()), "{sentence}");
 }
 
 #[test]
@@ -28,19 +29,25 @@ fn of_a_pattern() {
         split("d".repeat(257)),
         1,
         &[257],
-        "the pattern has 257 bytes, and 256 is the most",
+        "the pattern has over 256 bytes: it has 257 bytes",
     );
     refused(
         split("dé"),
         2,
         &[1],
-        "the pattern has a byte at place 1 (from 0) that is not plain ASCII",
+        "the pattern has a byte that is zero or not plain ASCII: at place 1, counted from 0",
+    );
+    refused(
+        split("dd\0"),
+        2,
+        &[2],
+        "the pattern has a byte that is zero or not plain ASCII: at place 2, counted from 0",
     );
     refused(
         write("d '", &R),
         3,
         &[2],
-        "the quote at place 2 (from 0) ends the pattern, and opens nothing",
+        "the pattern ends with a quote that opens nothing: at place 2, counted from 0",
     );
 }
 
@@ -49,30 +56,28 @@ fn of_fields() {
     let wrong = [
         (
             Fields { year: 0, ..R },
-            "year is out of its range, -5,879,611 to 5,879,611 without 0",
+            "year, which is -5,879,611 to 5,879,611 without 0",
         ),
-        (Fields { month: 13, ..R }, "month is out of its range, 1 to 12"),
-        (Fields { day: 0, ..R }, "day is out of its range, 1 to 31"),
-        (
-            Fields { day_of_year: 367, ..R },
-            "day of the year is out of its range, 1 to 366",
-        ),
-        (Fields { week: 54, ..R }, "week is out of its range, 1 to 53"),
-        (Fields { weekday: 7, ..R }, "weekday is out of its range, 0 to 6"),
+        (Fields { month: 13, ..R }, "month, which is 1 to 12"),
+        (Fields { day: 0, ..R }, "day, which is 1 to 31"),
+        (Fields { day_of_year: 367, ..R }, "day of the year, which is 1 to 366"),
+        (Fields { week: 54, ..R }, "week, which is 1 to 53"),
+        (Fields { weekday: 7, ..R }, "weekday, which is 0 to 6"),
         (
             Fields {
                 nanoseconds: u64::MAX,
                 ..R
             },
-            "nanosecond of the day is out of its range, 0 to 86,399,999,999,999",
+            "nanosecond of the day, which is 0 to 86,399,999,999,999",
         ),
         (
             Fields { offset: 86_400, ..R },
-            "offset is out of its range, -86,399 to 86,399 seconds",
+            "offset, which is -86,399 to 86,399 seconds",
         ),
     ];
     for (number, (fields, sentence)) in (1..).zip(wrong) {
-        refused(write("d", &fields), 4, &[number], &format!("the {sentence}"));
+        let sentence = format!("a field is out of its range: the {sentence}");
+        refused(write("d", &fields), 4, &[number], &sentence);
     }
 }
 
@@ -82,7 +87,7 @@ fn of_an_output() {
         write_into("yyyy/MM/dd", &R, &mut [0; 9]),
         5,
         &[10],
-        "the text needs 10 bytes, more than the output has",
+        "the output is too short for the text: it needs 10 bytes",
     );
 }
 
@@ -92,13 +97,13 @@ fn of_a_text() {
         read("d", "3".repeat(2049), 2025),
         6,
         &[2049],
-        "the text has 2049 bytes, and 2,048 is the most",
+        "the text has over 2,048 bytes: it has 2049 bytes",
     );
     refused(
         read("d", "3é", 2025),
         7,
         &[1],
-        "the text has a byte at place 1 (from 0) that is not plain ASCII",
+        "the text has a byte that is not plain ASCII: at place 1, counted from 0",
     );
 }
 
@@ -108,25 +113,25 @@ fn of_a_part() {
         read("dd/MM", "03/1", 2025),
         8,
         &[2, 3],
-        "too few bytes are left at place 3 of the text for part 2 (both count from 0)",
+        "the text has too few bytes left: at place 3, for part 2, both counted from 0",
     );
     refused(
         read("dd/MM", "03/Dec", 2025),
         9,
         &[2, 3],
-        "no number stands at place 3 of the text for part 2 (both count from 0)",
+        "the text has no number where one should stand: at place 3, for part 2, both counted from 0",
     );
     refused(
         read("dd MMM", "03 Dez", 2025),
         10,
         &[2, 3],
-        "no name or period that fits stands at place 3 of the text for part 2 (both count from 0)",
+        "the text has no name or period that fits where one should stand: at place 3, for part 2, both counted from 0",
     );
     refused(
         read("HH x", "07 Z", 2025),
         11,
         &[2, 3],
-        "no sign of a zone stands at place 3 of the text for part 2 (both count from 0)",
+        "the text has no sign of a zone where one should stand: at place 3, for part 2, both counted from 0",
     );
 }
 
@@ -136,10 +141,20 @@ fn of_an_offset() {
         parse_offset("+0530"),
         12,
         &[5],
-        "the offset has 5 bytes; it should have 6, as in +05:30, or be Z",
+        "the offset has another length than +05:30, and does not begin with Z: it has 5 bytes",
     );
-    refused(parse_offset("+24:00"), 13, &[1], "the offset's hour is over 23");
-    refused(parse_offset("+23:60"), 13, &[2], "the offset's minute is over 59");
+    refused(
+        parse_offset("+24:00"),
+        13,
+        &[1],
+        "the hour or the minute of the offset is too large: the hour is over 23",
+    );
+    refused(
+        parse_offset("+23:60"),
+        13,
+        &[2],
+        "the hour or the minute of the offset is too large: the minute is over 59",
+    );
 }
 
 #[test]
@@ -148,12 +163,13 @@ fn of_a_current_year() {
         check("d", -1),
         14,
         &[-1],
-        "the current year is -1, and has to be from 1 to 9999",
+        "the current year is not from 1 to 9999: it is -1",
     );
 }
 
 #[test]
 fn a_refusal_is_an_error() {
     let passed_on = || -> Result<i32, Box<dyn Error>> { Ok(parse_offset("+24:00")?) };
-    assert_eq!(passed_on().unwrap_err().to_string(), "the offset's hour is over 23");
+    let sentence = passed_on().unwrap_err().to_string();
+    assert!(sentence.ends_with(": the hour is over 23"), "{sentence}");
 }

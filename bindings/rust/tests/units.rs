@@ -48,3 +48,22 @@ fn all_at_once() {
     assert_eq!(reading.values, READ.map(|(.., value)| value));
     assert_eq!(READ.map(|(.., unit, _)| unit), ParseUnit::ALL);
 }
+
+/// A number above the units, and one below 0 as a mask, are answered too.
+#[test]
+fn by_any_mask_and_number() {
+    // SAFETY: it takes two numbers, and any will do.
+    let was_read = |mask, unit| unsafe { sheet::raw::sheet_was_read(mask, unit) };
+    for unit in 0..15 {
+        assert_eq!(
+            [0, 1 << unit, 0x7fff ^ 1 << unit, i64::MAX, -1].map(|mask| was_read(mask, unit)),
+            [0, 1, 0, 1, 0]
+        );
+    }
+    for none in [15, 16, 31, 32, 63, 64, u32::MAX] {
+        assert_eq!(
+            [0, 0x7fff, i64::MAX, i64::MIN, -1].map(|mask| was_read(mask, none)),
+            [0; 5]
+        );
+    }
+}

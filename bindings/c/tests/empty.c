@@ -1,0 +1,71 @@
+/* A null pointer with the length 0 is an empty slice: every function is lent one at each of its places. What does not hold is
+ * printed. */
+#include "sheet.h"
+
+#include <stdbool.h>
+#include <stdio.h>
+
+#define MARK (-77)
+
+typedef uint32_t writer(const uint8_t *, size_t, int32_t, uint32_t, uint32_t, uint32_t, uint32_t, uint32_t, uint64_t, int32_t,
+                        uint8_t *, size_t, int64_t *, size_t);
+typedef uint32_t reader(const uint8_t *, size_t, const uint8_t *, size_t, int32_t, int64_t *, size_t);
+
+static const uint8_t PATTERN[] = {'d', 'd'};
+static const uint8_t TEXT[] = {'0', '3'};
+static uint8_t out[4];
+static int64_t answer[SHEET_READ_ANSWER];
+static int64_t parts[SHEET_SPLIT_PARTS];
+static bool all = true;
+
+/* What a call has to return, and the first two entries of its row. */
+#define GIVES(call, ...) gives(#call, call, __VA_ARGS__)
+
+static void gives(const char *call, uint32_t returned, uint32_t number, int64_t first, int64_t second) {
+    if (returned != number || answer[0] != first || answer[1] != second) {
+        printf("empty: not as it should be: %s\n", call);
+        all = false;
+    }
+    answer[0] = answer[1] = MARK;
+}
+
+static uint32_t write_by(writer *writer, const uint8_t *pattern, size_t pattern_len, uint8_t *to, size_t to_len, int64_t *row,
+                         size_t row_len) {
+    return writer(pattern, pattern_len, 2025, 12, 3, 337, 49, 3, 0, 0, to, to_len, row, row_len);
+}
+
+static void by_writer(writer *writer) {
+    GIVES(write_by(writer, NULL, 0, out, 4, answer, 2), SHEET_ACCEPTED, 0, 0);
+    GIVES(write_by(writer, NULL, 0, NULL, 0, answer, 2), SHEET_ACCEPTED, 0, 0);
+    GIVES(write_by(writer, PATTERN, 2, NULL, 0, answer, 2), SHEET_NO_ROOM, 2, 0);
+    GIVES(write_by(writer, PATTERN, 2, out, 4, NULL, 0), SHEET_ROW_TOO_SMALL, MARK, MARK);
+    GIVES(write_by(writer, NULL, 0, NULL, 0, NULL, 0), SHEET_ROW_TOO_SMALL, MARK, MARK);
+}
+
+static void by_reader(reader *reader) {
+    GIVES(reader(NULL, 0, TEXT, 2, 2025, answer, SHEET_READ_ANSWER), SHEET_ACCEPTED, 0, 0);
+    GIVES(reader(NULL, 0, NULL, 0, 2025, answer, SHEET_READ_ANSWER), SHEET_ACCEPTED, 0, 0);
+    GIVES(reader(PATTERN, 2, NULL, 0, 2025, answer, SHEET_READ_ANSWER), SHEET_TOO_FEW, 0, 0);
+    GIVES(reader(PATTERN, 2, TEXT, 2, 2025, NULL, 0), SHEET_ROW_TOO_SMALL, MARK, MARK);
+    GIVES(reader(NULL, 0, NULL, 0, 2025, NULL, 0), SHEET_ROW_TOO_SMALL, MARK, MARK);
+}
+
+static void by_others(void) {
+    GIVES(sheet_parse_offset(NULL, 0, answer, 2), SHEET_OFFSET_LENGTH, 0, 0);
+    GIVES(sheet_parse_offset(TEXT, 2, NULL, 0), SHEET_ROW_TOO_SMALL, MARK, MARK);
+    GIVES(sheet_split(NULL, 0, answer, 2, parts, SHEET_SPLIT_PARTS), SHEET_ACCEPTED, 0, 0);
+    GIVES(sheet_split(PATTERN, 2, NULL, 0, parts, SHEET_SPLIT_PARTS), SHEET_ROW_TOO_SMALL, MARK, MARK);
+    GIVES(sheet_split(PATTERN, 2, answer, 2, NULL, 0), SHEET_ROW_TOO_SMALL, MARK, MARK);
+    GIVES(sheet_check(NULL, 0, 2025, answer, SHEET_CHECK_ANSWER), SHEET_ACCEPTED, 1, 0);
+    GIVES(sheet_check(PATTERN, 2, 2025, NULL, 0), SHEET_ROW_TOO_SMALL, MARK, MARK);
+}
+
+int main(void) {
+    answer[0] = answer[1] = MARK;
+    by_writer(sheet_write);
+    by_writer(sheet_write_date);
+    by_reader(sheet_read);
+    by_reader(sheet_read_date);
+    by_others();
+    return all ? 0 : 1;
+}

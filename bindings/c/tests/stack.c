@@ -1,0 +1,112 @@
+/* Measures how much of the stack the functions take, and holds it to what the header says. Each is called on a stack of its own
+ * that was painted before: what is no longer painted was used. */
+#define _XOPEN_SOURCE 600
+#include "sheet.h"
+
+#include <stdbool.h>
+#include <stdio.h>
+#include <string.h>
+#include <ucontext.h>
+
+#define STACK (256 * 1024)
+#define PAINT 0xa5
+#define MOST_COUNT 12
+
+static const char SYMBOLS[] = "GyqMwdDeabhKHkmsnXx/'";
+
+/* What the calls are lent. */
+static uint8_t pattern[SHEET_LONGEST_PATTERN];
+static uint8_t text[SHEET_LONGEST_TEXT];
+static int64_t answer[SHEET_READ_ANSWER];
+static int64_t parts[SHEET_SPLIT_PARTS];
+
+/* Calls a function by the first bytes of the pattern. */
+typedef void function(size_t length);
+
+static uint32_t write_into(size_t length, size_t room) {
+    return sheet_write(pattern, length, -5879611, 9, 30, 366, 53, 3, UINT64_C(43200000000000), -86399, text, room, answer,
+                       SHEET_WRITE_ANSWER);
+}
+
+static void write_with_room(size_t length) {
+    write_into(length, SHEET_LONGEST_TEXT);
+}
+
+/* One byte less than the text has, so that all of it is written elsewhere first. */
+static void write_without_room(size_t length) {
+    if (write_into(length, 0) == SHEET_NO_ROOM)
+        write_into(length, (size_t)answer[0] - 1);
+}
+
+static void write_and_read(size_t length) {
+    if (write_into(length, SHEET_LONGEST_TEXT) == SHEET_ACCEPTED)
+        sheet_read(pattern, length, text, (size_t)answer[0], 2025, answer, SHEET_READ_ANSWER);
+}
+
+static void split(size_t length) {
+    sheet_split(pattern, length, answer, SHEET_SPLIT_ANSWER, parts, SHEET_SPLIT_PARTS);
+}
+
+static void check(size_t length) {
+    sheet_check(pattern, length, 2025, answer, SHEET_CHECK_ANSWER);
+}
+
+static void parse_offset(size_t length) {
+    sheet_parse_offset(pattern, length, answer, SHEET_OFFSET_ANSWER);
+    sheet_parse_offset((const uint8_t *)"+05:30", 6, answer, SHEET_OFFSET_ANSWER);
+    sheet_was_read(answer[1], SHEET_OFFSET);
+}
+
+static function *called;
+
+/* By every symbol at counts 1 to 12, alone and again and again with a slash between, and by the longest run of it. */
+static void by_all_patterns(void) {
+    for (size_t symbol = 0; symbol + 1 < sizeof SYMBOLS; symbol++) {
+        for (size_t count = 1; count <= MOST_COUNT; count++) {
+            for (size_t place = 0; place < sizeof pattern; place++)
+                pattern[place] = (uint8_t)(place % (count + 1) == count ? '/' : SYMBOLS[symbol]);
+            called(count);
+            called(sizeof pattern);
+        }
+        memset(pattern, SYMBOLS[symbol], sizeof pattern);
+        called(sizeof pattern);
+    }
+}
+
+static size_t used_by_all_patterns(void) {
+    static _Alignas(4096) uint8_t stack[STACK];
+    ucontext_t back, there;
+    memset(stack, PAINT, sizeof stack);
+    if (getcontext(&there) != 0)
+        return STACK;
+    there.uc_stack.ss_sp = stack;
+    there.uc_stack.ss_size = sizeof stack;
+    there.uc_link = &back;
+    makecontext(&there, by_all_patterns, 0);
+    if (swapcontext(&back, &there) != 0)
+        return STACK;
+    size_t painted = 0;
+    while (painted < sizeof stack && stack[painted] == PAINT)
+        painted++;
+    return sizeof stack - painted;
+}
+
+static bool holds(const char *name, function *function) {
+    called = function;
+    /* First on this stack: what a linker does at the first call is not counted. */
+    by_all_patterns();
+    size_t used = used_by_all_patterns();
+    bool held = used <= SHEET_MOST_STACK;
+    printf("%-24s %5zu bytes of stack%s\n", name, used, held ? "" : ", more than the header says");
+    return held;
+}
+
+int main(void) {
+    bool all = holds("write, enough room", write_with_room);
+    all &= holds("write, too little room", write_without_room);
+    all &= holds("write and read", write_and_read);
+    all &= holds("split", split);
+    all &= holds("check", check);
+    all &= holds("parse_offset, was_read", parse_offset);
+    return all ? 0 : 1;
+}

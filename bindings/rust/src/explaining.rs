@@ -1,0 +1,244 @@
+use crate::{raw, read, read_date, split, Kind, Part, Reading, Refusal};
+
+const DATE_SYMBOLS: &[u8] = b"GyqMwdDe";
+const SYMBOLS: &[u8] = b"GyqMwdDeabhKHkmsnXx";
+
+/// How far a part reads does not depend on the current year.
+const ANY_YEAR: i32 = 2025;
+
+/// Says of a text that [`read`] refused by a pattern what stood there and what was wanted, in one sentence. A refusal that is not
+/// of a part of the pattern, or of another pattern, is said as it prints.
+///
+/// ```
+/// let (pattern, text) = ("dd/MM", "3/12");
+/// let refusal = sheet::read(pattern, text, 2025).unwrap_err();
+/// assert_eq!(sheet::explain(pattern, text, &refusal), "`dd` needs two digits, found `3/`");
+/// ```
+pub fn explain(pattern: impl AsRef<[u8]>, text: impl AsRef<[u8]>, refusal: &Refusal) -> String {
+    let before = |pattern: &[u8], text: &[u8]| read(pattern, text, ANY_YEAR);
+    explained(SYMBOLS, before, pattern.as_ref(), text.as_ref(), refusal).unwrap_or_else(|| refusal.to_string())
+}
+
+/// Says the same of a text that [`read_date`] refused.
+///
+/// ```
+/// let refusal = sheet::read_date("dd HH", "03 ", 2025).unwrap_err();
+/// assert_eq!(sheet::explain_date("dd HH", "03 ", &refusal), "`HH` needs two bytes, found the end of the text");
+/// ```
+pub fn explain_date(pattern: impl AsRef<[u8]>, text: impl AsRef<[u8]>, refusal: &Refusal) -> String {
+    let before = |pattern: &[u8], text: &[u8]| read_date(pattern, text, ANY_YEAR);
+    explained(DATE_SYMBOLS, before, pattern.as_ref(), text.as_ref(), refusal).unwrap_or_else(|| refusal.to_string())
+}
+
+/// The sentence, where the refusal is of a part that the pattern has. What is found is shown from where the part begins, which
+/// is behind what the parts before it read.
+fn explained(
+    symbols: &[u8],
+    read: impl Fn(&[u8], &[u8]) -> Result<Reading, Refusal>,
+    pattern: &[u8],
+    text: &[u8],
+    refusal: &Refusal,
+) -> Option<String> {
+    let (raw::TOO_FEW..=raw::NO_SIGN, &[number, place]) = (refusal.number(), refusal.details()) else {
+        return None;
+    };
+    let part = *split(pattern).ok()?.get(number as usize)?;
+    let want = wanted(symbols, &part, pattern);
+    let start = read(&pattern[..part.start], text).map_or(place as usize, |reading| reading.taken);
+    let rest = text.get(start..).unwrap_or_default();
+    let found = match rest {
+        [] => "the end of the text".to_string(),
+        _ => shown(&rest[..want.most.min(rest.len())]),
+    };
+    Some(format!(
+        "{} needs {}, found {found}",
+        shown(&pattern[part.range()]),
+        want.words
+    ))
+}
+
+/// What a part wants of a text: in words, and the most bytes that it takes of it.
+struct Want {
+    words: String,
+    most: usize,
+}
+
+fn wanted(symbols: &[u8], part: &Part, pattern: &[u8]) -> Want {
+    match (part.kind, pattern[part.start]) {
+        (Kind::Run, symbol) if symbols.contains(&symbol) => wanted_by(symbol, part.length),
+        _ => {
+            let most = stands_for(part.kind, &pattern[part.range()]);
+            bytes(most, most)
+        }
+    }
+}
+
+/// What each symbol wants at each count, as the specification's table says.
+fn wanted_by(symbol: u8, count: usize) -> Want {
+    match (symbol, count) {
+        (b'G', 1..=3) => bytes(2, 2),
+        (b'G', 5) => bytes(1, 1),
+        (b'G', _) => words("`Before Christ` or `Anno Domini`", 13),
+        (b'y', 1 | 3 | 4) => words("a year in digits, 2147483647 at most", 11),
+        (b'y', _) => year(count),
+        (b'q', 2 | 3) => bytes(2, 2),
+        (b'q', 4) => words("a quarter such as `4th quarter`", 11),
+        (b'q', _) => bytes(1, 1),
+        (b'M' | b'n', 1 | 2) => digits(count, count),
+        (b'M', 3) => words("a month such as `Dec`", 3),
+        (b'M', 5) => bytes(1, 1),
+        (b'M', _) => words("a month such as `December`", 9),
+        (b'w', 1) => bytes(1, 2),
+        (b'w', _) => bytes(2, 2),
+        (b'D', 2 | 3) => digits(count, 3),
+        (b'D', _) => digits(1, 3),
+        (b'e', 2 | 6 | 8) => bytes(2, 2),
+        (b'e', 3) => bytes(3, 3),
+        (b'e', 4) => words("a weekday such as `Wednesday`", 9),
+        (b'e', _) => bytes(1, 1),
+        (b'a', 4) => words("`a.m.` or `p.m.`", 4),
+        (b'a', 5) => words("`a` or `p`", 1),
+        (b'a', _) => words("`am`, `AM`, `pm` or `PM`", 2),
+        (b'b', 4) => words("`a.m.`, `midnight`, `p.m.` or `noon`", 8),
+        (b'b', 5) => words("`a`, `mi`, `p` or `n`", 2),
+        (b'b', _) => words("`am`, `AM`, `midnight`, `pm`, `PM` or `noon`", 8),
+        (b'n', 4) => digits(6, 6),
+        (b'n', 5) => digits(9, 9),
+        (b'n', _) => digits(3, 3),
+        (b'X' | b'x', 1) => zone(symbol, "`+05` or `+0530`", 5),
+        (b'X' | b'x', 2) => zone(symbol, "`+0530`", 5),
+        (b'X' | b'x', 4) => zone(symbol, "`+0530` or `+053009`", 7),
+        (b'X' | b'x', 5) => zone(symbol, "`+05:30` or `+05:30:09`", 9),
+        (b'X' | b'x', _) => zone(symbol, "`+05:30`", 6),
+        // d, h, K, H, k, m and s
+        (_, 1) => digits(1, 2),
+        _ => digits(2, 2),
+    }
+}
+
+fn words(words: &str, most: usize) -> Want {
+    Want {
+        words: words.to_string(),
+        most,
+    }
+}
+
+fn bytes(least: usize, most: usize) -> Want {
+    words(&counted(least, most, "byte"), most)
+}
+
+fn digits(least: usize, most: usize) -> Want {
+    words(&counted(least, most, "digit"), most)
+}
+
+/// From ten digits on there are some that make no year.
+fn year(count: usize) -> Want {
+    let digits = counted(count, count, "digit");
+    let limit = if count < 10 { "" } else { ", 2147483647 at most" };
+    words(&format!("{digits}, or `-` and {digits}{limit}"), count + 1)
+}
+
+fn zone(symbol: u8, forms: &str, most: usize) -> Want {
+    let zero = if symbol == b'X' { "`Z` or " } else { "" };
+    words(&format!("{zero}an offset such as {forms}"), most)
+}
+
+/// How many bytes a literal stands for: an escaped quote is one, and those around a quoted part are none.
+fn stands_for(kind: Kind, bytes: &[u8]) -> usize {
+    let around = match kind {
+        Kind::Run | Kind::Quotes => 0,
+        Kind::Open => 1,
+        Kind::Quoted => 2,
+    };
+    let quotes = bytes.iter().filter(|byte| **byte == b'\'').count();
+    bytes.len() - around - (quotes - around) / 2
+}
+
+/// As in `one digit`, `one or two digits`, `one to three digits`.
+fn counted(least: usize, most: usize, what: &str) -> String {
+    let many = if most == 1 { "" } else { "s" };
+    let number = match most - least {
+        0 => spelled(most),
+        1 => format!("{} or {}", spelled(least), spelled(most)),
+        _ => format!("{} to {}", spelled(least), spelled(most)),
+    };
+    format!("{number} {what}{many}")
+}
+
+fn spelled(number: usize) -> String {
+    const WORDS: [&str; 10] = [
+        "no", "one", "two", "three", "four", "five", "six", "seven", "eight", "nine",
+    ];
+    WORDS.get(number).map_or(number.to_string(), |word| word.to_string())
+}
+
+/// Bytes as they are shown: what can't be printed is escaped, and what is long is cut.
+fn shown(bytes: &[u8]) -> String {
+    const MOST: usize = 24;
+    let escaped = |byte: &u8| match byte {
+        b' '..=b'~' => char::from(*byte).to_string(),
+        _ => byte.escape_ascii().to_string(),
+    };
+    let start: String = bytes.iter().take(MOST).map(escaped).collect();
+    let cut = if bytes.len() > MOST { ".." } else { "" };
+    format!("`{start}{cut}`")
+}
+
+#[cfg(test)]
+mod tests {
+    use super::{stands_for, wanted_by, SYMBOLS};
+    use crate::{read, split, write, Fields};
+
+    const R: Fields = Fields {
+        year: -2025,
+        month: 9,
+        day: 30,
+        day_of_year: 337,
+        week: 49,
+        weekday: 3,
+        nanoseconds: 0,
+        offset: 19_809,
+    };
+
+    /// Of digits, of a negative number, and of the longest text that is written.
+    fn taken_at_most(pattern: &[u8]) -> usize {
+        let texts = [
+            "1".repeat(20),
+            "-".to_string() + &"0".repeat(300),
+            write(pattern, &R).expect("R can be written"),
+        ];
+        let taken = texts.iter().filter_map(|text| read(pattern, text, 2025).ok());
+        taken.map(|reading| reading.taken).max().expect("one can be read")
+    }
+
+    /// A year that takes all digits has no most; of it as much is shown as the longest year has.
+    #[test]
+    fn as_much_is_shown_as_can_be_taken() {
+        for symbol in SYMBOLS {
+            for count in (1..=12).chain([20, 255, 256]) {
+                let most = wanted_by(*symbol, count).most;
+                match (symbol, count) {
+                    (b'y', 1 | 3 | 4) => assert_eq!(most, i32::MIN.to_string().len()),
+                    _ => assert_eq!(taken_at_most(&vec![*symbol; count]), most, "{symbol} {count}"),
+                }
+            }
+        }
+    }
+
+    #[test]
+    fn a_literal_stands_for_what_is_taken() {
+        let mut patterns = vec![Vec::new()];
+        for _ in 0..7 {
+            let longer = |pattern: &Vec<u8>| b"'/c".map(|byte| [&pattern[..], &[byte]].concat());
+            patterns = patterns.iter().flat_map(longer).collect();
+            for pattern in &patterns {
+                let Ok(reading) = read(pattern, [b'x'; 7], 2025) else {
+                    continue;
+                };
+                let parts = split(pattern).expect("it was read");
+                let most = parts.iter().map(|part| stands_for(part.kind, &pattern[part.range()]));
+                assert_eq!(reading.taken, most.sum::<usize>(), "{pattern:?}");
+            }
+        }
+    }
+}

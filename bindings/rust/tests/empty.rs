@@ -1,0 +1,101 @@
+//! A null pointer with the length 0 is an empty slice, at each place where the functions as C sees them are lent one.
+
+use sheet::raw::{self, Reader, Writer};
+use std::ptr::{null, null_mut};
+
+const MARK: i64 = -77;
+const YEAR: i32 = 2025;
+
+/// Bytes as they are lent, or none by a null pointer.
+fn lent(bytes: &[u8]) -> (*const u8, usize) {
+    match bytes {
+        [] => (null(), 0),
+        _ => (bytes.as_ptr(), bytes.len()),
+    }
+}
+
+/// A row as it is lent, or none by a null pointer.
+fn row(entries: &mut [i64]) -> (*mut i64, usize) {
+    match entries {
+        [] => (null_mut(), 0),
+        _ => (entries.as_mut_ptr(), entries.len()),
+    }
+}
+
+/// What is returned, and the first two entries of the row, for a row and for none.
+#[track_caller]
+fn gives(mut call: impl FnMut(&mut [i64]) -> u32, number: u32, first: i64, second: i64) {
+    let mut entries = [MARK; raw::READ_ANSWER];
+    assert_eq!(call(&mut entries), number);
+    assert_eq!(entries[..2], [first, second]);
+    assert_eq!(call(&mut []), raw::ROW_TOO_SMALL);
+}
+
+fn write(writer: Writer, pattern: &[u8], room: usize, answer: &mut [i64]) -> u32 {
+    let mut out = [0; 8];
+    let to = if room == 0 { null_mut() } else { out.as_mut_ptr() };
+    let ((pattern, length), (answer, entries)) = (lent(pattern), row(answer));
+    // SAFETY: each pointer goes with the length of what it points to, and is null only with the length 0.
+    unsafe {
+        writer(
+            pattern, length, YEAR, 12, 3, 337, 49, 3, 0, 0, to, room, answer, entries,
+        )
+    }
+}
+
+fn read(reader: Reader, pattern: &[u8], text: &[u8], answer: &mut [i64]) -> u32 {
+    let ((pattern, length), (text, text_length), (answer, entries)) = (lent(pattern), lent(text), row(answer));
+    // SAFETY: as for a write.
+    unsafe { reader(pattern, length, text, text_length, YEAR, answer, entries) }
+}
+
+fn parse_offset(text: &[u8], answer: &mut [i64]) -> u32 {
+    let ((text, length), (answer, entries)) = (lent(text), row(answer));
+    // SAFETY: as for a write.
+    unsafe { raw::sheet_parse_offset(text, length, answer, entries) }
+}
+
+fn split(pattern: &[u8], answer: &mut [i64], parts: &mut [i64]) -> u32 {
+    let ((pattern, length), (answer, entries), (parts, room)) = (lent(pattern), row(answer), row(parts));
+    // SAFETY: as for a write.
+    unsafe { raw::sheet_split(pattern, length, answer, entries, parts, room) }
+}
+
+fn check(pattern: &[u8], answer: &mut [i64]) -> u32 {
+    let ((pattern, length), (answer, entries)) = (lent(pattern), row(answer));
+    // SAFETY: as for a write.
+    unsafe { raw::sheet_check(pattern, length, YEAR, answer, entries) }
+}
+
+#[test]
+fn of_the_writers() {
+    for writer in [raw::sheet_write as Writer, raw::sheet_write_date] {
+        gives(|row| write(writer, b"", 8, row), raw::ACCEPTED, 0, 0);
+        gives(|row| write(writer, b"", 0, row), raw::ACCEPTED, 0, 0);
+        gives(|row| write(writer, b"dd", 0, row), raw::NO_ROOM, 2, 0);
+    }
+}
+
+#[test]
+fn of_the_readers() {
+    for reader in [raw::sheet_read as Reader, raw::sheet_read_date] {
+        gives(|row| read(reader, b"", b"03", row), raw::ACCEPTED, 0, 0);
+        gives(|row| read(reader, b"", b"", row), raw::ACCEPTED, 0, 0);
+        gives(|row| read(reader, b"dd", b"", row), raw::TOO_FEW, 0, 0);
+        gives(|row| read(reader, b"y", b"", row), raw::NO_NUMBER, 0, 0);
+        gives(|row| read(reader, b"MMM", b"", row), raw::NO_NAME, 0, 0);
+    }
+}
+
+#[test]
+fn of_the_others() {
+    gives(|row| parse_offset(b"", row), raw::OFFSET_LENGTH, 0, 0);
+    gives(|row| check(b"", row), raw::ACCEPTED, 1, 0);
+    gives(
+        |row| split(b"", row, &mut [MARK; raw::SPLIT_PARTS]),
+        raw::ACCEPTED,
+        0,
+        0,
+    );
+    assert_eq!(split(b"dd", &mut [MARK; 2], &mut []), raw::ROW_TOO_SMALL);
+}

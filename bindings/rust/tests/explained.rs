@@ -1,0 +1,124 @@
+//! What is said of a refused read: what stood there and what was wanted.
+
+use sheet::{check, explain, explain_date, parse_offset, read, read_date, Refusal};
+
+const SENTENCES: &str = include_str!("explained.tsv");
+const SYMBOLS: &[u8] = b"GyqMwdDeabhKHkmsnXx";
+const DATE_SYMBOLS: &[u8] = b"GyqMwdDe";
+
+fn explained(pattern: impl AsRef<[u8]>, text: impl AsRef<[u8]>) -> String {
+    let refusal = read(&pattern, &text, 2025).expect_err("this is refused");
+    explain(pattern, text, &refusal)
+}
+
+#[test]
+fn listed_ones() {
+    for line in SENTENCES.lines().skip(1) {
+        let [pattern, text, sentence] = line.split('\t').collect::<Vec<_>>()[..] else {
+            panic!("{line} has not three columns");
+        };
+        assert_eq!(explained(pattern, text), sentence);
+    }
+}
+
+/// At the end of the text every symbol wants something, and so does every literal.
+#[test]
+fn every_symbol_at_every_count() {
+    for symbol in SYMBOLS.iter().chain(b"/Z5") {
+        let listed = format!("\n{}", char::from(*symbol));
+        assert!(!SYMBOLS.contains(symbol) || SENTENCES.contains(&listed));
+        for count in 1..=256 {
+            let sentence = explained(vec![*symbol; count], "");
+            assert!(sentence.ends_with(", found the end of the text"), "{sentence}");
+        }
+    }
+}
+
+/// By the Date pair time symbols are literals.
+#[test]
+fn of_dates() {
+    for symbol in SYMBOLS {
+        let pattern = [*symbol; 3];
+        let refusal = read_date(pattern, "", 2025).expect_err("this is refused");
+        let (sentence, full) = (explain_date(pattern, "", &refusal), explained(pattern, ""));
+        if DATE_SYMBOLS.contains(symbol) {
+            assert_eq!(sentence, full);
+        } else {
+            let name = String::from_utf8_lossy(&pattern);
+            assert_eq!(
+                sentence,
+                format!("`{name}` needs three bytes, found the end of the text")
+            );
+        }
+    }
+    let refusal = read_date("HH dd", "07:3", 2025).expect_err("this is refused");
+    assert_eq!(
+        explain_date("HH dd", "07:3", &refusal),
+        "`dd` needs two digits, found `3`"
+    );
+}
+
+#[test]
+fn other_refusals_are_said_as_they_print() {
+    for (pattern, text, year) in [
+        ("d'", "3", 2025),
+        ("d", "\u{e9}", 2025),
+        ("d", "3", 0),
+        ("\0", "3", 2025),
+    ] {
+        let refusal = read(pattern, text, year).expect_err("this is refused");
+        assert_eq!(explain(pattern, text, &refusal), refusal.to_string());
+    }
+    let refusal = parse_offset("+24:00").expect_err("this is refused");
+    assert_eq!(explain("X", "+24:00", &refusal), refusal.to_string());
+}
+
+#[test]
+fn bytes_that_are_no_text_are_escaped() {
+    assert_eq!(explained("dd", "\n\0"), r"`dd` needs two digits, found `\n\x00`");
+    assert_eq!(explained("\x7f\x7f", "\t"), r"`\x7f\x7f` needs two bytes, found `\t`");
+    // A refusal of another text is answered too.
+    let refusal = read("dd", "x", 2025).expect_err("this is refused");
+    assert_eq!(
+        explain("dd", "3\u{e9}", &refusal),
+        r"`dd` needs two digits, found `3\xc3`"
+    );
+}
+
+/// Numbers that look random, the same in every run.
+fn numbers() -> impl Iterator<Item = u64> {
+    std::iter::successors(Some(0x9e37_79b9_7f4a_7c15_u64), |state| {
+        let state = state ^ state << 13;
+        let state = state ^ state >> 7;
+        Some(state ^ state << 17)
+    })
+}
+
+/// Any pattern, any text and any refusal, even one of others: one line that can be printed.
+#[test]
+fn anything_is_explained() {
+    let alphabet = b"GyqMwdDeabhKHkmsnXx'''/ -+:05Z\0\n\x7f\xff";
+    let mut numbers = numbers();
+    let mut some_bytes = move |most: u64| -> Vec<u8> {
+        let mut next = || numbers.next().expect("there is always another");
+        let length = next() % most;
+        (0..length)
+            .map(|_| alphabet[next() as usize % alphabet.len()])
+            .collect()
+    };
+    let mut refusals: Vec<Refusal> = vec![check("'", 2025).expect_err("this is refused")];
+    for _ in 0..20_000 {
+        let (pattern, text) = (some_bytes(12), some_bytes(16));
+        refusals.extend(read(&pattern, &text, 2025).err());
+        refusals.extend(read_date(&pattern, &text, 2025).err());
+        let start = refusals.len().saturating_sub(4);
+        for refusal in &refusals[start..] {
+            for sentence in [
+                explain(&pattern, &text, refusal),
+                explain_date(&pattern, &text, refusal),
+            ] {
+                assert!(sentence.bytes().all(|byte| (b' '..=b'~').contains(&byte)), "{sentence}");
+            }
+        }
+    }
+}
