@@ -3,7 +3,7 @@
 
 use std::cell::Cell;
 
-/// The field record of document 01, in its order.
+/// The field record of the specification, in its order.
 #[derive(Clone, Copy, Debug, Default, PartialEq, Eq)]
 pub struct Fields {
     pub year: i32,

@@ -1,7 +1,7 @@
-//! The comparison rule: the one line that document 01 and the Rust together allow for a request.
+//! The comparison rule: the one line that the specification and the Rust together allow for a request.
 //!
-//! First come document 01's limits in its order. Beyond them the Rust decides: where it answers, its
-//! answer is the line; where it doesn't, the line is document 01's number for the way it stopped, read
+//! First come the specification's limits in its order. Beyond them the Rust decides: where it answers, its
+//! answer is the line; where it doesn't, the line is the specification's number for the way it stopped, read
 //! off its wording, with the part and the place that it had come to.
 
 use crate::answer::{self, as_pattern, as_text};
@@ -12,7 +12,7 @@ use crate::walk::{self, Cause, Kind, Stopped};
 /// The expected line, by who decides it.
 #[derive(Debug, PartialEq, Eq)]
 pub enum Expected {
-    /// Document 01 alone.
+    /// The specification alone.
     Limit(String),
     /// The Rust errs or panics.
     Refused(String),
@@ -28,14 +28,14 @@ impl Expected {
     }
 }
 
-/// No program answers this: the Rust stopped where document 01 knows no refusal.
-const UNEXPLAINED: &str = "the Rust stops in a way that document 01 does not know";
+/// No program answers this: the Rust stopped where the specification knows no refusal.
+const UNEXPLAINED: &str = "the Rust stops in a way that the specification does not know";
 
 pub fn expected(request: &Request) -> Expected {
     first_limit(request).unwrap_or_else(|| from_the_rust(request))
 }
 
-/// The checks that stand before any part is written or read, in document 01's order.
+/// The checks that stand before any part is written or read, in the specification's order.
 fn first_limit(request: &Request) -> Option<Expected> {
     match request {
         Request::Split { pattern } => limit(pattern_limit(pattern)),

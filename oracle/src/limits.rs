@@ -1,4 +1,4 @@
-//! The limits that document 01 sets and the Rust does not have: refusals 1, 2, 4, 5, 6, 7 and 14.
+//! The limits that the specification sets and the Rust does not have: refusals 1, 2, 4, 5, 6, 7 and 14.
 
 use crate::calendar::Fields;
 

@@ -1,4 +1,4 @@
-//! Document 01's samples and shortcuts of the check: which verdict comes out of trying records.
+//! The specification's samples and shortcuts of the check: which verdict comes out of trying records.
 
 use harness::check::{verdict, CheckRequest, Verdict};
 use harness::generator::Random;

@@ -1,4 +1,4 @@
-//! Document 01's sheet samples and the examples of its section on splitting: what the oracle answers,
+//! The specification's sheet samples and the examples of its section on splitting: what the oracle answers,
 //! and which line the comparer asks of a program.
 
 use harness::answer::answer;
@@ -82,7 +82,7 @@ fn refused(request: &Request, line: &str) {
     assert_eq!(expected(request).line(), line);
 }
 
-/// Refused by document 01 alone; the Rust has no such limit.
+/// Refused by the specification alone; the Rust has no such limit.
 #[track_caller]
 fn limited(request: &Request, line: &str) {
     assert_ne!(answer(&request.to_string()), "refused");

@@ -34,7 +34,7 @@ fn lay_digits(n: u32, w: usize, out: &mut [u8], at: usize)
     }
 }
 
-// Document 01, "format! with a width": the digits are made in a small scratch row and copied.
+// Specification, "format! with a width": the digits are made in a small scratch row and copied.
 fn put_digits(n: u32, w: usize, out: &mut [u8], at: usize) -> usize
     requires { ⌜ (w ≤ 10) × (at + w ≤ length (now out)) ⌝ }
     ensures { λ r. ⌜ Laid (now (out .entry)) (now (out .exit)) at r (text.digits w n) ⌝ }

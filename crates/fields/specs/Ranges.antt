@@ -12,7 +12,7 @@ unfoldable pub firstOut : ℕ → List Bool → ℕ
 firstOut i [] = 0
 firstOut i (t ∷ ts) = when t (firstOut (suc i) ts) i
 
--- whether each field is within its range, in the order of document 01
+-- whether each field is within its range, in the order of the specification
 abbrev pub inRange : Fields → List Bool
 inRange f =
     within 1 5879611 (natAbs (f .year)) ∷

@@ -1,4 +1,4 @@
--- Document 01, "Splitting": what an unclosed part writes, from the pattern bytes behind its quote.
+-- Specification, "Splitting": what an unclosed part writes, from the pattern bytes behind its quote.
 use mathlib.Core.List.{List}
 use Prim.Native.Nat.{ℕ, _-_}
 use lib.ListN.{length, take}

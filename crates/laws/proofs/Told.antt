@@ -1,4 +1,4 @@
--- Document 01's numbers and values tell answers apart. Each answer is found again from its number and values, so two enums with
+-- The specification's numbers and values tell answers apart. Each answer is found again from its number and values, so two enums with
 -- the same ones are the same: a promise that equates the numbers and values says what one says that equates the enums. Then how
 -- a promise is met by an equation, and what the answer of the check is told by.
 use mathlib.Core.Bool.{false}
@@ -31,7 +31,7 @@ use Rattle.meaning.specs.declared.Wrote.the-variants as wrote
 told-apart : {A B : Type 0} (told : A → B) (found : B → A) → ((a : A) → found (told a) ≡ a) → (a b : A) → told a ≡ told b → a ≡ b
 told-apart told found again a b e = sym (again a) ∙ ap found e ∙ again b
 
--- the table of document 01, by number
+-- the table of the specification, by number
 
 abbrev one : List ℤ → ℕ
 one ds = natAbs (getD ds 0 (pos 0))

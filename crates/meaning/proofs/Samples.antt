@@ -1,4 +1,4 @@
--- Document 01, "Sheet samples": the fourteen on the lines marked P, as one table under one theorem.
+-- Specification, "Sheet samples": the fourteen on the lines marked P, as one table under one theorem.
 use mathlib.Core.List.{List, [], _∷_, map}
 use mathlib.Core.Path.{_≡_, refl}
 use Prim.Native.Nat.{ℕ}

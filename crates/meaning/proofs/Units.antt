@@ -1,4 +1,4 @@
--- Document 01, "Answer numbers", "values by unit with the last part winning": of the values of a unit, the newest is the one that a reading gives.
+-- Specification, "Answer numbers", "values by unit with the last part winning": of the values of a unit, the newest is the one that a reading gives.
 use mathlib.Core.List.{List, _∷_}
 use mathlib.Core.Path.{_≡_, refl}
 use borrow.Author.Tests.{eq-eqb}

@@ -1,4 +1,4 @@
--- Document 01, "Answer numbers": each refusal's number and what it returns; the number and the values of each kind of answer;
+-- Specification, "Answer numbers": each refusal's number and what it returns; the number and the values of each kind of answer;
 -- and the checks that give refusals 1 to 7 and 14. The checks of a function stand in its order, in Whole.
 use mathlib.Core.Bool.{Bool, true, false}
 use mathlib.Core.List.{List, [], _∷_}

@@ -1,4 +1,4 @@
--- Bytes and decimal text, for document 01, "What each symbol does": a choice by a test, the bytes of a quoted text, what
+-- Bytes and decimal text, for the specification, "What each symbol does": a choice by a test, the bytes of a quoted text, what
 -- is a digit, and "num k". How numbers are read is in Numerals.
 use mathlib.Core.Bool.{Bool, true, false}
 use mathlib.Core.List.{List, [], _∷_, _++_}

@@ -1,4 +1,4 @@
--- Document 01, "Names are English, from constants.rs": the names, as lists that writer and matcher share. Month and weekday
+-- Specification, "Names are English, from constants.rs": the names, as lists that writer and matcher share. Month and weekday
 -- names come from a book, of which English is one; eras, quarters and periods are the same in every book. Which name is
 -- written is in Writing, what a name carries in Reading.
 use mathlib.Core.List.{List, [], _∷_, map}

@@ -1,4 +1,4 @@
--- Document 01, "What each symbol does", how a number is read: "an optional `+` (for a year also `-`) and at least one digit
+-- Specification, "What each symbol does", how a number is read: "an optional `+` (for a year also `-`) and at least one digit
 -- and, for a year, fit 32 signed bits". Any other number has at most nine digits here and is held, as in the Rust, to 32
 -- unsigned bits.
 use mathlib.Core.Bool.{Bool, true, false}

@@ -1,4 +1,4 @@
--- Document 01, "How tight the promises are": what each public function promises of its answer r and, where it is lent an
+-- Specification, "How tight the promises are": what each public function promises of its answer r and, where it is lent an
 -- output, of the output afterwards. That of the check is `Says` in `Trust`.
 use mathlib.Core.Bool.{Bool}
 use mathlib.Core.List.{List}
@@ -16,7 +16,7 @@ use Rattle.meaning.specs.declared.Reading.{Reading}
 use Rattle.meaning.specs.declared.Split.{Split}
 use Rattle.meaning.specs.declared.Wrote.{Wrote}
 
--- r is the answer d: by document 01's number and values, and in all that it holds. Where the answer is an enum either says the
+-- r is the answer d: by the specification's number and values, and in all that it holds. Where the answer is an enum either says the
 -- other.
 pub record SameAnswer {A : Type 0} (answer : A → Answer) (r d : A) : Type 0 where
   pub told : answer r ≡ answer d

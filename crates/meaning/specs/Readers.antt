@@ -1,4 +1,4 @@
--- What reading is made of, for document 01, "What each symbol does", column Reads: a reader is given the text that remains
+-- What reading is made of, for the specification, "What each symbol does", column Reads: a reader is given the text that remains
 -- and answers how many bytes it takes and what they give, or why it stops and where. Places count from the text that it
 -- is given. `do` runs one reader after the other.
 use mathlib.Core.Bool.{Bool, true, false}

@@ -1,4 +1,4 @@
--- Document 01, "What each symbol does", column Reads, with the carried values in brackets and the paragraphs on yy and
+-- Specification, "What each symbol does", column Reads, with the carried values in brackets and the paragraphs on yy and
 -- zones; and "Splitting", what a read of literals skips. The steps are those of Readers.
 use mathlib.Core.Bool.{Bool, true, false}
 use mathlib.Core.List.{List, [], _∷_}

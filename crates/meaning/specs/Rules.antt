@@ -1,4 +1,4 @@
--- Document 01, "What each symbol does": the table of rules. A symbol has a row for some counts and one for all others. What
+-- Specification, "What each symbol does": the table of rules. A symbol has a row for some counts and one for all others. What
 -- a rule writes is in Writing, what it reads in Reading.
 use mathlib.Core.Bool.{Bool, true, false}
 use mathlib.Core.List.{List, [], _∷_}

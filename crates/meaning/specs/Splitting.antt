@@ -1,4 +1,4 @@
--- Document 01, "Splitting": the elements of a pattern from left to right, what its parts hold, and the parts with their
+-- Specification, "Splitting": the elements of a pattern from left to right, what its parts hold, and the parts with their
 -- places. What a part does is in Writing and Reading.
 use mathlib.Core.Bool.{true, false}
 use mathlib.Core.List.{List, [], _∷_}

@@ -1,4 +1,4 @@
--- Document 01, "What is carried over": the unit sizes of constants.rs.
+-- Specification, "What is carried over": the unit sizes of constants.rs.
 use Prim.Native.Nat.{ℕ}
 
 abbrev pub nanosPerSecond : ℕ

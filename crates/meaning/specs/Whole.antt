@@ -1,4 +1,4 @@
--- Document 01, "Answer numbers": the whole answer of each function, with its checks in their order. Splitting; writing and
+-- Specification, "Answer numbers": the whole answer of each function, with its checks in their order. Splitting; writing and
 -- reading for a pair; parse_offset.
 use mathlib.Core.Bool.{Bool, true, false}
 use mathlib.Core.List.{List, [], _∷_, _++_, map}

@@ -1,4 +1,4 @@
--- Document 01, "What each symbol does", column Writes, with "The field record and the numbers" and the paragraphs on yy and
+-- Specification, "What each symbol does", column Writes, with "The field record and the numbers" and the paragraphs on yy and
 -- zones; and "Splitting", what literals write. A pattern's text is that of its parts, one after the other.
 use mathlib.Core.Bool.{Bool, true, false}
 use mathlib.Core.List.{List, [], _∷_, _++_, map}

@@ -1,4 +1,4 @@
-// The types of document 01, which every crate shares. What they mean is defined in specs/.
+// The types of the specification, which every crate shares. What they mean is defined in specs/.
 pub mod unit_sizes;
 
 // "The field record and the numbers": the eight fields, in its order.

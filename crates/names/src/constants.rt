@@ -1,4 +1,4 @@
-// The English names of document 01 as constant rows. Their tables have numbers, so that matcher and writer find the rows of
+// The English names of the specification as constant rows. Their tables have numbers, so that matcher and writer find the rows of
 // a list by one function for each size: first the tables of two names, then those of four, six, seven and twelve.
 ghost use mathlib.Core.Path.{_≡_};
 ghost use Prim.Native.Nat.{_≤_, _<_};

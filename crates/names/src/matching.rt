@@ -1,4 +1,4 @@
-// Names in: the English names of document 01, matched by their list.
+// Names in: the English names of the specification, matched by their list.
 ghost use mathlib.Core.Path.{_≡_};
 ghost use Prim.Native.Nat.{_<_};
 ghost use Rattle.meaning.specs.Names.{names, english};

@@ -1,4 +1,4 @@
-// The names of document 01, from constants.rs where it has them: rows of one width, filled up with `_`, with the lengths beside.
+// The names of the specification, from constants.rs where it has them: rows of one width, filled up with `_`, with the lengths beside.
 // A shorter name of a month or a weekday is the start of its wide one.
 
 pub struct Two {

@@ -1,4 +1,4 @@
-// Names out: the English names of document 01, written by their list.
+// Names out: the English names of the specification, written by their list.
 ghost use mathlib.Core.List.{[]};
 ghost use Prim.Native.Nat.{_+_, _<_, _≤_};
 ghost use lib.ListN.{length, getD};

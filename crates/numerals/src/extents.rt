@@ -4,7 +4,7 @@ ghost use Prim.Native.Nat.{_-_, _≤_};
 ghost use lib.ListN.{length, drop};
 ghost use Rattle.meaning.specs.Readers.{reach};
 
-// Document 01's "greedy": so many bytes at least, and at most, as digits follow.
+// The specification's "greedy": so many bytes at least, and at most, as digits follow.
 pub fn extent(least: u8, most: u8, text: &[u8], at: usize) -> usize
     requires { ⌜ at ≤ length (now text) ⌝ }
     ensures { λ r. ⌜ r ≡ reach (most - least) least (drop at (now (text .entry))) ⌝ }

@@ -1,4 +1,4 @@
-// Document 01, "a reading place that goes in by value and comes back moved on": each step answers the moved cursor, or why
+// Specification, "a reading place that goes in by value and comes back moved on": each step answers the moved cursor, or why
 // it stopped and where.
 ghost use mathlib.Core.Path.{_≡_};
 ghost use Prim.Native.Nat.{_≤_};

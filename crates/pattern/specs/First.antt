@@ -1,4 +1,4 @@
--- Document 01, "Splitting", as a scan from the left: what the first part of a rest of the pattern holds. That the contents of
+-- Specification, "Splitting", as a scan from the left: what the first part of a rest of the pattern holds. That the contents of
 -- the whole pattern are these, one after the other, is the law `contents-first` of proofs/First.
 use mathlib.Core.List.{List, [], _∷_}
 use Prim.Native.Nat.{ℕ, suc, _+_, _-_, _/_}

@@ -1,4 +1,4 @@
-// "Splitting" of document 01, part by part: the part at a place, and the inside of a quoted one.
+// "Splitting" of the specification, part by part: the part at a place, and the inside of a quoted one.
 ghost use mathlib.Core.Path.{_≡_};
 ghost use Prim.Native.Nat.{_+_, _*_, _≤_, _<_};
 ghost use lib.ListN.{length, drop};

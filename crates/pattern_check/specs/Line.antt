@@ -1,4 +1,4 @@
--- Document 01, "Sheet samples": the line that the program prints for a pattern.
+-- Specification, "Sheet samples": the line that the program prints for a pattern.
 use mathlib.Core.List.{List, [], _∷_, _++_}
 use Prim.Native.Nat.{ℕ, _≤_}
 use lib.IntN.{pos}

@@ -1,4 +1,4 @@
-// Document 01, "parse_offset (RFC 3339 form)": the checks 6 and 7, then Z, and the refusals 12, 9, 9, 13.
+// Specification, "parse_offset (RFC 3339 form)": the checks 6 and 7, then Z, and the refusals 12, 9, 9, 13.
 ghost use mathlib.Core.Path.{_≡_};
 ghost use Prim.Native.Nat.{_+_, _≤_};
 ghost use lib.Dec.{eqb};

@@ -1,4 +1,4 @@
-// Document 01, "Answer numbers": the record of a reading, with the values by unit, the mask of the units read and how many
+// Specification, "Answer numbers": the record of a reading, with the values by unit, the mask of the units read and how many
 // they are. proofs/Units has the laws by which a reader fills it.
 ghost use mathlib.Core.List.{[]};
 ghost use mathlib.Core.Path.{_≡_};

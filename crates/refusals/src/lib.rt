@@ -1,4 +1,4 @@
-// "Answer numbers" of document 01: a refusal's number and what it returns.
+// "Answer numbers" of the specification: a refusal's number and what it returns.
 ghost use mathlib.Core.Path.{_≡_};
 ghost use Rattle.meaning.specs.Answers.{troubleNumber};
 ghost use Rattle.refusals.specs.Told.{told, unsigned, oneDetail};

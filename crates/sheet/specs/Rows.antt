@@ -1,4 +1,4 @@
--- Document 01's answers as numbers: what a function returns, and the numbers that it lays over the start of a lent row.
+-- The specification's answers as numbers: what a function returns, and the numbers that it lays over the start of a lent row.
 use mathlib.Core.Bool.{Bool, false}
 use mathlib.Core.List.{List, [], _∷_, _++_}
 use mathlib.Core.Path.{_≡_}

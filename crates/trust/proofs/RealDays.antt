@@ -1,6 +1,5 @@
 -- Demand 3: the records that a no shows are real days, and their numbers differ from each other, so that none can stand in the
--- place of another unseen. Both are computed. The calendar is proleptic Gregorian, of positive years; that of document 02's
--- request [2] is to take its place.
+-- place of another unseen. Both are computed, by a proleptic Gregorian calendar of positive years.
 use mathlib.Core.Bool.{Bool, true, not}
 use mathlib.Core.List.{List, [], _∷_}
 use mathlib.Core.Path.{_≡_, refl}

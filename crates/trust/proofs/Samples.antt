@@ -1,4 +1,4 @@
--- Document 01, "Sheet samples", line "Check", and the shortcuts that look right, in the current year 2025.
+-- Specification, "Sheet samples", line "Check", and the shortcuts that look right, in the current year 2025.
 use mathlib.Core.List.{List, [], _∷_, map}
 use mathlib.Core.Path.{_≡_, refl}
 use Prim.Native.String.{String}

@@ -1,4 +1,4 @@
--- Demand 3: what a part needs of the text behind it, so that it comes back for every record. Document 01 says how each symbol
+-- Demand 3: what a part needs of the text behind it, so that it comes back for every record. The specification says how each symbol
 -- is written and read; the need is what the two leave open.
 use mathlib.Core.Bool.{Bool}
 use Prim.Native.Nat.{ℕ}

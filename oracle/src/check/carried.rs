@@ -1,4 +1,4 @@
-//! What a part carries of a record, by the brackets of document 01's table.
+//! What a part carries of a record, by the brackets of the specification's table.
 
 use crate::calendar::Fields;
 
