@@ -9,7 +9,7 @@ parse-with-requires : tie.Need-parse-with-requires
 parse-with-requires c κs = search needs
 
 returns : tie.Need-returns
-returns c = rw (toZ-ofZ w32 (c .before .before .before .args .year) (search needs)) at (c .parse-with .ensures)
+returns c = rw (← toZ-ofZ w32 (c .before .before .before .args .year) (search needs)) (c .parse-with .ensures)
 
 pub parse-spec : {M : Type 1} → statement M
 parse-spec = tie.close (tie.spec parse-with-requires returns)
