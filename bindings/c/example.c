@@ -1,4 +1,4 @@
-/* Writes a record by a pattern, reads it back, checks a pattern and shows a refusal. */
+/* Writes a record by a pattern, reads it back, shows what its parts are, checks a pattern and shows a refusal. */
 #include "sheet.h"
 
 #include <inttypes.h>
@@ -41,6 +41,22 @@ static void write_and_read_back(const char *pattern) {
     show_value("hour", read, SHEET_HOUR);
 }
 
+static void show_units(const char *pattern) {
+    int64_t answer[SHEET_UNITS_ANSWER];
+    int64_t units[SHEET_UNITS_ROW];
+    if (sheet_units(bytes(pattern), strlen(pattern), answer, SHEET_UNITS_ANSWER, units, SHEET_UNITS_ROW) != SHEET_ACCEPTED)
+        return;
+    printf("%s has the parts:\n", pattern);
+    for (int64_t part = 0; part < answer[0]; part++) {
+        if (units[part] == SHEET_LITERAL)
+            printf("  a literal\n");
+        else if (units[part] == SHEET_CARRIES_NOTHING)
+            printf("  a symbol that carries nothing\n");
+        else
+            printf("  a symbol that carries unit %" PRId64 "\n", units[part]);
+    }
+}
+
 static void check(const char *pattern) {
     int64_t answer[SHEET_CHECK_ANSWER];
     uint32_t number = sheet_check(bytes(pattern), strlen(pattern), CURRENT_YEAR, answer, SHEET_CHECK_ANSWER);
@@ -62,6 +78,7 @@ static void show_a_refusal(const char *pattern) {
 
 int main(void) {
     write_and_read_back("yyyy/MM/dd");
+    show_units("w/yyyy");
     check("d/M");
     check("d/MM");
     check("d'");

@@ -1,8 +1,8 @@
 /* sheet.h: dates, times and zone offsets by patterns such as yyyy/MM/dd, for C and C++.
  *
  * What is lent. A pattern or a text is bytes with their number and needs no zero byte at its end. Text goes to `out`, numbers
- * go to the rows `answer` and `parts`, which are aligned as int64_t is. What a function may alter must overlap nothing else that
- * it is lent. Nothing is kept after the return, and no memory is asked for.
+ * go to the rows `answer`, `parts` and `units`, which are aligned as int64_t is. What a function may alter must overlap nothing
+ * else that it is lent. Nothing is kept after the return, and no memory is asked for.
  *
  * Lengths. A length says how many bytes or entries stand behind the pointer, and never more, not even where the pattern or the
  * text is too long and will be refused. A null pointer with the length 0 is an empty slice. What is proved of the functions is
@@ -11,12 +11,12 @@
  * Threads and stack. The functions have no state: any thread may call any of them at any time, with rows and an `out` that no
  * other thread uses meanwhile. A call takes no more than SHEET_MOST_STACK bytes of the stack.
  *
- * What is returned. SHEET_ACCEPTED; or the number of a refusal, 1 to 14; or SHEET_ROW_TOO_SMALL where `answer` or `parts` has
- * fewer entries than the function asks for: then nothing is altered.
+ * What is returned. SHEET_ACCEPTED; or the number of a refusal, 1 to 14; or SHEET_ROW_TOO_SMALL where a row has fewer
+ * entries than the function asks for: then nothing is altered.
  *
  * What is altered. Accepted, the first entries of `answer`, as many as the function asks for, are what its comment says, and a
- * writer alters so many bytes of `out` as it answers. Refused, these entries are the refusal's details, then zeros, and neither
- * `out` nor `parts` is altered. Nothing behind them ever is.
+ * writer alters so many bytes of `out` as it answers. Refused, these entries are the refusal's details, then zeros, and none of
+ * `out`, `parts` and `units` is altered. Nothing behind them ever is.
  *
  * Parts of a pattern and places in a pattern or a text are counted from 0. docs/SPECIFICATION.md says what a pattern means.
  */
@@ -47,12 +47,14 @@ extern "C" {
  * text then goes through a row of its own, and 3,300 otherwise; the other functions take fewer. */
 #define SHEET_MOST_STACK 8192
 
-/* How many entries each function asks for in `answer`, and sheet_split in `parts`. */
+/* How many entries each function asks for in `answer`, sheet_split in `parts`, and sheet_units in `units`. */
 #define SHEET_WRITE_ANSWER 2
 #define SHEET_READ_ANSWER 18
 #define SHEET_OFFSET_ANSWER 2
 #define SHEET_SPLIT_ANSWER 2
 #define SHEET_SPLIT_PARTS 768
+#define SHEET_UNITS_ANSWER 2
+#define SHEET_UNITS_ROW 256
 #define SHEET_CHECK_ANSWER 10
 
 /* What is returned. Behind a refusal stand its details, which are the first one or two entries of `answer`. */
@@ -71,7 +73,7 @@ extern "C" {
 #define SHEET_OFFSET_LENGTH 12   /* an offset of another length than 6: its length */
 #define SHEET_OFFSET_RANGE 13    /* an offset's hour or minute is too large: 1 or 2 */
 #define SHEET_CURRENT_YEAR 14    /* a current year that is not 1 to 9999: that year */
-#define SHEET_ROW_TOO_SMALL 100  /* `answer` or `parts` is too small: nothing is altered, and there are no details */
+#define SHEET_ROW_TOO_SMALL 100  /* a row is too small: nothing is altered, and there are no details */
 
 /* The units of a reading: each one's bit in the mask and its place among the values. */
 #define SHEET_YEAR 0
@@ -89,6 +91,10 @@ extern "C" {
 #define SHEET_MICROS 12
 #define SHEET_NANOS 13
 #define SHEET_OFFSET 14
+
+/* In the place of a unit: a part that is a literal, and a symbol that carries nothing. */
+#define SHEET_LITERAL (-1)
+#define SHEET_CARRIES_NOTHING 15
 
 /* Where the values of a reading start in `answer`. */
 #define SHEET_READ_VALUES 3
@@ -137,6 +143,13 @@ uint32_t sheet_parse_offset(const uint8_t *text, size_t text_len, int64_t *answe
  * Refuses: 1, 2. */
 uint32_t sheet_split(const uint8_t *pattern, size_t pattern_len, int64_t *answer, size_t answer_len, int64_t *parts,
                      size_t parts_len);
+
+/* Says of each part of a pattern whether it is a symbol, and which unit it carries, as an editor needs it that colours patterns.
+ * Answers: how many parts, and 0. In `units`, for each part in order, the unit that it carries, SHEET_CARRIES_NOTHING for a symbol
+ * that carries none, or SHEET_LITERAL; behind the last part SHEET_LITERAL, up to 256 entries.
+ * Refuses: 1, 2. */
+uint32_t sheet_units(const uint8_t *pattern, size_t pattern_len, int64_t *answer, size_t answer_len, int64_t *units,
+                     size_t units_len);
 
 /* Says whether a pattern can be trusted to read back what it wrote, for every record; `year` is the current year.
  * Answers: yes is 1, then zeros; no is 0, the first part that does not come back for some record, and the eight fields of such

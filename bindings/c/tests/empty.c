@@ -16,6 +16,7 @@ static const uint8_t TEXT[] = {'0', '3'};
 static uint8_t out[4];
 static int64_t answer[SHEET_READ_ANSWER];
 static int64_t parts[SHEET_SPLIT_PARTS];
+static int64_t units[SHEET_UNITS_ROW];
 static bool all = true;
 
 /* What a call has to return, and the first two entries of its row. */
@@ -56,6 +57,9 @@ static void by_others(void) {
     GIVES(sheet_split(NULL, 0, answer, 2, parts, SHEET_SPLIT_PARTS), SHEET_ACCEPTED, 0, 0);
     GIVES(sheet_split(PATTERN, 2, NULL, 0, parts, SHEET_SPLIT_PARTS), SHEET_ROW_TOO_SMALL, MARK, MARK);
     GIVES(sheet_split(PATTERN, 2, answer, 2, NULL, 0), SHEET_ROW_TOO_SMALL, MARK, MARK);
+    GIVES(sheet_units(NULL, 0, answer, 2, units, SHEET_UNITS_ROW), SHEET_ACCEPTED, 0, 0);
+    GIVES(sheet_units(PATTERN, 2, NULL, 0, units, SHEET_UNITS_ROW), SHEET_ROW_TOO_SMALL, MARK, MARK);
+    GIVES(sheet_units(PATTERN, 2, answer, 2, NULL, 0), SHEET_ROW_TOO_SMALL, MARK, MARK);
     GIVES(sheet_check(NULL, 0, 2025, answer, SHEET_CHECK_ANSWER), SHEET_ACCEPTED, 1, 0);
     GIVES(sheet_check(PATTERN, 2, 2025, NULL, 0), SHEET_ROW_TOO_SMALL, MARK, MARK);
 }

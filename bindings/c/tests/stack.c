@@ -19,6 +19,7 @@ static uint8_t pattern[SHEET_LONGEST_PATTERN];
 static uint8_t text[SHEET_LONGEST_TEXT];
 static int64_t answer[SHEET_READ_ANSWER];
 static int64_t parts[SHEET_SPLIT_PARTS];
+static int64_t units[SHEET_UNITS_ROW];
 
 /* Calls a function by the first bytes of the pattern. */
 typedef void function(size_t length);
@@ -45,6 +46,10 @@ static void write_and_read(size_t length) {
 
 static void split(size_t length) {
     sheet_split(pattern, length, answer, SHEET_SPLIT_ANSWER, parts, SHEET_SPLIT_PARTS);
+}
+
+static void tell_units(size_t length) {
+    sheet_units(pattern, length, answer, SHEET_UNITS_ANSWER, units, SHEET_UNITS_ROW);
 }
 
 static void check(size_t length) {
@@ -106,6 +111,7 @@ int main(void) {
     all &= holds("write, too little room", write_without_room);
     all &= holds("write and read", write_and_read);
     all &= holds("split", split);
+    all &= holds("units", tell_units);
     all &= holds("check", check);
     all &= holds("parse_offset, was_read", parse_offset);
     return all ? 0 : 1;

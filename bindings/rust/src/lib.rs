@@ -6,6 +6,7 @@ mod fields;
 mod reading;
 mod refusal;
 mod splitting;
+mod units;
 mod writing;
 
 pub mod raw;
@@ -16,4 +17,5 @@ pub use fields::Fields;
 pub use reading::{parse_offset, read, read_date, ParseUnit, Reading};
 pub use refusal::Refusal;
 pub use splitting::{split, Kind, Part};
+pub use units::{units, PartUnit};
 pub use writing::{write, write_date, write_date_into, write_into};

@@ -21,6 +21,10 @@ pub const OFFSET_ANSWER: usize = 2;
 pub const SPLIT_ANSWER: usize = 2;
 /// How many entries of `parts` [`sheet_split`] asks for.
 pub const SPLIT_PARTS: usize = 768;
+/// How many entries of `answer` [`sheet_units`] asks for.
+pub const UNITS_ANSWER: usize = 2;
+/// How many entries of `units` [`sheet_units`] asks for.
+pub const UNITS_ROW: usize = 256;
 /// How many entries of `answer` [`sheet_check`] asks for.
 pub const CHECK_ANSWER: usize = 10;
 
@@ -45,6 +49,11 @@ pub const CURRENT_YEAR: u32 = 14;
 
 /// What is returned where a lent row is too small; then nothing is altered.
 pub const ROW_TOO_SMALL: u32 = 100;
+
+/// In the place of a unit: a part that is a literal.
+pub const LITERAL: i64 = -1;
+/// In the place of a unit: a symbol that carries nothing.
+pub const CARRIES_NOTHING: i64 = 15;
 
 /// Either writer.
 pub type Writer = unsafe extern "C" fn(
@@ -127,6 +136,14 @@ extern "C" {
         answer_len: usize,
         parts: *mut i64,
         parts_len: usize,
+    ) -> u32;
+    pub fn sheet_units(
+        pattern: *const u8,
+        pattern_len: usize,
+        answer: *mut i64,
+        answer_len: usize,
+        units: *mut i64,
+        units_len: usize,
     ) -> u32;
     pub fn sheet_check(pattern: *const u8, pattern_len: usize, year: i32, answer: *mut i64, answer_len: usize) -> u32;
 }

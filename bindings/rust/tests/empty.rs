@@ -61,6 +61,12 @@ fn split(pattern: &[u8], answer: &mut [i64], parts: &mut [i64]) -> u32 {
     unsafe { raw::sheet_split(pattern, length, answer, entries, parts, room) }
 }
 
+fn units(pattern: &[u8], answer: &mut [i64], units: &mut [i64]) -> u32 {
+    let ((pattern, length), (answer, entries), (units, room)) = (lent(pattern), row(answer), row(units));
+    // SAFETY: as for a write.
+    unsafe { raw::sheet_units(pattern, length, answer, entries, units, room) }
+}
+
 fn check(pattern: &[u8], answer: &mut [i64]) -> u32 {
     let ((pattern, length), (answer, entries)) = (lent(pattern), row(answer));
     // SAFETY: as for a write.
@@ -98,4 +104,6 @@ fn of_the_others() {
         0,
     );
     assert_eq!(split(b"dd", &mut [MARK; 2], &mut []), raw::ROW_TOO_SMALL);
+    gives(|row| units(b"", row, &mut [MARK; raw::UNITS_ROW]), raw::ACCEPTED, 0, 0);
+    assert_eq!(units(b"dd", &mut [MARK; 2], &mut []), raw::ROW_TOO_SMALL);
 }

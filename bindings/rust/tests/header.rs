@@ -16,7 +16,10 @@ macro_rules! of_raw {
 fn defined() -> BTreeMap<String, i64> {
     let definition = |line: &str| {
         let mut words = line.strip_prefix("#define SHEET_")?.split_whitespace();
-        Some((words.next()?.to_string(), words.next()?.parse().ok()?))
+        Some((
+            words.next()?.to_string(),
+            words.next()?.trim_matches(['(', ')']).parse().ok()?,
+        ))
     };
     HEADER.lines().filter_map(definition).collect()
 }
@@ -81,6 +84,7 @@ fn constants() {
     ]);
     ours.extend(of_raw!(LONGEST_PATTERN LONGEST_TEXT BYTES_A_PATTERN_BYTE MOST_STACK));
     ours.extend(of_raw!(WRITE_ANSWER READ_ANSWER READ_VALUES OFFSET_ANSWER SPLIT_ANSWER SPLIT_PARTS CHECK_ANSWER));
+    ours.extend(of_raw!(UNITS_ANSWER UNITS_ROW LITERAL CARRIES_NOTHING));
     ours.extend(of_raw!(ACCEPTED PATTERN_TOO_LONG PATTERN_BYTE LONE_QUOTE FIELD_RANGE NO_ROOM TEXT_TOO_LONG TEXT_BYTE));
     ours.extend(of_raw!(TOO_FEW NO_NUMBER NO_NAME NO_SIGN OFFSET_LENGTH OFFSET_RANGE CURRENT_YEAR ROW_TOO_SMALL));
     ours.extend(ParseUnit::ALL.map(|unit| (in_capitals(unit), unit as i64)));

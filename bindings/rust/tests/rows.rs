@@ -74,6 +74,12 @@ fn split(pattern: &[u8], answer: &mut [i64], parts: &mut [i64]) -> u32 {
     unsafe { raw::sheet_split(pattern.as_ptr(), pattern.len(), row, answer.len(), places, parts.len()) }
 }
 
+fn units(pattern: &[u8], answer: &mut [i64], units: &mut [i64]) -> u32 {
+    let (row, entries) = (answer.as_mut_ptr(), units.as_mut_ptr());
+    // SAFETY: each pointer goes with the length of the slice that it comes from.
+    unsafe { raw::sheet_units(pattern.as_ptr(), pattern.len(), row, answer.len(), entries, units.len()) }
+}
+
 fn check(pattern: &[u8], answer: &mut [i64]) -> u32 {
     // SAFETY: each pointer goes with the length of the slice that it comes from.
     unsafe { raw::sheet_check(pattern.as_ptr(), pattern.len(), 2025, answer.as_mut_ptr(), answer.len()) }
@@ -119,24 +125,29 @@ fn of_the_check() {
     asks_for(raw::CHECK_ANSWER, 3, |row| check(b"'", row));
 }
 
+/// The function has two rows, of 2 and of so many entries: where one is too small, the other keeps its entries.
+#[track_caller]
+fn asks_for_two(entries: usize, call: fn(&[u8], &mut [i64], &mut [i64]) -> u32) {
+    asks_for(entries, raw::ACCEPTED, |row| call(b"d'", &mut [0; 2], row));
+    asks_for(2, raw::ACCEPTED, |row| call(b"d'", row, &mut vec![0; entries]));
+    asks_for(2, 2, |row| call(b"\0", row, &mut vec![0; entries]));
+
+    let (mut answer, mut more) = ([MARK; 2], vec![MARK; entries]);
+    assert_eq!(call(b"d'", &mut [0; 1], &mut more), raw::ROW_TOO_SMALL);
+    assert_eq!(call(b"d'", &mut answer, &mut more[1..]), raw::ROW_TOO_SMALL);
+    assert_eq!(answer, [MARK; 2]);
+    assert_eq!(call(b"\0", &mut answer, &mut more), 2);
+    assert_eq!(more, vec![MARK; entries]);
+}
+
 #[test]
 fn of_the_split() {
-    let mut answer = [MARK; raw::SPLIT_ANSWER];
-    asks_for(raw::SPLIT_PARTS, raw::ACCEPTED, |row| split(b"d'", &mut [0; 2], row));
-    asks_for(raw::SPLIT_ANSWER, raw::ACCEPTED, |row| {
-        split(b"d'", row, &mut [0; raw::SPLIT_PARTS])
-    });
-    asks_for(raw::SPLIT_ANSWER, 2, |row| {
-        split(b"\0", row, &mut [0; raw::SPLIT_PARTS])
-    });
+    asks_for_two(raw::SPLIT_PARTS, split);
+}
 
-    // The other row keeps its entries.
-    let mut parts = [MARK; raw::SPLIT_PARTS];
-    assert_eq!(split(b"d'", &mut [0; 1], &mut parts), raw::ROW_TOO_SMALL);
-    assert_eq!(split(b"d'", &mut answer, &mut parts[1..]), raw::ROW_TOO_SMALL);
-    assert_eq!(answer, [MARK; raw::SPLIT_ANSWER]);
-    assert_eq!(split(b"\0", &mut answer, &mut parts), 2);
-    assert_eq!(parts, [MARK; raw::SPLIT_PARTS]);
+#[test]
+fn of_the_units() {
+    asks_for_two(raw::UNITS_ROW, units);
 }
 
 #[test]

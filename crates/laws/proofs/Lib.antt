@@ -1,3 +1,4 @@
+pub mod Carried
 pub mod Checks
 pub mod Determined
 pub mod Digits

@@ -2,6 +2,7 @@
 -- zones; and "Splitting", what a read of literals skips. The steps are those of Readers.
 use mathlib.Core.Bool.{Bool, true, false}
 use mathlib.Core.List.{List, [], _∷_}
+use mathlib.Core.Option.{Option, none, some}
 use Prim.Native.Nat.{ℕ, suc, _+_, _*_, _-_, _/_}
 use lib.Dec.{eqb, ltb}
 use lib.IntN.{ℤ, pos, negℤ, natAbs, _+ℤ_}
@@ -221,3 +222,32 @@ unfoldable pub carriedStep : Step → Fields → Carried
 unfolding carriedRule
 carriedStep (literal w lost) f = Nothing
 carriedStep (field rule) f = carriedRule rule f
+
+-- the unit of what is carried
+abbrev pub unitOf : Carried → Option ParseUnit
+unitOf Nothing = none
+unitOf (Value u z) = some u
+
+-- the unit that a symbol carries, whatever the record: of names it is the first one's. `carries` in laws holds it to carriedRule.
+unfoldable pub ruleUnit : Rule → Option ParseUnit
+unfolding nameCarries
+ruleUnit (Number q least most u z) = some u
+ruleUnit (SkippedNumber q least most) = none
+ruleUnit LetterQuarter = none
+ruleUnit (SkippedName l n) = none
+ruleUnit (MatchedName l) = unitOf (nameCarries l 0)
+ruleUnit (Letters l n) = unitOf (nameCarries l 0)
+ruleUnit (Years k) = some unit.Year
+ruleUnit (FixedYear k) = some unit.Year
+ruleUnit TwoDigitYear = some unit.Year
+ruleUnit (Zone z c minutes seconds) = some unit.Offset
+
+-- what a part is: it stands for itself, or it is a symbol that carries a unit or nothing
+pub data StepUnit : Type 0 where
+  itself : StepUnit
+  symbol : Option ParseUnit → StepUnit
+
+unfoldable pub stepUnit : Step → StepUnit
+unfolding ruleUnit
+stepUnit (literal w lost) = itself
+stepUnit (field rule) = symbol (ruleUnit rule)

@@ -31,7 +31,7 @@ fn period_at(afternoon: usize, i: usize) -> Carried
     Carried::Value(ParseUnit::Period, 1)
 }
 
-fn name_carries(list: NameList, i: usize) -> Carried
+pub fn name_carries(list: NameList, i: usize) -> Carried
     requires { ⌜ i < length (names english list) ⌝ }
     ensures { λ r. ⌜ r ≡ reading.nameCarries list i ⌝ }
 {

@@ -18,17 +18,22 @@ use Rattle.meaning.specs.declared.Pair.{Pair}
 use Rattle.meaning.specs.declared.Verdict.{Verdict}
 use Rattle.meaning.specs.declared.Verdict.the-variants.{Yes, No, Refused}
 use Rattle.sheet.specs.Rows.{inRow, Given}
-use Rattle.sheet.specs.Sheet.{has, ifRoom, SheetWrites, SheetReads, SheetTellsRead, SheetParsesOffset, SheetSplits, SheetChecks}
+use Rattle.sheet.specs.Sheet.{has, ifRoom, SheetWrites, SheetReads, SheetTellsRead, SheetParsesOffset, SheetSplits, SheetUnits, SheetChecks}
 use Rattle.trust.proofs.Agreement.{SameButRecord, answers-coincide}
 
 given-coincide : {answer : Answer} {old new new′ : List ℤ} {r r′ : ℕ} → Given answer old new r → Given answer old new′ r′ → (r ≡ r′) × (new ≡ new′)
 given-coincide g h = (determined (g .number) (h .number), determined (g .row) (h .row))
 
+-- an answer, and what else is altered
+both-coincide : {answer : Answer} {old new new′ : List ℤ} {r r′ : ℕ} {A : Type 0} {d after after′ : A}
+    → Given answer old new r × (after ≡ d) → Given answer old new′ r′ × (after′ ≡ d) → (r ≡ r′) × (new ≡ new′) × (after ≡ after′)
+both-coincide w v =
+    let g = given-coincide (w .0) (v .0) in (g .0, g .1, determined (w .1) (v .1))
+
 pub writes-coincide : (pair : Pair) (p : List ℕ) (f : Fields) (out : List ℕ) (row : List ℤ) {r r′ : ℕ} {outAfter outAfter′ : List ℕ} {rowAfter rowAfter′ : List ℤ}
     → SheetWrites pair p f out row r outAfter rowAfter → SheetWrites pair p f out row r′ outAfter′ rowAfter′
     → (r ≡ r′) × (rowAfter ≡ rowAfter′) × (outAfter ≡ outAfter′)
-writes-coincide pair p f out row w v =
-    let g = given-coincide (w .0) (v .0) in (g .0, g .1, determined (w .1) (v .1))
+writes-coincide pair p f out row = both-coincide
 
 pub reads-coincide : (pair : Pair) (p s : List ℕ) (current : ℤ) (row : List ℤ) {r r′ : ℕ} {rowAfter rowAfter′ : List ℤ}
     → SheetReads pair p s current row r rowAfter → SheetReads pair p s current row r′ rowAfter′ → (r ≡ r′) × (rowAfter ≡ rowAfter′)
@@ -44,8 +49,12 @@ offsets-coincide s row = given-coincide
 pub splits-coincide : (p : List ℕ) (row parts : List ℤ) {r r′ : ℕ} {rowAfter rowAfter′ partsAfter partsAfter′ : List ℤ}
     → SheetSplits p row parts r rowAfter partsAfter → SheetSplits p row parts r′ rowAfter′ partsAfter′
     → (r ≡ r′) × (rowAfter ≡ rowAfter′) × (partsAfter ≡ partsAfter′)
-splits-coincide p row parts w v =
-    let g = given-coincide (w .0) (v .0) in (g .0, g .1, determined (w .1) (v .1))
+splits-coincide p row parts = both-coincide
+
+pub units-coincide : (p : List ℕ) (row units : List ℤ) {r r′ : ℕ} {rowAfter rowAfter′ unitsAfter unitsAfter′ : List ℤ}
+    → SheetUnits p row units r rowAfter unitsAfter → SheetUnits p row units r′ rowAfter′ unitsAfter′
+    → (r ≡ r′) × (rowAfter ≡ rowAfter′) × (unitsAfter ≡ unitsAfter′)
+units-coincide p row units = both-coincide
 
 -- the check
 

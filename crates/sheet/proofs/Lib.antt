@@ -1,3 +1,4 @@
 mod Determined
 pub mod Fits
+pub mod Laying
 pub mod Rooms

@@ -7,8 +7,8 @@ use borrow.Author.Tests.{le-leb, lt-leb}
 use lib.IntN.{ℤ}
 use lib.ListN.{length}
 use Rattle.meaning.specs.Answers.{Answer, accepted}
-use Rattle.sheet.specs.Rows.{inRow, Given}
-use Rattle.sheet.specs.Sheet.{has, ifRoom}
+use Rattle.sheet.specs.Rows.{inRow, Given, laid}
+use Rattle.sheet.specs.Sheet.{has, ifRoom, InTwoRows}
 
 pub full : {old new vs : List ℤ} {r : ℕ} (n : ℕ) → length vs ≡ n → Given (accepted vs) old new r → Given (inRow n (accepted vs)) old new r
 full {vs = vs} n long given = rw (long, sub-self n, append-nil vs) given
@@ -19,3 +19,16 @@ module _ (n : ℕ) (row : List ℤ) (answer : Answer) where
 
   pub no-room : length row < n → Given (ifRoom (has n row) (inRow n answer)) row row 100
   no-room h = rw (lt-leb n (length row) h) (record { number = refl; row = refl })
+
+-- an answer in its row and numbers in a second one
+module _ (n : ℕ) (row more numbers : List ℤ) (answer : Answer) where
+  pub rooms : {after moreAfter : List ℤ} {r : ℕ} → 2 ≤ length row → n ≤ length more → Given (inRow 2 answer) row after r × (moreAfter ≡ laid numbers more)
+      → InTwoRows answer numbers n row more r after moreAfter
+  rooms h k given = rw (le-leb 2 (length row) h, le-leb n (length more) k) given
+
+  pub no-room-in-first : length row < 2 → InTwoRows answer numbers n row more 100 row more
+  no-room-in-first h = rw (lt-leb 2 (length row) h) (record { number = refl; row = refl }, refl)
+
+  pub no-room-in-second : 2 ≤ length row → length more < n → InTwoRows answer numbers n row more 100 row more
+  no-room-in-second h k =
+      rw (le-leb 2 (length row) h, lt-leb n (length more) k) (record { number = refl; row = refl }, refl)

@@ -1,19 +1,24 @@
 -- The specification's answers as numbers: what a function returns, and the numbers that it lays over the start of a lent row.
 use mathlib.Core.Bool.{Bool, false}
-use mathlib.Core.List.{List, [], _∷_, _++_}
+use mathlib.Core.List.{List, [], _∷_, _++_, map}
+use mathlib.Core.Option.{Option, none, some}
 use mathlib.Core.Path.{_≡_}
 use Prim.Native.Nat.{ℕ, _-_}
 use lib.Dec.{leb}
 use lib.IntN.{ℤ, pos, negsuc}
 use lib.ListN.{length, replicate}
 use lib.Seq.{sets}
-use Rattle.meaning.specs.Answers.{Answer}
+use Rattle.meaning.specs.Answers.{Answer, bytesCheck}
 use Rattle.meaning.specs.Bytes.{both}
-use Rattle.meaning.specs.Whole.{marked}
+use Rattle.meaning.specs.Reading.{StepUnit, itself, symbol, stepUnit}
+use Rattle.meaning.specs.Whole.{unitNumber, marked}
+use Rattle.meaning.specs.Writing.{Step, steps}
 use Rattle.meaning.specs.declared.Checked.{Checked}
 use Rattle.meaning.specs.declared.Checked.the-variants.{Fine, Refused}
 use Rattle.meaning.specs.declared.Kind.{Kind}
 use Rattle.meaning.specs.declared.Kind.the-variants.{Run, Quotes, Quoted, Open}
+use Rattle.meaning.specs.declared.Pair.the-variants.{Full}
+use Rattle.meaning.specs.declared.ParseUnit.{ParseUnit}
 use Rattle.meaning.specs.declared.Part.{Part}
 use Rattle.meaning.specs.declared.Split.{Split}
 
@@ -44,6 +49,27 @@ numbersBy (Refused why) ps = []
 -- those of all 256 entries, or none
 abbrev pub splitNumbers : Split → List ℤ
 splitNumbers s = numbersBy (s .checked) (s .parts)
+
+-- what a part is: -1 where it stands for itself, 15 for a symbol that carries nothing, else the number of the unit
+abbrev pub carriedEntry : Option ParseUnit → ℤ
+carriedEntry none = pos 15
+carriedEntry (some u) = pos (unitNumber u)
+
+abbrev pub unitEntry : StepUnit → ℤ
+unitEntry itself = negsuc 0
+unitEntry (symbol unit) = carriedEntry unit
+
+abbrev pub stepEntry : Step → ℤ
+stepEntry step = unitEntry (stepUnit step)
+
+abbrev pub entriesBy : Checked → List ℤ → List ℤ
+entriesBy Fine es = es ++ replicate (256 - length es) (negsuc 0)
+entriesBy (Refused why) es = []
+
+-- that of each part of a pattern, then -1, 256 entries in all; or none
+unfoldable pub unitEntries : List ℕ → List ℤ
+unfolding bytesCheck steps
+unitEntries p = entriesBy (bytesCheck p) (map stepEntry (steps Full p))
 
 -- numbers lie over the start of the old row, and the rest is as it was
 abbrev pub laid : List ℤ → List ℤ → List ℤ

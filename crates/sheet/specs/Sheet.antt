@@ -15,7 +15,7 @@ use Rattle.meaning.specs.Whole.{split, write, output, read, parseOffset}
 use Rattle.meaning.specs.declared.Fields.{Fields}
 use Rattle.meaning.specs.declared.Pair.{Pair}
 use Rattle.meaning.specs.declared.Verdict.{Verdict}
-use Rattle.sheet.specs.Rows.{inRow, Given, laid, isMarked, splitNumbers}
+use Rattle.sheet.specs.Rows.{inRow, Given, laid, isMarked, splitNumbers, unitEntries}
 
 -- whether a row has so many entries
 abbrev pub has : {A : Type 0} → ℕ → List A → Bool
@@ -39,10 +39,18 @@ SheetTellsRead mask unit r = r ≡ when (isMarked mask unit) 1 0
 abbrev pub SheetParsesOffset : List ℕ → List ℤ → ℕ → List ℤ → Type 0
 SheetParsesOffset s row r rowAfter = Given (ifRoom (has 2 row) (inRow 2 (offsetAnswer (parseOffset s)))) row rowAfter r
 
+-- an answer in its row, and numbers in a second row of n entries
+abbrev pub InTwoRows : Answer → List ℤ → ℕ → List ℤ → List ℤ → ℕ → List ℤ → List ℤ → Type 0
+InTwoRows answer numbers n row more r rowAfter moreAfter =
+    Given (ifRoom (both (has 2 row) (has n more)) (inRow 2 answer)) row rowAfter r
+    × (moreAfter ≡ laid (when (both (has 2 row) (has n more)) numbers []) more)
+
 abbrev pub SheetSplits : List ℕ → List ℤ → List ℤ → ℕ → List ℤ → List ℤ → Type 0
-SheetSplits p row parts r rowAfter partsAfter =
-    Given (ifRoom (both (has 2 row) (has 768 parts)) (inRow 2 (splitAnswer (split p)))) row rowAfter r
-    × (partsAfter ≡ laid (when (both (has 2 row) (has 768 parts)) (splitNumbers (split p)) []) parts)
+SheetSplits p = InTwoRows (splitAnswer (split p)) (splitNumbers (split p)) 768
+
+-- the answer of the split
+abbrev pub SheetUnits : List ℕ → List ℤ → List ℤ → ℕ → List ℤ → List ℤ → Type 0
+SheetUnits p = InTwoRows (splitAnswer (split p)) (unitEntries p) 256
 
 -- an answer that `Says` allows, which leaves open the failing record
 pub record SheetChecks (p : List ℕ) (current : ℤ) (row : List ℤ) (r : ℕ) (rowAfter : List ℤ) : Type 0 where

@@ -17,15 +17,22 @@ pub fn lay(numbers: &[i64], row: &mut [i64], at: usize)
     }
 }
 
+pub fn lay_times(number: i64, times: usize, row: &mut [i64], at: usize)
+    requires { ⌜ at + times ≤ length (now row) ⌝ }
+    ensures { λ _. ⌜ now (row .exit) ≡ sets (now (row .entry)) at (replicate times number) ⌝ }
+{
+    let mut j = 0;
+    while j < times {
+        row[at + j] = number;
+        j += 1;
+    }
+}
+
 pub fn lay_zeros(times: usize, row: &mut [i64], at: usize)
     requires { ⌜ at + times ≤ length (now row) ⌝ }
     ensures { λ _. ⌜ now (row .exit) ≡ sets (now (row .entry)) at (replicate times (pos 0)) ⌝ }
 {
-    let mut j = 0;
-    while j < times {
-        row[at + j] = 0;
-        j += 1;
-    }
+    lay_times(0, times, row, at);
 }
 
 pub fn entry(n: u64) -> i64

@@ -4,14 +4,16 @@ pub mod answers;
 pub mod entries;
 pub mod readings;
 pub mod splits;
+pub mod units;
 pub mod verdicts;
 
-ghost use Rattle.sheet.specs.Sheet.{SheetWrites, SheetReads, SheetParsesOffset, SheetSplits, SheetChecks, SheetTellsRead};
+ghost use Rattle.sheet.specs.Sheet.{SheetWrites, SheetReads, SheetParsesOffset, SheetSplits, SheetUnits, SheetChecks, SheetTellsRead};
 use crate::answers::give_offset;
 use crate::answers::give_wrote;
 use crate::readings::give_reading;
 use crate::readings::is_marked;
 use crate::splits::give_split;
+use crate::units::give_units;
 use crate::verdicts::give_verdict;
 use meaning::Fields;
 use meaning::Pair;
@@ -144,6 +146,18 @@ pub extern "C" fn sheet_split(pattern: &[u8], answer: &mut [i64], parts: &mut [i
         return 100;
     }
     give_split(pattern, answer, parts)
+}
+
+// The row as in a split. The units: for each of 256 parts -1 where it stands for itself or there is none, 15 for a symbol that
+// carries nothing, else the number of the unit that it carries; untouched where the pattern is refused.
+#[no_mangle]
+pub extern "C" fn sheet_units(pattern: &[u8], answer: &mut [i64], units: &mut [i64]) -> u32
+    ensures { λ r. ⌜ SheetUnits (now (pattern .entry)) (now (answer .entry)) (now (units .entry)) r (now (answer .exit)) (now (units .exit)) ⌝ }
+{
+    if answer.len() < 2 || units.len() < 256 {
+        return 100;
+    }
+    give_units(pattern, answer, units)
 }
 
 // The row: 1 and zeros; or 0, the part and a record for which it fails; or the refusal's details and zeros, 10 numbers in all.

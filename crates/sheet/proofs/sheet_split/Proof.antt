@@ -1,21 +1,22 @@
 -- The answer of the split, where there is room for it in both rows.
-use borrow.Author.Tests.{le-leb, lt-leb, ltb-true, ltb-false}
-use denote.Ref.{now}
-use lib.ListN.{length}
-use mathlib.Core.Logic.{⊎-elim}
-use mathlib.Core.Path.{refl}
-use native.Mathlib.Omega.{arith}
 use borrow.Author.Needs.{needs}
+use borrow.Author.Tests.{ltb-true, ltb-false}
+use denote.Ref.{now}
+use mathlib.Core.Logic.{⊎-elim}
+use native.Mathlib.Omega.{arith}
+use Rattle.meaning.specs.Answers.{splitAnswer}
+use Rattle.meaning.specs.Whole.{split}
+use Rattle.sheet.proofs.Rooms.{rooms, no-room-in-first, no-room-in-second}
+use Rattle.sheet.specs.Rows.{splitNumbers}
 use Rattle.sheet.proofs.sheet_split.Statement.{statement}
 use Rattle.sheet.proofs.sheet_split.Tie as tie
 
 returns : tie.Need-returns
 returns c =
     let a = c .before .before .args in
-    let row = length (now (a .answer)) in
-    let parts = length (now (a .parts)) in
-    ⊎-elim (λ w. rw (lt-leb 2 row (omega arith)) (record { number = refl; row = refl }, refl))
-    (λ w. rw (le-leb 2 row (omega arith), lt-leb 768 parts (omega (arith, ltb-true))) (record { number = refl; row = refl }, refl))
+    let p = now (a .pattern) in
+    ⊎-elim (λ w. no-room-in-first 768 (now (a .answer)) (now (a .parts)) (splitNumbers (split p)) (splitAnswer (split p)) (omega arith))
+    (λ w. no-room-in-second 768 (now (a .answer)) (now (a .parts)) (splitNumbers (split p)) (splitAnswer (split p)) (omega arith) (omega (arith, ltb-true)))
     (c .if1 .came)
 
 give-split-requires : tie.Need-give-split-requires
@@ -30,9 +31,9 @@ same-length-2 c = search needs
 returns-2 : tie.Need-returns-2
 returns-2 c =
     let a = c .before .before .before .before .before .before .before .before .args in
-    let row = length (now (a .answer)) in
-    let parts = length (now (a .parts)) in
-    rw (le-leb 2 row (omega (arith, c .before .before .before .before .before .before .if1 .left)), le-leb 768 parts (omega (arith, ltb-false, c .before .before .before .before .before .if2 .left))) (c .before .before .give-split .ensures)
+    let p = now (a .pattern) in
+    rooms 768 (now (a .answer)) (now (a .parts)) (splitNumbers (split p)) (splitAnswer (split p)) (omega (arith, c .before .before .before .before .before .before .if1 .left))
+    (omega (arith, ltb-false, c .before .before .before .before .before .if2 .left)) (c .before .before .give-split .ensures)
 
 pub sheet-split-spec : {M : Type 1} → statement M
 sheet-split-spec =

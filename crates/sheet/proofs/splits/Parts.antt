@@ -1,12 +1,11 @@
--- The loop that lays the parts of a pattern: what holds at each turn, how it starts, one turn, and the row at its end.
+-- The loop that lays the parts of a pattern: one turn, and the row at its end.
 use mathlib.Core.List.{List, [], _∷_, _++_}
-use mathlib.Core.Path.{_≡_, refl, _∙_}
+use mathlib.Core.Path.{_≡_, refl}
 use Prim.Native.Nat.{ℕ, zero, suc, _+_, _*_, _-_, _≤_}
 use native.Mathlib.Omega.{arith}
 use lib.IntN.{ℤ, pos}
-use lib.ListN.{length, drop, replicate, drop-of-length-le}
-use lib.Seq.{sets, length-sets}
-use Rattle.laws.proofs.Laid.{sets-append}
+use lib.ListN.{length, replicate, drop-of-length-le}
+use lib.Seq.{sets}
 use Rattle.meaning.specs.Answers.{accepted, refused, splitAnswer, bytesCheck}
 use Rattle.meaning.specs.Splitting.{contents, partsFrom, parts, noPart}
 use Rattle.meaning.specs.Whole.{split}
@@ -14,35 +13,21 @@ use Rattle.meaning.specs.declared.Checked.the-variants.{Fine, Refused}
 use Rattle.meaning.specs.declared.Part.{Part}
 use Rattle.meaning.specs.declared.Refusal.{Refusal}
 use Rattle.pattern.specs.Next.{Next}
+use Rattle.sheet.proofs.Laying.{rest, Laying, laying-turn, laying-end, laid-behind}
 use Rattle.sheet.specs.Rows.{laid, splitNumbers, partNumbers}
 
--- the parts from a place on
-abbrev rest : List ℕ → ℕ → List Part
-rest p at = partsFrom at (contents (drop at p))
+-- the numbers of the parts from a place on, and where those of a part start
+abbrev pub numbersFrom : List ℕ → ℕ → List ℤ
+numbersFrom p at = partNumbers (rest p at)
 
-pub record Laying (p : List ℕ) (old row : List ℤ) (used at : ℕ) : Type 0 where
-  pub here : at ≤ length p
-  pub few : used ≤ at
-  pub count : used + length (rest p at) ≡ length (parts p)
-  pub laid : sets row (3 * used) (partNumbers (rest p at)) ≡ sets old 0 (partNumbers (parts p))
-  pub same : length row ≡ length old
+abbrev pub place : ℕ → ℕ
+place used = 3 * used
 
-pub laying-start : (p : List ℕ) (old : List ℤ) → Laying p old old 0 0
-unfolding parts
-laying-start p old = record { here = omega arith; few = omega arith; count = omega arith; laid = refl; same = refl }
-
-pub laying-turn : {p : List ℕ} {old row : List ℤ} {used at : ℕ} {part : Part} → Laying p old row used at → Next p at part
-    → Laying p old (sets row (3 * used) (partNumbers (part ∷ []))) (used + 1) (at + part .length)
+pub parts-turn : {p : List ℕ} {old row : List ℤ} {used at : ℕ} {part : Part} → Laying place (numbersFrom p) p old row used at → Next p at part
+    → Laying place (numbersFrom p) p old (sets row (3 * used) (partNumbers (part ∷ []))) (used + 1) (at + part .length)
 unfolding partNumbers
-laying-turn {p} {old} {row} {used} {at} {part} l n =
-    let e : 3 * (used + 1) ≡ suc (suc (suc (3 * used))) = omega arith in
-    record {
-      here = n .fits;
-      few = omega (arith, l .few, n .some);
-      count = omega (arith, rw (n .parts) at (l .count));
-      laid = rw e (rw (n .parts) at (l .laid));
-      same = length-sets row (3 * used) (partNumbers (part ∷ [])) ∙ l .same;
-    }
+parts-turn {p} {part = part} l n =
+    laying-turn place (numbersFrom p) (partNumbers (part ∷ [])) l n (rw (n .parts)) (omega arith)
 
 numbers-append : (a b : List Part) → partNumbers (a ++ b) ≡ partNumbers a ++ partNumbers b
 unfolding partNumbers
@@ -61,16 +46,14 @@ no-numbers (suc n) =
     let e : 3 * suc n ≡ suc (suc (suc (3 * n))) = omega arith in
     rw (e, no-numbers n)
 
-pub laying-end : {p : List ℕ} {old row : List ℤ} {used at : ℕ} → length p ≤ 256 → length p ≤ at → Laying p old row used at
+pub parts-end : {p : List ℕ} {old row : List ℤ} {used at : ℕ} → length p ≤ 256 → length p ≤ at → Laying place (numbersFrom p) p old row used at
     → (used ≤ 256) × (used ≡ length (parts p)) × (sets row (3 * used) (replicate (768 - 3 * used) (pos 0)) ≡ laid (partNumbers (parts p ++ replicate (256 - used) noPart)) old)
-unfolding contents partsFrom partNumbers
-laying-end {p} {old} {row} {used} {at} h k l =
-    let none = drop-of-length-le p k in
-    let count : used ≡ length (parts p) = omega (arith, rw none at (l .count)) in
-    let all : row ≡ sets old 0 (partNumbers (parts p)) = rw none at (l .laid) in
-    let e : 768 - 3 * used ≡ 3 * (256 - used) = omega (arith, l .few, l .here) in
-    let f : 0 + length (partNumbers (parts p)) ≡ 3 * used = omega (arith, numbers-length (parts p), count) in
-    (omega (arith, l .few, l .here), count, rw (numbers-append (parts p) (replicate (256 - used) noPart), sets-append old 0 (partNumbers (parts p)) (partNumbers (replicate (256 - used) noPart)), f, no-numbers (256 - used), e, ← all))
+unfolding parts contents partsFrom partNumbers
+parts-end {p} {old} {row} {used} {at} h k l =
+    let end = laying-end place (numbersFrom p) h k (rw (drop-of-length-le p k)) l in
+    let e : 768 - 3 * used ≡ 3 * (256 - used) = omega (arith, end .0) in
+    let long : length (partNumbers (parts p)) ≡ 3 * used = omega (arith, numbers-length (parts p), end .1) in
+    (end .0, end .1, rw (e, ← no-numbers (256 - used), numbers-append (parts p) (replicate (256 - used) noPart)) (laid-behind old (partNumbers (parts p)) (partNumbers (replicate (256 - used) noPart)) (3 * used) (end .2) long))
 
 -- a pattern that the checks pass, and one that they refuse
 module _ (p : List ℕ) where

@@ -1,5 +1,5 @@
 -- At each turn what lies in the row and what is still to be laid are all the parts.
-use mathlib.Core.Path.{_≡_, ap, _∙_}
+use mathlib.Core.Path.{_≡_, refl, ap, _∙_}
 use Prim.Native.Nat.{_-_}
 use native.Mathlib.Omega.{arith}
 use borrow.Author.Needs.{needs}
@@ -7,18 +7,21 @@ use denote.Ref.{now}
 use lib.ListN.{length}
 use Rattle.meaning.specs.declared.Part.{Part}
 use Rattle.pattern.proofs.parts.Next.{next}
-use Rattle.sheet.proofs.splits.Parts.{Laying, laying-start, laying-turn, laying-end}
+use Rattle.sheet.proofs.Laying.{Laying, laying-start}
+use Rattle.sheet.proofs.splits.Parts.{numbersFrom, place, parts-turn, parts-end}
 use Rattle.sheet.proofs.splits.lay_parts.Statement.{statement}
 use Rattle.sheet.proofs.splits.lay_parts.Tie as tie
 
 abbrev Inv-loop : tie.InvT-loop
-Inv-loop pattern row₀ used₀ at₀ row used at = Laying pattern row₀ row used at
+Inv-loop pattern row₀ used₀ at₀ row used at = Laying place (numbersFrom pattern) pattern row₀ row used at
 
 abbrev μ-loop : tie.MeasureT-loop
 μ-loop pattern row₀ used₀ at₀ row used at = length pattern - at
 
 loop-holds : tie.Need-loop-holds Inv-loop μ-loop
-loop-holds c = laying-start (now (c .before .args .pattern)) (now (c .before .args .row))
+loop-holds c =
+    let p = now (c .before .args .pattern) in
+    laying-start place (numbersFrom p) p (now (c .before .args .row)) refl
 
 next-part-requires : tie.Need-next-part-requires Inv-loop μ-loop
 next-part-requires c κs = search needs
@@ -56,7 +59,7 @@ loop-again c =
     let l = c .before .before .before .before .before in
     let found = c .before .before .before .before .next-part in
     let n = next (now (l .before .before .before .args .pattern)) (l .before .loop .at) (found .result) (omega arith) (found .ensures) in
-    rw (c .before .before .lay-part .ensures) (laying-turn (l .before .loop .inv) n)
+    rw (c .before .before .lay-part .ensures) (parts-turn (l .before .loop .inv) n)
 
 mul-lay-zeros : tie.Need-mul-lay-zeros Inv-loop μ-loop
 mul-lay-zeros c = search needs
@@ -76,7 +79,7 @@ same-length c = omega (arith, c .before .lay-zeros .kept .1 .0)
 returns : tie.Need-returns Inv-loop μ-loop
 returns c =
     let l = c .before .before .before .before in
-    let end = laying-end (omega arith) (c .before .before .before .loop-test .left) (l .loop .inv) in
+    let end = parts-end (omega arith) (c .before .before .before .loop-test .left) (l .loop .inv) in
     (end .0, end .1, c .before .lay-zeros .ensures ∙ end .2)
 
 pub lay-parts-spec : {M : Type 1} → statement M
