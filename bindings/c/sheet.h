@@ -146,7 +146,8 @@ uint32_t sheet_split(const uint8_t *pattern, size_t pattern_len, int64_t *answer
 
 /* Says of each part of a pattern whether it is a symbol, and which unit it carries, as an editor needs it that colours patterns.
  * Answers: how many parts, and 0. In `units`, for each part in order, the unit that it carries, SHEET_CARRIES_NOTHING for a symbol
- * that carries none, or SHEET_LITERAL; behind the last part SHEET_LITERAL, up to 256 entries.
+ * that carries none, or SHEET_LITERAL; behind the last part SHEET_LITERAL, up to 256 entries. With time symbols; to the functions
+ * without them a part that carries SHEET_HOUR or a later unit is a literal.
  * Refuses: 1, 2. */
 uint32_t sheet_units(const uint8_t *pattern, size_t pattern_len, int64_t *answer, size_t answer_len, int64_t *units,
                      size_t units_len);
