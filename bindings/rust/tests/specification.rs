@@ -1,0 +1,363 @@
+//! The samples in the tables of docs/SPECIFICATION.md, each put to the library.
+
+use sheet::{Fields, ParseUnit, Reading, Refusal, Verdict};
+
+const SPECIFICATION: &str = include_str!("../../../docs/SPECIFICATION.md");
+
+/// The specification's R.
+const R: Fields = Fields {
+    year: 2025,
+    month: 12,
+    day: 3,
+    day_of_year: 337,
+    week: 49,
+    weekday: 3,
+    nanoseconds: 25_509_000_120_000,
+    offset: 19_800,
+};
+
+/// In words, in the order of the units.
+const UNITS: [&str; ParseUnit::ALL.len()] = [
+    "year",
+    "month",
+    "day",
+    "day of year",
+    "hour",
+    "period",
+    "hour of the period",
+    "minute",
+    "second",
+    "decis",
+    "centis",
+    "millis",
+    "micros",
+    "nanos",
+    "offset",
+];
+
+/// A table: the heading that it stands under, the names of its columns, its rows.
+struct Table<'a> {
+    heading: &'a str,
+    columns: Vec<&'a str>,
+    rows: Vec<Vec<&'a str>>,
+}
+
+fn cells(line: &str) -> Vec<&str> {
+    line.trim_matches('|').split('|').map(str::trim).collect()
+}
+
+fn tables(document: &str) -> Vec<Table<'_>> {
+    let (mut found, mut heading, mut before): (Vec<Table>, _, _) = (Vec::new(), "", "");
+    for line in document.lines() {
+        if line.starts_with("|---") {
+            let (columns, rows) = (cells(before), Vec::new());
+            found.push(Table { heading, columns, rows });
+        } else if line.starts_with('|') && before.starts_with('|') {
+            found
+                .last_mut()
+                .expect("a row stands behind its columns")
+                .rows
+                .push(cells(line));
+        } else if line.starts_with('#') {
+            heading = line.trim_start_matches('#');
+        }
+        before = line;
+    }
+    found
+}
+
+/// What stands between the first two backticks, so many times as is said; nothing where that is said.
+fn quoted(cell: &str) -> String {
+    let text = cell.split('`').nth(1).unwrap_or_else(|| {
+        assert_eq!(cell, "(empty)");
+        ""
+    });
+    let times = cell.split(" times ").next().and_then(|times| times.parse().ok());
+    text.repeat(times.unwrap_or(1))
+}
+
+fn number(cell: &str) -> i32 {
+    cell.replace(',', "").parse().expect("a number")
+}
+
+/// Of `1, 2, 3` these counts; of `6 up` some from 6 on.
+fn counts(cell: &str) -> Vec<usize> {
+    let count = |word: &str| word.parse().expect("a count");
+    cell.split(", ")
+        .flat_map(|word| match word.strip_suffix(" up") {
+            Some(first) => vec![count(first), count(first) + 1, 31],
+            None => vec![count(word)],
+        })
+        .collect()
+}
+
+/// The symbols that a heading names: its words of one letter.
+fn symbols(heading: &str) -> Vec<&str> {
+    let words = heading.split(|letter: char| !letter.is_alphabetic());
+    words.filter(|word| word.len() == 1).collect()
+}
+
+/// The counts that a sample is for, and the sample without their mention.
+fn at_count<'a>(cell: &'a str, row: &str) -> (Vec<usize>, &'a str) {
+    match cell.strip_prefix("at ").and_then(|rest| rest.split_once(' ')) {
+        Some((count, sample)) => (counts(count), sample),
+        None => (counts(row), cell),
+    }
+}
+
+fn refused(refusal: Refusal) -> String {
+    let details = refusal.details().iter().map(|detail| format!(" {detail}"));
+    format!("refused {}{}", refusal.number(), details.collect::<String>())
+}
+
+fn written(pattern: &str, fields: &Fields) -> String {
+    sheet::write(pattern, fields).map_or_else(refused, |text| match pattern.len() {
+        256 => format!("256 times `{}`", &text[..1]),
+        _ => format!("`{text}`"),
+    })
+}
+
+fn left(text: &str, reading: &Reading) -> String {
+    match &text[reading.taken..] {
+        "" => String::new(),
+        rest => format!(", `{rest}` is left"),
+    }
+}
+
+/// The values that were read, in the order of the units.
+fn values(reading: &Reading) -> impl Iterator<Item = (&'static str, i64)> + '_ {
+    let named = UNITS.iter().zip(ParseUnit::ALL);
+    named.filter_map(|(name, unit)| Some((*name, reading.value(unit)?)))
+}
+
+/// The value alone.
+fn value_read(pattern: &str, text: &str, year: i32) -> String {
+    sheet::read(pattern, text, year).map_or_else(refused, |reading| {
+        let value = values(&reading)
+            .next()
+            .map_or("nothing".to_string(), |(_, value)| value.to_string());
+        format!("{value}{}", left(text, &reading))
+    })
+}
+
+/// The value with its unit.
+fn unit_read(pattern: &str, text: &str) -> String {
+    sheet::read(pattern, text, 2025).map_or_else(refused, |reading| {
+        let value: Vec<_> = values(&reading)
+            .map(|(name, value)| format!("{name} {value}"))
+            .collect();
+        format!("{}{}", value.join(", "), left(text, &reading))
+    })
+}
+
+/// The bytes read, the mask, the number of units; and the values in the order of the sample's.
+fn all_read(pattern: &str, text: &str, year: i32, sample: &str) -> String {
+    let counted = |number: usize, word: &str| format!("{number} {word}{}", if number == 1 { "" } else { "s" });
+    sheet::read(pattern, text, year).map_or_else(refused, |reading| {
+        let mut read: Vec<_> = values(&reading)
+            .map(|(name, value)| format!("{name} {value}"))
+            .collect();
+        read.sort_by_key(|value| sample.split([':', ',']).position(|word| word.trim() == value));
+        format!(
+            "{}, mask {}, {}{}{}",
+            counted(reading.taken, "byte"),
+            reading.mask,
+            counted(reading.units as usize, "unit"),
+            if read.is_empty() { "" } else { ": " },
+            read.join(", ")
+        )
+    })
+}
+
+fn checked(pattern: &str) -> String {
+    match sheet::check(pattern, 2025) {
+        Ok(Verdict::Yes) => "yes".to_string(),
+        Ok(Verdict::No { part, .. }) => format!("no {part}"),
+        Err(refusal) => format!("refused {}", refusal.number()),
+    }
+}
+
+fn split(pattern: &str) -> String {
+    let parts = sheet::split(pattern).expect("it is allowed");
+    let shown = parts
+        .iter()
+        .map(|part| format!("{:?}:{}:{}", part.kind, part.start, part.length).to_lowercase());
+    shown.collect::<Vec<_>>().join(" ")
+}
+
+/// A sample and what the library answers in its place.
+type Sample = (String, String);
+
+/// A symbol's counts: what R is written as, and a read.
+fn of_counts(table: &Table, row: &[&str]) -> Vec<Sample> {
+    let [.., count, _, _, _, on_r, a_read] = row else {
+        panic!("{row:?}")
+    };
+    let symbols = if row.len() == 7 {
+        vec![row[0]]
+    } else {
+        symbols(table.heading)
+    };
+    let (writes_at, writes) = at_count(on_r, count);
+    let (reads_at, reads) = at_count(a_read, count);
+    let text = quoted(reads);
+    symbols
+        .iter()
+        .flat_map(|symbol| {
+            let of_writing = writes_at
+                .iter()
+                .map(|count| (writes.to_string(), written(&symbol.repeat(*count), &R)));
+            let of_reading = reads_at.iter().map(|count| {
+                let value = value_read(&symbol.repeat(*count), &text, 2025);
+                (reads.to_string(), format!("`{text}`: {value}"))
+            });
+            of_writing.chain(of_reading).collect::<Vec<_>>()
+        })
+        .collect()
+}
+
+/// Offsets by count: each column is an offset, by one of the symbols or by both.
+fn of_offsets(table: &Table, row: &[&str]) -> Vec<Sample> {
+    let columns = table.columns.iter().zip(row).skip(1);
+    columns
+        .flat_map(|(column, sample)| {
+            let (offset, by) = column.split_once(" by ").unwrap_or((column, "X x"));
+            let fields = Fields {
+                offset: number(offset),
+                ..R
+            };
+            let patterns = by
+                .split(' ')
+                .flat_map(|symbol| counts(row[0]).into_iter().map(|count| symbol.repeat(count)));
+            patterns
+                .map(|pattern| (sample.to_string(), written(&pattern, &fields)))
+                .collect::<Vec<_>>()
+        })
+        .collect()
+}
+
+/// `yy` by columns: a year that is written, or a text that is read, in the current year of the row above.
+fn of_two_digits(table: &Table, row: &[&str]) -> Vec<Sample> {
+    let answer = |i: usize| match row[0] {
+        "`yy` writes" => Some(written(
+            "yy",
+            &Fields {
+                year: number(table.columns[i]),
+                ..R
+            },
+        )),
+        "`yy` reads" => Some(value_read("yy", &quoted(table.columns[i]), number(table.rows[0][i]))),
+        _ => None,
+    };
+    (1..row.len())
+        .filter_map(|i| Some((row[i].to_string(), answer(i)?)))
+        .collect()
+}
+
+/// One of "Sheet samples", by what is asked and what is given.
+fn of_sheet(row: &[&str]) -> Sample {
+    let [_, what, pattern, given, answer] = row else {
+        panic!("{row:?}")
+    };
+    let pattern = quoted(pattern);
+    let got = match (*what, given.rsplit_once(' ')) {
+        ("check", _) => checked(&pattern),
+        ("read", Some((text, year))) => all_read(&pattern, &quoted(text), number(year), answer),
+        ("read", None) => all_read(&pattern, &quoted(given), 2025, answer),
+        (_, Some(("year", year))) => written(
+            &pattern,
+            &Fields {
+                year: number(year),
+                ..R
+            },
+        ),
+        (_, Some((_, offset))) => written(
+            &pattern,
+            &Fields {
+                offset: number(offset),
+                ..R
+            },
+        ),
+        (_, None) => written(&pattern, &R),
+    };
+    (answer.to_string(), got)
+}
+
+/// The samples of a row, by the columns of its table: none where the table has no samples.
+fn samples(table: &Table, row: &[&str]) -> Vec<Sample> {
+    let sample = |i: usize, answer: String| (row[i].to_string(), answer);
+    match (&table.columns[..], table.heading) {
+        ([.., "On R", "A read"], _) => of_counts(table, row),
+        (["Symbol", "What", "Pair", ..], _) => (1..=5)
+            .map(|count| sample(2 + count, written(&row[0].repeat(count), &R)))
+            .collect(),
+        (["Count", "0 by X", ..], _) => of_offsets(table, row),
+        (["Pattern", "Parts, as kind:start:length", _], _) => {
+            let pattern = quoted(row[0]);
+            vec![sample(1, split(&pattern)), sample(2, written(&pattern, &R))]
+        }
+        (["Pattern", "Text", "Answer"], " Zones") => vec![sample(2, unit_read(&quoted(row[0]), &quoted(row[1])))],
+        (["Pattern", "Text", "Answer"], _) => {
+            vec![sample(2, all_read(&quoted(row[0]), &quoted(row[1]), 2025, row[2]))]
+        }
+        (["Text", "Answer"], _) => {
+            let answer = sheet::parse_offset(quoted(row[0])).map_or_else(refused, |offset| offset.to_string());
+            vec![sample(1, answer)]
+        }
+        (["Pattern", "Answer", "Why"], _) => vec![sample(1, checked(&quoted(row[0])))],
+        (["Pattern", "Check", "Writes", _], _) => {
+            let pattern = quoted(row[0]);
+            vec![sample(1, checked(&pattern)), sample(2, written(&pattern, &R))]
+        }
+        (["P", "What", ..], _) => vec![of_sheet(row)],
+        (["Year" | "Text", ..], " y, year") => of_two_digits(table, row),
+        _ => vec![],
+    }
+}
+
+/// How many samples a document has, and those that the library answers otherwise.
+fn held(document: &str) -> (usize, Vec<Sample>) {
+    let tables = tables(document);
+    let rows = tables
+        .iter()
+        .flat_map(|table| table.rows.iter().map(move |row| (table, row)));
+    let all: Vec<_> = rows.flat_map(|(table, row)| samples(table, row)).collect();
+    (
+        all.len(),
+        all.into_iter().filter(|(sample, answer)| sample != answer).collect(),
+    )
+}
+
+#[test]
+fn its_samples_hold() {
+    let (tried, differing) = held(SPECIFICATION);
+    assert_eq!(differing, []);
+    assert!(tried > 500, "only {tried} were tried");
+}
+
+/// Each kind of sample, made wrong, is reported.
+#[test]
+fn a_wrong_sample_is_reported() {
+    for (right, wrong) in [
+        ("| `3/12`: 3, `/12` is left |", "| `3/12`: 3 |"),
+        ("| at 5 `02025` |", "| at 5 `2025` |"),
+        ("| `00` | `-05` |", "| `100` | `-05` |"),
+        ("| 2099 | 2005 |", "| 1999 | 2005 |"),
+        ("| K | hour 0 to 11 | full | `7` |", "| K | hour 0 to 11 | full | `8` |"),
+        ("| `-000030` | `-0530` |", "| `+000030` | `-0530` |"),
+        ("run:0:1 open:1:1", "run:0:1 open:1:2"),
+        ("| `X` | `+053` | refused 8 0 3 |", "| `X` | `+053` | refused 8 0 1 |"),
+        ("5 bytes, mask 4, 1 unit: day 4", "5 bytes, mask 4, 1 unit: day 3"),
+        ("| `+24:60` | refused 13 1 |", "| `+24:60` | refused 13 2 |"),
+        ("| `dX` | yes |", "| `dX` | no 0 |"),
+        ("| yes | `EEE 3 Dec` |", "| yes | `EEE 3 dec` |"),
+        (
+            "| `xxxx` | offset 86400 | refused 4 8 |",
+            "| `xxxx` | offset 86400 | refused 4 7 |",
+        ),
+    ] {
+        assert_eq!(SPECIFICATION.matches(right).count(), 1, "{right}");
+        let (_, differing) = held(&SPECIFICATION.replace(right, wrong));
+        assert!(!differing.is_empty(), "{wrong}");
+    }
+}
