@@ -11,12 +11,15 @@ use crate::cursor::Cursor;
 use crate::cursor::PartRead;
 use crate::named::parse_name;
 use crate::rule::parse_rule;
+use crate::short::Digits;
+use crate::short::NONE;
 use crate::short::parse_short;
 use crate::steps::pass;
 use crate::years::parse_fixed_year;
 use crate::years::parse_years;
 use meaning::Carried;
 use meaning::NameList;
+use meaning::ParseUnit;
 use meaning::Role;
 use pattern::quoted::unescaped_length;
 use rules::short::short_rule;
@@ -84,6 +87,25 @@ fn moved_on(read: PartRead) -> PartRead
     }
 }
 
+// The digits of a short number, if the step is one and they are there.
+fn quick_digits(step: Step, text: &[u8], at: usize) -> Digits
+    ensures { λ r. ⌜ r ≡ quickDigits step (drop at (now (text .entry))) ⌝ }
+{
+    if let Step::Short { number, count } = step {
+        return parse_short(number, count, text, at);
+    }
+    NONE
+}
+
+fn quick_unit(step: Step) -> ParseUnit
+    ensures { λ r. ⌜ r ≡ quickUnit step ⌝ }
+{
+    if let Step::Short { number, count: _ } = step {
+        return short_unit(number);
+    }
+    ParseUnit::DayOfMonth
+}
+
 // What patterns have most is read at once: a byte that stands for itself, and short numbers where their digits are there.
 pub fn parse_step(
     step: Step,
@@ -99,17 +121,15 @@ pub fn parse_step(
     if let Step::Times { byte: _, count } = step {
         return pass(count, text, cursor);
     }
-    if let Step::Short { number, count } = step {
-        let read = parse_short(number, count, text, cursor.at);
-        if read.size < 100 {
-            let unit = short_unit(number);
-            return PartRead::Got {
-                carried: Carried::Value(unit, read.size as i64),
-                next: Cursor {
-                    at: cursor.at + read.taken,
-                },
-            };
-        }
+    let read = quick_digits(step, text, cursor.at);
+    if read.size < 100 {
+        let unit = quick_unit(step);
+        return PartRead::Got {
+            carried: Carried::Value(unit, read.size as i64),
+            next: Cursor {
+                at: cursor.at + read.taken,
+            },
+        };
     }
     moved_on(parse_other(step, pattern, current_year, text, cursor))
 }
