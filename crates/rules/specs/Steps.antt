@@ -1,5 +1,5 @@
--- The steps of the code, each with everything decided: what the table has for it, which step of the definitions it stands for,
--- and what it has to do with the pattern that it was chosen from.
+-- The steps of the code, each with everything decided: which step of the definitions it stands for, and what it has to do with the
+-- pattern that it was chosen from.
 use mathlib.Core.Bool.{true, false}
 use mathlib.Core.List.{List}
 use mathlib.Core.Path.{_≡_}
@@ -12,8 +12,6 @@ use Rattle.meaning.specs.Writing as meaning
 use Rattle.meaning.specs.declared.NameList.the-variants as names
 use Rattle.meaning.specs.declared.Pair.{Pair}
 use Rattle.meaning.specs.declared.Part.{Part}
-use Rattle.meaning.specs.declared.Role.{Role}
-use Rattle.meaning.specs.declared.Role.the-variants.{Literal, Symbol}
 use Rattle.meaning.specs.declared.Rule.{Rule}
 use Rattle.meaning.specs.declared.Rule.the-variants.{Years, FixedYear, MatchedName}
 use Rattle.pattern.specs.First.{unescaped, contentOf}
@@ -25,18 +23,6 @@ use Rattle.rules.specs.declared.step.Step.the-variants.{Times, Quoted, O
 -- y, more than twice
 abbrev pub longYear : ℕ → Rule
 longYear c = when (leb c 4) (Years c) (FixedYear c)
-
--- what the table has for a step
-abbrev pub stepRole : Step → Role
-stepRole (Times b n) = Literal
-stepRole (Quoted from to) = Literal
-stepRole (Open from) = Literal
-stepRole (Short number c) = Symbol (shortRule number c)
-stepRole (Year c) = Symbol (longYear c)
-stepRole MonthAbbreviated = Symbol (MatchedName names.MonthAbbreviated)
-stepRole MonthWide = Symbol (MatchedName names.MonthWide)
-stepRole WdayWide = Symbol (MatchedName names.WdayWide)
-stepRole (Run role b n) = role
 
 -- the step of the definitions that it stands for
 abbrev pub means : List ℕ → Step → meaning.Step

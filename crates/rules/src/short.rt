@@ -61,7 +61,8 @@ pub fn is_short(short: Short) -> bool
     }
 }
 
-fn short_quantity(short: Short) -> Quantity
+// What it is of.
+pub fn short_quantity(short: Short) -> Quantity
     ensures { λ r. ⌜ r ≡ shortQuantity short ⌝ }
 {
     match short {

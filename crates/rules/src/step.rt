@@ -1,22 +1,19 @@
 // A step: what a part does, with everything about it decided. What patterns have most has kinds of its own, which are chosen
-// without a look at the table; each is a row of `step_role`.
+// without a look at the table.
 ghost use mathlib.Core.Path.{_≡_};
 ghost use Prim.Native.Nat.{_<_};
 ghost use Rattle.meaning.specs.Rules.{roleOf};
 ghost use Rattle.pattern.specs.First.{contentOf};
 ghost use Rattle.pattern.specs.Next.{Next};
-ghost use Rattle.rules.specs.Steps.{longYear, stepRole, RunChosen, Chosen};
+ghost use Rattle.rules.specs.Steps.{RunChosen, Chosen};
 use crate::role_of;
 use crate::short::Short;
 use crate::short::is_short;
 use crate::short::short_of;
-use crate::short::short_rule;
 use meaning::Kind;
-use meaning::NameList;
 use meaning::Pair;
 use meaning::Part;
 use meaning::Role;
-use meaning::Rule;
 
 pub enum Step {
     // A byte that stands for itself, so many times.
@@ -35,37 +32,6 @@ pub enum Step {
     WdayWide,
     // Any other run, with what the table has for it.
     Run { role: Role, byte: u8, count: usize },
-}
-
-// y, more than twice.
-fn long_year(count: usize) -> Rule
-    ensures { λ r. ⌜ r ≡ longYear count ⌝ }
-{
-    if count <= 4 {
-        return Rule::Years(count);
-    }
-    Rule::FixedYear(count)
-}
-
-// What the table has for a step.
-pub fn step_role(step: Step) -> Role
-    ensures { λ r. ⌜ r ≡ stepRole step ⌝ }
-{
-    match step {
-        Step::Times { byte: _, count: _ } => Role::Literal,
-        Step::Quoted { from: _, to: _ } => Role::Literal,
-        Step::Open { from: _ } => Role::Literal,
-        Step::Short { number, count } => Role::Symbol(short_rule(number, count)),
-        Step::Year(count) => Role::Symbol(long_year(count)),
-        Step::MonthAbbreviated => Role::Symbol(Rule::MatchedName(NameList::MonthAbbreviated)),
-        Step::MonthWide => Role::Symbol(Rule::MatchedName(NameList::MonthWide)),
-        Step::WdayWide => Role::Symbol(Rule::MatchedName(NameList::WdayWide)),
-        Step::Run {
-            role,
-            byte: _,
-            count: _,
-        } => role,
-    }
 }
 
 // The step of so many equal bytes.

@@ -1,12 +1,10 @@
 // What the parts behind a part can give: a digit as the first byte, or as the second.
 ghost use mathlib.Core.Path.{_≡_};
-ghost use Prim.Native.Nat.{_≤_};
-ghost use lib.ListN.{length, drop};
+ghost use lib.ListN.{drop, replicate};
 ghost use Rattle.meaning.specs.Bytes.{digitAt};
-ghost use Rattle.meaning.specs.Rules.{roleOf};
-ghost use Rattle.meaning.specs.Writing.{runStep, stepOf, steps};
-ghost use Rattle.pattern.specs.First.{unescaped, contentOf};
-ghost use Rattle.pattern.specs.Next.{Next};
+ghost use Rattle.meaning.specs.Writing.{steps};
+ghost use Rattle.pattern.specs.First.{unescaped};
+ghost use Rattle.rules.specs.Steps.{means, Held};
 ghost use Rattle.trust.specs.Ahead as ahead;
 ghost use Rattle.verdict.specs.Insides.{insideSecond};
 use crate::needs::most_digits;
@@ -20,7 +18,6 @@ use pattern::parts::next_part;
 use pattern::quoted::bytes_of;
 use rules::step::Step;
 use rules::step::step_of;
-use rules::step::step_role;
 use trust::Opening;
 
 // How the names of a list begin: only the quarters' with a digit; some are one byte.
@@ -169,55 +166,40 @@ fn inside_second(src: &[u8], behind: bool) -> bool
     is_digit(src[i])
 }
 
-// Steps that the table has no rule for.
-fn literal_first(step: Step, pattern: &[u8]) -> bool
-    requires { ⌜ Held (now pattern) step × (stepRole step ≡ Role.Literal) ⌝ }
-    ensures { λ r. ⌜ r ≡ ahead.stepFirst (means (now (pattern .entry)) step) ⌝ }
+fn times_second(b: u8, count: usize, behind: bool) -> bool
+    ensures { λ r. ⌜ r ≡ insideSecond (replicate count b) behind ⌝ }
 {
-    match step {
-        Step::Times { byte, count: _ } => is_digit(byte),
-        Step::Quoted { from, to } => inside_first(&pattern[from..to]),
-        Step::Open { from } => inside_first(&pattern[from..]),
-        Step::Run {
-            role: _,
-            byte,
-            count: _,
-        } => is_digit(byte),
-        _ => false,
-    }
-}
-
-fn literal_second(step: Step, pattern: &[u8], behind: bool) -> bool
-    requires { ⌜ Held (now pattern) step × (stepRole step ≡ Role.Literal) ⌝ }
-    ensures { λ r. ⌜ r ≡ ahead.stepSecond (means (now (pattern .entry)) step) behind ⌝ }
-{
-    match step {
-        Step::Times { byte, count } => times_second(byte, count, behind),
-        Step::Quoted { from, to } => inside_second(&pattern[from..to], behind),
-        Step::Open { from } => inside_second(&pattern[from..], behind),
-        Step::Run {
-            role: _,
-            byte,
-            count,
-        } => times_second(byte, count, behind),
-        _ => false,
-    }
-}
-
-fn times_second(b: u8, count: usize, behind: bool) -> bool {
     if count < 2 {
         return behind;
     }
     is_digit(b)
 }
 
+// Short numbers and years begin with two digits, for some record at least; names with two letters.
 fn step_first(step: Step, pattern: &[u8]) -> bool
     requires { ⌜ Held (now pattern) step ⌝ }
     ensures { λ r. ⌜ r ≡ ahead.stepFirst (means (now (pattern .entry)) step) ⌝ }
 {
-    match step_role(step) {
-        Role::Literal => literal_first(step, pattern),
-        Role::Symbol(rule) => rule_first(rule),
+    match step {
+        Step::Times { byte, count: _ } => is_digit(byte),
+        Step::Quoted { from, to } => inside_first(&pattern[from..to]),
+        Step::Open { from } => inside_first(&pattern[from..]),
+        Step::Short {
+            number: _,
+            count: _,
+        } => true,
+        Step::Year(_) => true,
+        Step::MonthAbbreviated => false,
+        Step::MonthWide => false,
+        Step::WdayWide => false,
+        Step::Run {
+            role,
+            byte,
+            count: _,
+        } => match role {
+            Role::Literal => is_digit(byte),
+            Role::Symbol(rule) => rule_first(rule),
+        },
     }
 }
 
@@ -225,9 +207,22 @@ fn step_second(step: Step, pattern: &[u8], behind: bool) -> bool
     requires { ⌜ Held (now pattern) step ⌝ }
     ensures { λ r. ⌜ r ≡ ahead.stepSecond (means (now (pattern .entry)) step) behind ⌝ }
 {
-    match step_role(step) {
-        Role::Literal => literal_second(step, pattern, behind),
-        Role::Symbol(rule) => rule_second(rule, behind),
+    match step {
+        Step::Times { byte, count } => times_second(byte, count, behind),
+        Step::Quoted { from, to } => inside_second(&pattern[from..to], behind),
+        Step::Open { from } => inside_second(&pattern[from..], behind),
+        Step::Short {
+            number: _,
+            count: _,
+        } => true,
+        Step::Year(_) => true,
+        Step::MonthAbbreviated => false,
+        Step::MonthWide => false,
+        Step::WdayWide => false,
+        Step::Run { role, byte, count } => match role {
+            Role::Literal => times_second(byte, count, behind),
+            Role::Symbol(rule) => rule_second(rule, behind),
+        },
     }
 }
 

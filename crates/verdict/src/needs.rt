@@ -2,15 +2,16 @@
 ghost use mathlib.Core.Path.{_≡_};
 ghost use Rattle.laws.specs.Widths.{mostDigits};
 ghost use Rattle.meaning.specs.Bytes.{when};
-ghost use Rattle.rules.specs.Steps.{means, Held};
+ghost use Rattle.rules.specs.Steps.{longYear, means, Held};
 ghost use Rattle.trust.specs.Needs as needs;
 use meaning::Group;
 use meaning::Quantity;
 use meaning::Role;
 use meaning::Rule;
 use pattern::quoted::ends_in_quote;
+use rules::short::short_most;
+use rules::short::short_quantity;
 use rules::step::Step;
-use rules::step::step_role;
 use trust::Need;
 
 // The most digits that a quantity has.
@@ -120,6 +121,16 @@ fn rule_need(rule: Rule) -> Need
     }
 }
 
+// y, more than twice.
+fn year_need(count: usize) -> Need
+    ensures { λ r. ⌜ r ≡ needs.ruleNeed (longYear count) ⌝ }
+{
+    if count <= 4 {
+        return Need::NoDigit;
+    }
+    fixed_year_need(count)
+}
+
 // A part that loses a byte when it is written does not come back: a read skips that byte too.
 fn loss_need(lost: bool) -> Need
     ensures { λ r. ⌜ r ≡ when lost Need.Broken Need.Nothing ⌝ }
@@ -131,11 +142,24 @@ pub fn step_need(step: Step, pattern: &[u8]) -> Need
     requires { ⌜ Held (now pattern) step ⌝ }
     ensures { λ r. ⌜ r ≡ needs.stepNeed (means (now (pattern .entry)) step) ⌝ }
 {
-    if let Step::Open { from } = step {
-        return loss_need(ends_in_quote(&pattern[from..]));
-    }
-    match step_role(step) {
-        Role::Literal => Need::Nothing,
-        Role::Symbol(rule) => rule_need(rule),
+    match step {
+        Step::Times { byte: _, count: _ } => Need::Nothing,
+        Step::Quoted { from: _, to: _ } => Need::Nothing,
+        Step::Open { from } => loss_need(ends_in_quote(&pattern[from..])),
+        Step::Short { number, count } => {
+            number_need(short_quantity(number), count, short_most(number, count))
+        }
+        Step::Year(count) => year_need(count),
+        Step::MonthAbbreviated => Need::Nothing,
+        Step::MonthWide => Need::Nothing,
+        Step::WdayWide => Need::Nothing,
+        Step::Run {
+            role,
+            byte: _,
+            count: _,
+        } => match role {
+            Role::Literal => Need::Nothing,
+            Role::Symbol(rule) => rule_need(rule),
+        },
     }
 }
