@@ -1,4 +1,4 @@
-// Column Reads: everything that a part reads, from the cursor to the part.
+// Column Reads: everything that a part reads, from the cursor to the step.
 pub mod cursor;
 pub mod named;
 pub mod rule;

@@ -4,6 +4,7 @@ ghost use Prim.Native.Nat.{_≤_};
 ghost use lib.ListN.{length, drop};
 ghost use Rattle.meaning.specs.Names.{english};
 ghost use Rattle.meaning.specs.Reading.{readStep};
+ghost use Rattle.parse.specs.ShortReads.{quickDigits, quickUnit};
 ghost use Rattle.parse.specs.Steps.{partAt};
 ghost use Rattle.parse.specs.Years.{longYearRead};
 ghost use Rattle.rules.specs.Steps.{means, Held};

@@ -1,7 +1,7 @@
 -- Each variant is itself.
 use borrow.Author.Needs.{needs}
-use Rattle.parse.proofs.run.moved_on.Statement.{statement}
-use Rattle.parse.proofs.run.moved_on.Tie as tie
+use Rattle.parse.proofs.step.moved_on.Statement.{statement}
+use Rattle.parse.proofs.step.moved_on.Tie as tie
 
 enum-known-read : tie.Need-enum-known-read
 enum-known-read c = search needs
