@@ -1,4 +1,4 @@
-// Column Writes: everything that a part writes, from its leaves to the part.
+// Column Writes: everything that a step writes, from its leaves to the step.
 pub mod literals;
 pub mod rule;
 pub mod step;

@@ -24,6 +24,7 @@ const QUARTER: Rule = Rule::SkippedNumber {
     most: 1,
 };
 
+// It calls itself for the quarter behind its letter, which keeps it a call of its own where steps are written.
 pub fn format_rule(rule: Rule, f: Fields, out: &mut [u8], at: usize) -> usize
     requires { ⌜ fieldsCheck f ≡ Fine ⌝ }
     requires { ⌜ at + length (ruleText english rule f) ≤ length (now out) ⌝ }

@@ -7,7 +7,7 @@ ghost use Rattle.meaning.specs.Answers.{fieldsCheck};
 ghost use Rattle.meaning.specs.Names.{english};
 ghost use Rattle.meaning.specs.Writing.{runStep, stepText, quantityOf};
 ghost use Rattle.meaning.specs.declared.Checked.the-variants.{Fine};
-ghost use Rattle.rules.specs.ShortRules.{isShort, shortQuantity};
+ghost use Rattle.rules.specs.ShortRules.{shortQuantity};
 ghost use Rattle.rules.specs.Steps.{means, Held};
 use crate::literals::put_open;
 use crate::literals::put_unescaped;

@@ -3,8 +3,8 @@ use borrow.Author.Needs.{needs}
 use native.Mathlib.Omega.{arith}
 use Rattle.laws.proofs.Fields.{allowed}
 use Rattle.meaning.specs.Writing.{quantityOf}
-use Rattle.format.proofs.run.short_number.Statement.{statement}
-use Rattle.format.proofs.run.short_number.Tie as tie
+use Rattle.format.proofs.step.short_number.Statement.{statement}
+use Rattle.format.proofs.step.short_number.Tie as tie
 
 enum-told : tie.Need-enum-told
 enum-told c = search needs
@@ -54,7 +54,8 @@ unfolding quantityOf
 returns-5 c = rw (c .before .enum-told5 .given .1, c .second-of-day3 .ensures)
 
 returns-6 : tie.Need-returns-6
-returns-6 c = search needs
+unfolding quantityOf
+returns-6 c = rw (c .enum-told6 .given .1)
 
 pub short-number-spec : {M : Type 1} → statement M
 short-number-spec =
