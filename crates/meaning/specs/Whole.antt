@@ -184,11 +184,15 @@ seconds ahead hour minute =
     offsetBy (refuseUnless (leb hour 23) (OffsetRange 1) else refuseUnless (leb minute 59) (OffsetRange 2))
     (offset.Seconds (when ahead (pos (hour * secondsPerHour + minute * secondsPerMinute)) (negℤ (pos (hour * secondsPerHour + minute * secondsPerMinute)))))
 
--- the hour's two bytes stand at 1, the minute's at 4
+-- the hour stands at 1, the minute at 4
 abbrev pub hourAndMinute : Bool → Got Signed → Got Signed → Offset
 hourAndMinute ahead (stopped why i) minute = offset.Refused (InPart why 0 (1 + i))
 hourAndMinute ahead (got n hour) (stopped why i) = offset.Refused (InPart why 0 (4 + i))
 hourAndMinute ahead (got n hour) (got m minute) = seconds ahead (hour .size) (minute .size)
+
+-- two bytes at a place, as a number
+abbrev pub twoAtWith : NumberReader → ℕ → List ℕ → Got Signed
+twoAtWith number i s = number Count 2 (drop i s)
 
 unfoldable pub parseOffsetWith : NumberReader → List ℕ → Offset
 unfolding textCheck
@@ -196,7 +200,10 @@ parseOffsetWith number s =
     offsetBy (textCheck s)
     (when (eqb (getD s 0 0) (code "Z")) (offset.Seconds (pos 0))
     (offsetBy (refuseUnless (eqb (length s) 6) (OffsetLength (length s)))
-    (hourAndMinute (eqb (getD s 0 0) plus) (number Count 2 (drop 1 s)) (number Count 2 (drop 4 s)))))
+    (hourAndMinute (eqb (getD s 0 0) plus) (twoAtWith number 1 s) (twoAtWith number 4 s))))
+
+abbrev pub twoAt : ℕ → List ℕ → Got Signed
+twoAt = twoAtWith takeNumber
 
 unfoldable pub parseOffset : List ℕ → Offset
 unfolding parseOffsetWith takeNumber
