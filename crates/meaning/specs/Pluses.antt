@@ -17,6 +17,7 @@ use Rattle.meaning.specs.declared.Checked.{Checked}
 use Rattle.meaning.specs.declared.Checked.the-variants.{Refused}
 use Rattle.meaning.specs.declared.Numeral.{Numeral}
 use Rattle.meaning.specs.declared.Offset.{Offset}
+use Rattle.meaning.specs.declared.Offset.the-variants as offset
 use Rattle.meaning.specs.declared.Pair.{Pair}
 use Rattle.meaning.specs.declared.Reading.{Reading}
 use Rattle.meaning.specs.declared.Refusal.the-variants.{InPart}
@@ -42,9 +43,14 @@ parseOffsetWithPlus = parseOffsetWith takeNumberWithPlus
 abbrev pub plusTaken : ℕ → List ℕ → Bool
 plusTaken k s = both (leb k (length s)) (plusFirst (take k s))
 
--- what is excepted: a text refused 19, with the place of a plus of its
+-- what is excepted: a text that is refused 19, where it has a plus
 pub record RefusedAtPlus (s : List ℕ) (checked : Checked) : Type 0 where
   pub part : ℕ
   pub place : ℕ
   pub refused : checked ≡ Refused (InPart PlusSign part place)
+  pub there : getD s place 0 ≡ plus
+
+-- the same of parse_offset, with the place of the hour or of the minute
+pub record OffsetAtPlus (s : List ℕ) (place : ℕ) (o : Offset) : Type 0 where
+  pub refused : o ≡ offset.Refused (InPart PlusSign 0 place)
   pub there : getD s place 0 ≡ plus

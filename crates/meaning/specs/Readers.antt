@@ -59,8 +59,8 @@ takeNumber kind k s =
     when (ltb (length s) k) (stopped TooFew 0)
     (when (plusFirst (take k s)) (stopped PlusSign 0) (takenNumber k (numberOf kind (take k s))))
 
--- What reads a number. Reading is defined with any, and is at takeNumber; at the Rust's, which is in Pluses, it is what it was
--- before refusal 19.
+-- What takes a number. Reading is defined with any: with takeNumber it is the specification's, with the Rust's, which is in
+-- Pluses, it is as it was before refusal 19.
 abbrev pub NumberReader : Type 0
 NumberReader = Numeral → ℕ → Reader Signed
 

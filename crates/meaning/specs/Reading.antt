@@ -1,5 +1,6 @@
 -- Specification, "What each symbol does", column Reads, with the carried values in brackets and the paragraphs on yy and
--- zones; and "Splitting", what a read of literals skips. The steps are those of Readers.
+-- zones; and "Splitting", what a read of literals skips. The steps are those of Readers. What takes a number is defined with any
+-- number reader, `..With`, and then with the specification's.
 use mathlib.Core.Bool.{Bool, true, false}
 use mathlib.Core.List.{List, [], _∷_}
 use mathlib.Core.Option.{Option, none, some}
@@ -69,7 +70,7 @@ yearLength s = minusFirst s + digitRun (drop (minusFirst s) s)
 abbrev pub year : ℤ → Carried
 year z = Value unit.Year z
 
--- yy "adds current year / 1000 * 1000"
+-- what yy "adds": "current year / 1000 * 1000"
 abbrev pub millennium : ℕ → ℕ
 millennium current = current / 1000 * 1000
 
@@ -98,6 +99,7 @@ abbrev pub matchedLetters : Book → NameList → ℕ → Reader Carried
 matchedLetters book l n = letters n (names book l) >>= λ i. done (nameCarries l i)
 
 -- with any number reader
+
 module _ (number : NumberReader) where
   -- so many bytes of a year
   abbrev pub takenYearWith : ℕ → Reader Carried
@@ -156,7 +158,7 @@ module _ (number : NumberReader) where
   readStepWith book current (literal w lost) s = passed (length w) s
   readStepWith book current (field rule) s = readRuleWith book current rule s
 
--- with the specification's
+-- with the specification's number reader
 
 abbrev pub takenYear : ℕ → Reader Carried
 takenYear = takenYearWith takeNumber
