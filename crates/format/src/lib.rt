@@ -1,8 +1,7 @@
-// Column Writes: everything that a part writes, from its leaves to the part.
+// Column Writes: everything that a step writes, from its leaves to the step.
 pub mod literals;
-pub mod part;
 pub mod rule;
-pub mod run;
+pub mod step;
 pub mod symbols;
 pub mod years;
 pub mod zones;

@@ -7,15 +7,24 @@ ghost use Rattle.meaning.specs.Answers.{fieldsCheck};
 ghost use Rattle.meaning.specs.Names.{english};
 ghost use Rattle.meaning.specs.Writing.{ruleText};
 ghost use Rattle.meaning.specs.declared.Checked.the-variants.{Fine};
-use crate::symbols::put_letter_quarter;
 use crate::symbols::put_name_of;
 use crate::symbols::put_quantity;
 use crate::years::two_digit_year;
 use crate::years::zero_padded_i;
 use crate::zones::format_zone;
+use digits::laying::put_byte;
 use meaning::Fields;
+use meaning::Quantity;
 use meaning::Rule;
 
+// A single q.
+const QUARTER: Rule = Rule::SkippedNumber {
+    quantity: Quantity::Quarter,
+    least: 1,
+    most: 1,
+};
+
+// It calls itself for the quarter behind its letter, which keeps it a call of its own where steps are written.
 pub fn format_rule(rule: Rule, f: Fields, out: &mut [u8], at: usize) -> usize
     requires { ⌜ fieldsCheck f ≡ Fine ⌝ }
     requires { ⌜ at + length (ruleText english rule f) ≤ length (now out) ⌝ }
@@ -34,7 +43,10 @@ pub fn format_rule(rule: Rule, f: Fields, out: &mut [u8], at: usize) -> usize
             least,
             most: _,
         } => put_quantity(quantity, least, f, out, at),
-        Rule::LetterQuarter => put_letter_quarter(f, out, at),
+        Rule::LetterQuarter => {
+            let next = put_byte(b'Q', out, at);
+            format_rule(QUARTER, f, out, next)
+        }
         Rule::SkippedName { names, length: _ } => put_name_of(names, f, out, at),
         Rule::MatchedName(names) => put_name_of(names, f, out, at),
         Rule::Letters { names, length: _ } => put_name_of(names, f, out, at),

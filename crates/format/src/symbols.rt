@@ -1,5 +1,4 @@
-// What symbols write: a quantity, a name, a quarter with its letter.
-ghost use mathlib.Core.List.{_∷_};
+// What symbols write: a quantity, a name.
 ghost use mathlib.Core.Path.{_≡_};
 ghost use Prim.Native.Nat.{_+_, _≤_};
 ghost use lib.ListN.{length};
@@ -9,7 +8,6 @@ ghost use Rattle.meaning.specs.Bytes.{num};
 ghost use Rattle.meaning.specs.Names.{english};
 ghost use Rattle.meaning.specs.Writing.{quantityOf, nameText};
 ghost use Rattle.meaning.specs.declared.Checked.the-variants.{Fine};
-use digits::laying::put_byte;
 use digits::numbers::zero_padded;
 use fields::values::place_of;
 use fields::values::quantity_of;
@@ -34,14 +32,4 @@ pub fn put_name_of(names: NameList, f: Fields, out: &mut [u8], at: usize) -> usi
 {
     let place = place_of(names, f);
     format_name(names, place, out, at)
-}
-
-// Q and the quarter.
-pub fn put_letter_quarter(f: Fields, out: &mut [u8], at: usize) -> usize
-    requires { ⌜ fieldsCheck f ≡ Fine ⌝ }
-    requires { ⌜ at + length (81 ∷ num 1 (quantityOf Quantity.Quarter f)) ≤ length (now out) ⌝ }
-    ensures { λ r. ⌜ Laid (now (out .entry)) (now (out .exit)) at r (81 ∷ num 1 (quantityOf Quantity.Quarter f)) ⌝ }
-{
-    let next = put_byte(b'Q', out, at);
-    put_quantity(Quantity::Quarter, 1, f, out, next)
 }

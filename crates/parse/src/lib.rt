@@ -1,10 +1,9 @@
-// Column Reads: everything that a part reads, from the cursor to the part.
+// Column Reads: everything that a part reads, from the cursor to the step.
 pub mod cursor;
 pub mod named;
-pub mod part;
 pub mod rule;
-pub mod run;
 pub mod short;
+pub mod step;
 pub mod steps;
 pub mod years;
 pub mod zones;

@@ -4,9 +4,10 @@ ghost use mathlib.Core.Path.{_≡_};
 ghost use Prim.Native.Nat.{_<_};
 ghost use lib.ListN.{drop};
 ghost use Rattle.parse.specs.ShortReads.{digitFirst, secondDigits, shortDigits, digitsOf};
-ghost use Rattle.rules.specs.ShortRules.{isShort, shortMost};
 use numerals::is_digit;
 use rules::short::Short;
+use rules::short::is_short;
+use rules::short::short_most;
 
 // The number that they are, and the bytes that they take.
 pub struct Digits {
@@ -61,32 +62,6 @@ fn short_digits(least: u8, most: u8, text: &[u8], at: usize) -> Digits
         return Digits { size: a, taken: 1 };
     }
     second_digit(a, least, text, at + 1)
-}
-
-fn is_short(short: Short) -> bool
-    ensures { λ r. ⌜ r ≡ isShort short ⌝ }
-{
-    match short {
-        Short::Month => true,
-        Short::Day => true,
-        Short::Hour => true,
-        Short::Minute => true,
-        Short::Second => true,
-        Short::Other => false,
-    }
-}
-
-fn short_most(short: Short, count: u8) -> u8
-    ensures { λ r. ⌜ r ≡ shortMost short count ⌝ }
-{
-    match short {
-        Short::Month => count,
-        Short::Day => 2,
-        Short::Hour => 2,
-        Short::Minute => 2,
-        Short::Second => 2,
-        Short::Other => 2,
-    }
 }
 
 // The digits of a short number, if it is one.

@@ -13,8 +13,9 @@ use meaning::Reading;
 use meaning::Refusal;
 use parse::cursor::Cursor;
 use parse::cursor::PartRead;
-use parse::part::parse_part;
+use parse::step::parse_step;
 use pattern::parts::next_part;
+use rules::step::step_of;
 
 // All parts in order; the first that can't be read refuses the whole.
 pub fn parse_parts(pair: Pair, pattern: &[u8], text: &[u8], current_year: u32) -> Reading
@@ -27,7 +28,8 @@ pub fn parse_parts(pair: Pair, pattern: &[u8], text: &[u8], current_year: u32) -
     let mut i = 0;
     while place < pattern.len() {
         let part = next_part(pattern, place);
-        match parse_part(pair, pattern, part, current_year, text, Cursor { at }) {
+        let step = step_of(pair, pattern, part);
+        match parse_step(step, pattern, current_year, text, Cursor { at }) {
             PartRead::Stopped {
                 trouble,
                 place: stop,

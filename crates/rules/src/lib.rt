@@ -2,6 +2,7 @@
 pub mod date;
 pub mod numbers;
 pub mod short;
+pub mod step;
 pub mod time;
 
 ghost use mathlib.Core.Path.{_≡_};

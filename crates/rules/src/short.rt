@@ -1,7 +1,11 @@
 // The numbers that patterns have most, which at a count of one or two need no rule looked up.
 ghost use mathlib.Core.Path.{_≡_};
-ghost use Rattle.rules.specs.ShortRules.{shortTime, shortOfPair, shortOf};
+ghost use Rattle.rules.specs.ShortRules.{shortTime, shortOfPair, shortOf, isShort, shortQuantity, shortUnit, shortMost, shortRule};
+use crate::numbers::number;
 use meaning::Pair;
+use meaning::ParseUnit;
+use meaning::Quantity;
+use meaning::Rule;
 
 // M, d, H, m and s, or any other symbol.
 pub enum Short {
@@ -42,4 +46,70 @@ pub fn short_of(pair: Pair, symbol: u8) -> Short
         b'd' => Short::Day,
         _ => short_of_pair(pair, symbol),
     }
+}
+
+pub fn is_short(short: Short) -> bool
+    ensures { λ r. ⌜ r ≡ isShort short ⌝ }
+{
+    match short {
+        Short::Month => true,
+        Short::Day => true,
+        Short::Hour => true,
+        Short::Minute => true,
+        Short::Second => true,
+        Short::Other => false,
+    }
+}
+
+// What it is of.
+pub fn short_quantity(short: Short) -> Quantity
+    ensures { λ r. ⌜ r ≡ shortQuantity short ⌝ }
+{
+    match short {
+        Short::Month => Quantity::Month,
+        Short::Day => Quantity::Day,
+        Short::Hour => Quantity::Hour0To23,
+        Short::Minute => Quantity::Minute,
+        Short::Second => Quantity::Second,
+        Short::Other => Quantity::Day,
+    }
+}
+
+// The unit that it carries.
+pub fn short_unit(short: Short) -> ParseUnit
+    ensures { λ r. ⌜ r ≡ shortUnit short ⌝ }
+{
+    match short {
+        Short::Month => ParseUnit::Month,
+        Short::Day => ParseUnit::DayOfMonth,
+        Short::Hour => ParseUnit::Hour,
+        Short::Minute => ParseUnit::Minute,
+        Short::Second => ParseUnit::Second,
+        Short::Other => ParseUnit::DayOfMonth,
+    }
+}
+
+// The most digits that it is read from.
+pub fn short_most(short: Short, count: u8) -> u8
+    ensures { λ r. ⌜ r ≡ shortMost short count ⌝ }
+{
+    match short {
+        Short::Month => count,
+        Short::Day => 2,
+        Short::Hour => 2,
+        Short::Minute => 2,
+        Short::Second => 2,
+        Short::Other => 2,
+    }
+}
+
+pub fn short_rule(short: Short, count: u8) -> Rule
+    ensures { λ r. ⌜ r ≡ shortRule short count ⌝ }
+{
+    number(
+        short_quantity(short),
+        count,
+        short_most(short, count),
+        short_unit(short),
+    )
 }

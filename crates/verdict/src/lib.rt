@@ -11,7 +11,7 @@ ghost use Rattle.meaning.specs.Writing.{steps};
 ghost use Rattle.trust.specs.Check as trust;
 use crate::lookahead::digit_first;
 use crate::lookahead::digit_second;
-use crate::needs::part_need;
+use crate::needs::step_need;
 use fields::checks::current_year_check;
 use fields::checks::or_else;
 use meaning::Checked;
@@ -20,6 +20,7 @@ use meaning::Pair;
 use meaning::Verdict;
 use pattern::checks::quoted_check;
 use pattern::parts::next_part;
+use rules::step::step_of;
 use trust::Need;
 
 // Whether what the parts from a place on can write meets a need.
@@ -85,7 +86,7 @@ fn first_failing(pattern: &[u8]) -> Verdict
     let mut i = 0;
     while place < pattern.len() {
         let part = next_part(pattern, place);
-        let need = part_need(pattern, part);
+        let need = step_need(step_of(Pair::Full, pattern, part), pattern);
         place += part.length;
         if !meets(need, pattern, place) {
             return Verdict::No {

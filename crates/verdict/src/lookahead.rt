@@ -1,26 +1,23 @@
 // What the parts behind a part can give: a digit as the first byte, or as the second.
 ghost use mathlib.Core.Path.{_≡_};
-ghost use Prim.Native.Nat.{_≤_};
-ghost use lib.ListN.{length, drop};
+ghost use lib.ListN.{drop, replicate};
 ghost use Rattle.meaning.specs.Bytes.{digitAt};
-ghost use Rattle.meaning.specs.Rules.{roleOf};
-ghost use Rattle.meaning.specs.Writing.{runStep, stepOf, steps};
-ghost use Rattle.pattern.specs.First.{unescaped, contentOf};
-ghost use Rattle.pattern.specs.Next.{Next};
+ghost use Rattle.meaning.specs.Writing.{steps};
+ghost use Rattle.pattern.specs.First.{unescaped};
+ghost use Rattle.rules.specs.Steps.{means, Held};
 ghost use Rattle.trust.specs.Ahead as ahead;
 ghost use Rattle.verdict.specs.Insides.{insideSecond};
 use crate::needs::most_digits;
-use meaning::Kind;
 use meaning::NameList;
 use meaning::Pair;
-use meaning::Part;
 use meaning::Quantity;
 use meaning::Role;
 use meaning::Rule;
 use numerals::is_digit;
 use pattern::parts::next_part;
 use pattern::quoted::bytes_of;
-use rules::role_of;
+use rules::step::Step;
+use rules::step::step_of;
 use trust::Opening;
 
 // How the names of a list begin: only the quarters' with a digit; some are one byte.
@@ -146,30 +143,6 @@ fn rule_second(rule: Rule, behind: bool) -> bool
     }
 }
 
-fn run_first(b: u8, count: usize) -> bool
-    requires { ⌜ 1 ≤ count ⌝ }
-    ensures { λ r. ⌜ r ≡ ahead.stepFirst (runStep (roleOf Pair.Full b count) b count) ⌝ }
-{
-    match role_of(Pair::Full, b, count) {
-        Role::Literal => is_digit(b),
-        Role::Symbol(rule) => rule_first(rule),
-    }
-}
-
-fn run_second(b: u8, count: usize, behind: bool) -> bool
-    ensures { λ r. ⌜ r ≡ ahead.stepSecond (runStep (roleOf Pair.Full b count) b count) behind ⌝ }
-{
-    match role_of(Pair::Full, b, count) {
-        Role::Literal => {
-            if count < 2 {
-                return behind;
-            }
-            is_digit(b)
-        }
-        Role::Symbol(rule) => rule_second(rule, behind),
-    }
-}
-
 // The first byte of an inside stands for itself, and the second element begins one or two bytes behind it.
 fn inside_first(src: &[u8]) -> bool
     ensures { λ r. ⌜ r ≡ digitAt 0 (unescaped (now (src .entry))) ⌝ }
@@ -193,52 +166,63 @@ fn inside_second(src: &[u8], behind: bool) -> bool
     is_digit(src[i])
 }
 
-fn part_first(pattern: &[u8], part: Part) -> bool
-    requires { ⌜ Next (now pattern) (part .start) part ⌝ }
-    ensures { λ r. ⌜ r ≡ ahead.stepFirst (stepOf Pair.Full (contentOf (now (pattern .entry)) part)) ⌝ }
+fn times_second(b: u8, count: usize, behind: bool) -> bool
+    ensures { λ r. ⌜ r ≡ insideSecond (replicate count b) behind ⌝ }
 {
-    let kind = part.kind;
-    let start = part.start;
-    let n = part.length;
-    match kind {
-        Kind::Run => run_first(pattern[start], n),
-        Kind::Quotes => false,
-        Kind::Quoted => {
-            let from = start + 1;
-            let to = start + n - 1;
-            inside_first(&pattern[from..to])
-        }
-        Kind::Open => {
-            let from = start + 1;
-            inside_first(&pattern[from..])
-        }
+    if count < 2 {
+        return behind;
+    }
+    is_digit(b)
+}
+
+// Short numbers and years begin with two digits, for some record at least; names with two letters.
+fn step_first(step: Step, pattern: &[u8]) -> bool
+    requires { ⌜ Held (now pattern) step ⌝ }
+    ensures { λ r. ⌜ r ≡ ahead.stepFirst (means (now (pattern .entry)) step) ⌝ }
+{
+    match step {
+        Step::Times { byte, count: _ } => is_digit(byte),
+        Step::Quoted { from, to } => inside_first(&pattern[from..to]),
+        Step::Open { from } => inside_first(&pattern[from..]),
+        Step::Short {
+            number: _,
+            count: _,
+        } => true,
+        Step::Year(_) => true,
+        Step::MonthAbbreviated => false,
+        Step::MonthWide => false,
+        Step::WdayWide => false,
+        Step::Run {
+            role,
+            byte,
+            count: _,
+        } => match role {
+            Role::Literal => is_digit(byte),
+            Role::Symbol(rule) => rule_first(rule),
+        },
     }
 }
 
-fn part_second(pattern: &[u8], part: Part, behind: bool) -> bool
-    requires { ⌜ Next (now pattern) (part .start) part ⌝ }
-    ensures { λ r. ⌜ r ≡ ahead.stepSecond (stepOf Pair.Full (contentOf (now (pattern .entry)) part)) behind ⌝ }
+fn step_second(step: Step, pattern: &[u8], behind: bool) -> bool
+    requires { ⌜ Held (now pattern) step ⌝ }
+    ensures { λ r. ⌜ r ≡ ahead.stepSecond (means (now (pattern .entry)) step) behind ⌝ }
 {
-    let kind = part.kind;
-    let start = part.start;
-    let n = part.length;
-    match kind {
-        Kind::Run => run_second(pattern[start], n, behind),
-        Kind::Quotes => {
-            if n < 4 {
-                return behind;
-            }
-            false
-        }
-        Kind::Quoted => {
-            let from = start + 1;
-            let to = start + n - 1;
-            inside_second(&pattern[from..to], behind)
-        }
-        Kind::Open => {
-            let from = start + 1;
-            inside_second(&pattern[from..], behind)
-        }
+    match step {
+        Step::Times { byte, count } => times_second(byte, count, behind),
+        Step::Quoted { from, to } => inside_second(&pattern[from..to], behind),
+        Step::Open { from } => inside_second(&pattern[from..], behind),
+        Step::Short {
+            number: _,
+            count: _,
+        } => true,
+        Step::Year(_) => true,
+        Step::MonthAbbreviated => false,
+        Step::MonthWide => false,
+        Step::WdayWide => false,
+        Step::Run { role, byte, count } => match role {
+            Role::Literal => times_second(byte, count, behind),
+            Role::Symbol(rule) => rule_second(rule, behind),
+        },
     }
 }
 
@@ -249,7 +233,8 @@ pub fn digit_first(pattern: &[u8], place: usize) -> bool
     if pattern.len() <= place {
         return false;
     }
-    part_first(pattern, next_part(pattern, place))
+    let part = next_part(pattern, place);
+    step_first(step_of(Pair::Full, pattern, part), pattern)
 }
 
 // The same of the second byte.
@@ -261,5 +246,5 @@ pub fn digit_second(pattern: &[u8], place: usize) -> bool
     }
     let part = next_part(pattern, place);
     let behind = digit_first(pattern, place + part.length);
-    part_second(pattern, part, behind)
+    step_second(step_of(Pair::Full, pattern, part), pattern, behind)
 }

@@ -2,20 +2,16 @@
 ghost use mathlib.Core.Path.{_≡_};
 ghost use Rattle.laws.specs.Widths.{mostDigits};
 ghost use Rattle.meaning.specs.Bytes.{when};
-ghost use Rattle.meaning.specs.Rules.{roleOf};
-ghost use Rattle.meaning.specs.Writing.{runStep, stepOf};
-ghost use Rattle.pattern.specs.First.{contentOf};
-ghost use Rattle.pattern.specs.Next.{Next};
+ghost use Rattle.rules.specs.Steps.{longYear, means, Held};
 ghost use Rattle.trust.specs.Needs as needs;
 use meaning::Group;
-use meaning::Kind;
-use meaning::Pair;
-use meaning::Part;
 use meaning::Quantity;
 use meaning::Role;
 use meaning::Rule;
 use pattern::quoted::ends_in_quote;
-use rules::role_of;
+use rules::short::short_most;
+use rules::short::short_quantity;
+use rules::step::Step;
 use trust::Need;
 
 // The most digits that a quantity has.
@@ -125,13 +121,14 @@ fn rule_need(rule: Rule) -> Need
     }
 }
 
-fn run_need(b: u8, count: usize) -> Need
-    ensures { λ r. ⌜ r ≡ needs.stepNeed (runStep (roleOf Pair.Full b count) b count) ⌝ }
+// y, more than twice.
+fn year_need(count: usize) -> Need
+    ensures { λ r. ⌜ r ≡ needs.ruleNeed (longYear count) ⌝ }
 {
-    match role_of(Pair::Full, b, count) {
-        Role::Literal => Need::Nothing,
-        Role::Symbol(rule) => rule_need(rule),
+    if count <= 4 {
+        return Need::NoDigit;
     }
+    fixed_year_need(count)
 }
 
 // A part that loses a byte when it is written does not come back: a read skips that byte too.
@@ -141,20 +138,28 @@ fn loss_need(lost: bool) -> Need
     if lost { Need::Broken } else { Need::Nothing }
 }
 
-pub fn part_need(pattern: &[u8], part: Part) -> Need
-    requires { ⌜ Next (now pattern) (part .start) part ⌝ }
-    ensures { λ r. ⌜ r ≡ needs.stepNeed (stepOf Pair.Full (contentOf (now (pattern .entry)) part)) ⌝ }
+pub fn step_need(step: Step, pattern: &[u8]) -> Need
+    requires { ⌜ Held (now pattern) step ⌝ }
+    ensures { λ r. ⌜ r ≡ needs.stepNeed (means (now (pattern .entry)) step) ⌝ }
 {
-    let kind = part.kind;
-    let start = part.start;
-    let n = part.length;
-    match kind {
-        Kind::Run => run_need(pattern[start], n),
-        Kind::Quotes => Need::Nothing,
-        Kind::Quoted => Need::Nothing,
-        Kind::Open => {
-            let from = start + 1;
-            loss_need(ends_in_quote(&pattern[from..]))
+    match step {
+        Step::Times { byte: _, count: _ } => Need::Nothing,
+        Step::Quoted { from: _, to: _ } => Need::Nothing,
+        Step::Open { from } => loss_need(ends_in_quote(&pattern[from..])),
+        Step::Short { number, count } => {
+            number_need(short_quantity(number), count, short_most(number, count))
         }
+        Step::Year(count) => year_need(count),
+        Step::MonthAbbreviated => Need::Nothing,
+        Step::MonthWide => Need::Nothing,
+        Step::WdayWide => Need::Nothing,
+        Step::Run {
+            role,
+            byte: _,
+            count: _,
+        } => match role {
+            Role::Literal => Need::Nothing,
+            Role::Symbol(rule) => rule_need(rule),
+        },
     }
 }

@@ -7,10 +7,11 @@ ghost use Rattle.meaning.specs.Answers.{fieldsCheck};
 ghost use Rattle.meaning.specs.Names.{english};
 ghost use Rattle.meaning.specs.Whole.{text};
 ghost use Rattle.meaning.specs.declared.Checked.the-variants.{Fine};
-use format::part::format_part;
+use format::step::format_step;
 use meaning::Fields;
 use meaning::Pair;
 use pattern::parts::next_part;
+use rules::step::step_of;
 
 // All parts, where there is room for their text.
 pub fn format_parts(pair: Pair, pattern: &[u8], f: Fields, out: &mut [u8]) -> usize
@@ -22,7 +23,8 @@ pub fn format_parts(pair: Pair, pattern: &[u8], f: Fields, out: &mut [u8]) -> us
     let mut place = 0;
     while place < pattern.len() {
         let part = next_part(pattern, place);
-        at = format_part(pair, pattern, part, f, out, at);
+        let step = step_of(pair, pattern, part);
+        at = format_step(step, pattern, f, out, at);
         place += part.length;
     }
     at

@@ -9,7 +9,7 @@ use Rattle.meaning.specs.Names.{Book}
 use Rattle.meaning.specs.Readers.{Got, got, stopped}
 use Rattle.meaning.specs.Reading.{readStep}
 use Rattle.meaning.specs.Whole.{Walk, walked, refusedAt, walk}
-use Rattle.meaning.specs.Writing.{Step, stepOf, steps}
+use Rattle.meaning.specs.Writing.{Step, steps}
 use Rattle.meaning.specs.declared.Carried.{Carried}
 use Rattle.meaning.specs.declared.Checked.the-variants.{Refused}
 use Rattle.meaning.specs.declared.Pair.{Pair}
@@ -20,7 +20,8 @@ use Rattle.parse.specs.declared.cursor.PartRead.{PartRead}
 use Rattle.parse.specs.declared.cursor.PartRead.the-variants as part
 use Rattle.pattern.specs.Next.{Next}
 use Rattle.pattern.proofs.parts.Walks.{steps-next, steps-done}
-use Rattle.pattern.specs.First.{contentOf}
+use Rattle.rules.specs.Steps.{means, Chosen}
+use Rattle.rules.specs.declared.step.Step as rules
 
 module _ (book : Book) (current i : ℕ) (text : List ℕ) (gave : List Carried) where
   -- what follows a part, by what it gave
@@ -42,12 +43,11 @@ module _ (book : Book) (current i : ℕ) (text : List ℕ) (gave : List Carried)
   unfolding walk
   walk-on at step ss = by-part at ss (readStep book current step (drop at text))
 
-  pub walk-step : (pair : Pair) (at place : ℕ) (p : List ℕ) (part : Part) → Next p place part
+  pub walk-step : {pair : Pair} (at place : ℕ) {p : List ℕ} {part : Part} {k : rules.Step} → Next p place part → Chosen pair p part k
       → walk book current i at (steps pair (drop place p)) (drop at text) gave
-      ≡ walkBy (steps pair (drop (place + part .length) p))
-      (partAt at (readStep book current (stepOf pair (contentOf p part)) (drop at text)))
-  walk-step pair at place p part n =
-      rw (steps-next pair p place part n) (walk-on at (stepOf pair (contentOf p part)) (steps pair (drop (place + part .length) p)))
+      ≡ walkBy (steps pair (drop (place + part .length) p)) (partAt at (readStep book current (means p k) (drop at text)))
+  walk-step {pair} at place {p} {part} {k} n chosen =
+      rw (steps-next pair p place part n, ← chosen .meant) (walk-on at (means p k) (steps pair (drop (place + part .length) p)))
 
   pub walk-done : (pair : Pair) (at place : ℕ) (p : List ℕ) → length p ≤ place
       → walk book current i at (steps pair (drop place p)) (drop at text) gave ≡ walked at gave

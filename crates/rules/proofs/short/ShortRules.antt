@@ -1,18 +1,15 @@
--- The rules of the table for the numbers that patterns have most, and for the names of months.
+-- The rules of the table for the numbers that patterns have most.
 use mathlib.Core.Bool.{true, false}
 use mathlib.Core.Path.{_≡_, refl, sym}
 use Prim.Native.Nat.{ℕ, zero, suc, _≤_, _<_}
 use native.Mathlib.Omega.{arith}
 use lib.Dec.{eqb}
-use borrow.Author.Tests.{eqb-true, ne-eqb}
+use borrow.Author.Tests.{eqb-true}
 use Rattle.laws.proofs.Tests.{by-test, true-is-not-false}
-use Rattle.meaning.specs.Bytes.{when}
 use Rattle.meaning.specs.Rules.{roleOf, dateRole, timeRole, roleAmong, ruleOf, pick, otherwiseRule}
-use Rattle.meaning.specs.declared.NameList.the-variants.{MonthAbbreviated, MonthNarrow, MonthWide}
 use Rattle.meaning.specs.declared.Pair.{Pair}
 use Rattle.meaning.specs.declared.Pair.the-variants.{Full, Date}
 use Rattle.meaning.specs.declared.Role.the-variants.{Symbol}
-use Rattle.meaning.specs.declared.Rule.the-variants.{SkippedName, MatchedName}
 use Rattle.rules.proofs.Laws.{is-date}
 use Rattle.rules.specs.Letters.{isAmong}
 use Rattle.rules.specs.ShortRules.{shortTime, shortOfPair, shortOf, isShort, shortRule}
@@ -45,9 +42,3 @@ short-role pair b c some few h =
     (λ e. by-test (eqb b 100)
     (λ e′. rw (eqb-true b 100 e′) (one-and-two (λ k. roleOf pair 100 k ≡ Symbol (shortRule (shortOf pair 100) k)) (is-date pair 100 1 refl) (is-date pair 100 2 refl) c some few))
     (λ e′. rw (e, e′) (short-of-pair pair b c some few (rw (e, e′) at h))))
-
-pub month-role : (pair : Pair) (c : ℕ) → 2 < c
-    → roleOf pair 77 c ≡ Symbol (when (eqb c 3) (MatchedName MonthAbbreviated) (when (eqb c 5) (SkippedName MonthNarrow 1) (MatchedName MonthWide)))
-unfolding dateRole roleAmong ruleOf pick otherwiseRule isAmong
-month-role pair c long =
-    rw (is-date pair 77 c refl, ne-eqb c 1 (λ e. omega (arith, e)), ne-eqb c 2 (λ e. omega (arith, e)))

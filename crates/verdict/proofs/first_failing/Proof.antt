@@ -31,20 +31,23 @@ loop-holds c = (refl, omega arith)
 next-part-requires : tie.Need-next-part-requires Inv-loop μ-loop
 next-part-requires c κs = search needs
 
-part-need-requires : tie.Need-part-need-requires Inv-loop μ-loop
-part-need-requires c κs =
+step-of-requires : tie.Need-step-of-requires Inv-loop μ-loop
+step-of-requires c κs =
     let p = now (c .before .before .before .before .args .pattern) in
     let L = c .before .before .loop in
     let part = c .next-part .result in
     let n = next p (L .place) part (c .before .loop-test .taken) (c .next-part .ensures) in
     starts-here n
 
+step-need-requires : tie.Need-step-need-requires Inv-loop μ-loop
+step-need-requires c κs = c .step-of .ensures .held
+
 add-place : tie.Need-add-place Inv-loop μ-loop
 add-place c =
-    let p = now (c .before .before .before .before .before .before .args .pattern) in
-    let L = c .before .before .before .before .loop in
-    let part = c .before .before .next-part .result in
-    let n = next p (L .place) part (c .before .before .before .loop-test .taken) (c .before .before .next-part .ensures) in
+    let p = now (c .before .before .before .before .before .before .before .args .pattern) in
+    let L = c .before .before .before .before .before .loop in
+    let part = c .before .before .before .next-part .result in
+    let n = next p (L .place) part (c .before .before .before .before .loop-test .taken) (c .before .before .before .next-part .ensures) in
     omega (arith, n .fits)
 
 meets-requires : tie.Need-meets-requires Inv-loop μ-loop
@@ -55,14 +58,15 @@ witness-requires c κs = search needs
 
 returns : tie.Need-returns Inv-loop μ-loop
 returns c =
-    let p = now (c .before .before .before .before .before .before .before .before .before .args .pattern) in
-    let L = c .before .before .before .before .before .before .before .loop in
-    let part = c .before .before .before .before .before .next-part .result in
-    let n = next p (L .place) part (c .before .before .before .before .before .before .loop-test .taken) (c .before .before .before .before .before .next-part .ensures) in
+    let p = now (c .before .before .before .before .before .before .before .before .before .before .args .pattern) in
+    let L = c .before .before .before .before .before .before .before .before .loop in
+    let part = c .before .before .before .before .before .before .next-part .result in
+    let n = next p (L .place) part (c .before .before .before .before .before .before .before .loop-test .taken) (c .before .before .before .before .before .before .next-part .ensures) in
     let here = steps-next Full p (L .place) part n in
     let s = stepOf Full (contentOf p part) in
     let ss = steps Full (drop (L .place + part .length) p) in
-    let need = c .before .before .before .before .part-need .ensures in
+    let chosen = c .before .before .before .before .before .step-of .ensures in
+    let need = rw (chosen .meant) at (c .before .before .before .before .step-need .ensures) in
     let met = c .before .before .meets .ensures in
     let answered = not-true (c .before .before .meets .result) (c .before .if1 .taken) in
     let fails : meets (stepNeed s) ss ≡ false = rw (← need) (sym met ∙ answered) in
@@ -70,30 +74,31 @@ returns c =
 
 add-i : tie.Need-add-i Inv-loop μ-loop
 add-i c =
-    let p = now (c .before .before .before .before .before .before .before .before .args .pattern) in
-    let L = c .before .before .before .before .before .before .loop in
-    let part = c .before .before .before .before .next-part .result in
-    let n = next p (L .place) part (c .before .before .before .before .before .loop-test .taken) (c .before .before .before .before .next-part .ensures) in
+    let p = now (c .before .before .before .before .before .before .before .before .before .args .pattern) in
+    let L = c .before .before .before .before .before .before .before .loop in
+    let part = c .before .before .before .before .before .next-part .result in
+    let n = next p (L .place) part (c .before .before .before .before .before .before .loop-test .taken) (c .before .before .before .before .before .next-part .ensures) in
     omega (arith, L .inv .1, n .some, n .fits)
 
 loop-less : tie.Need-loop-less Inv-loop μ-loop
 loop-less c =
-    let p = now (c .before .before .before .before .before .before .before .before .args .pattern) in
-    let L = c .before .before .before .before .before .before .loop in
-    let part = c .before .before .before .before .next-part .result in
-    let n = next p (L .place) part (c .before .before .before .before .before .loop-test .taken) (c .before .before .before .before .next-part .ensures) in
+    let p = now (c .before .before .before .before .before .before .before .before .before .args .pattern) in
+    let L = c .before .before .before .before .before .before .before .loop in
+    let part = c .before .before .before .before .before .next-part .result in
+    let n = next p (L .place) part (c .before .before .before .before .before .before .loop-test .taken) (c .before .before .before .before .before .next-part .ensures) in
     omega (arith, n .some, n .fits)
 
 loop-again : tie.Need-loop-again Inv-loop μ-loop
 loop-again c =
-    let p = now (c .before .before .before .before .before .before .before .before .args .pattern) in
-    let L = c .before .before .before .before .before .before .loop in
-    let part = c .before .before .before .before .next-part .result in
-    let n = next p (L .place) part (c .before .before .before .before .before .loop-test .taken) (c .before .before .before .before .next-part .ensures) in
+    let p = now (c .before .before .before .before .before .before .before .before .before .args .pattern) in
+    let L = c .before .before .before .before .before .before .before .loop in
+    let part = c .before .before .before .before .before .next-part .result in
+    let n = next p (L .place) part (c .before .before .before .before .before .before .loop-test .taken) (c .before .before .before .before .before .next-part .ensures) in
     let here = steps-next Full p (L .place) part n in
     let s = stepOf Full (contentOf p part) in
     let ss = steps Full (drop (L .place + part .length) p) in
-    let need = c .before .before .before .part-need .ensures in
+    let chosen = c .before .before .before .before .step-of .ensures in
+    let need = rw (chosen .meant) at (c .before .before .before .step-need .ensures) in
     let met = c .before .meets .ensures in
     let answered = not-false (c .before .meets .result) (c .if1 .left) in
     let holds : meets (stepNeed s) ss ≡ true = rw (← need) (sym met ∙ answered) in
@@ -114,7 +119,8 @@ first-failing-spec =
     μ-loop
     loop-holds
     next-part-requires
-    part-need-requires
+    step-of-requires
+    step-need-requires
     add-place
     meets-requires
     witness-requires

@@ -1,5 +1,5 @@
 -- Laws of the first and the second byte of a literal's text, for the code that looks at the pattern's bytes.
-use mathlib.Core.Bool.{Bool, false}
+use mathlib.Core.Bool.{Bool}
 use mathlib.Core.List.{List, [], _∷_}
 use mathlib.Core.Path.{_≡_, refl}
 use Prim.Native.Nat.{ℕ, zero, suc, _+_, _≤_, _<_}
@@ -24,18 +24,6 @@ unfolding digitAt
 run-second b zero h = absurd (omega arith)
 run-second b (suc zero) h = absurd (omega arith)
 run-second b (suc (suc n)) h = refl
-
--- a quote is no digit
-pub quotes-first : (n : ℕ) → digitAt 0 (replicate n quote) ≡ false
-unfolding digitAt
-quotes-first zero = refl
-quotes-first (suc n) = refl
-
-pub quotes-second : (n : ℕ) → digitAt 1 (replicate n quote) ≡ false
-unfolding digitAt
-quotes-second zero = refl
-quotes-second (suc zero) = refl
-quotes-second (suc (suc n)) = refl
 
 -- the inside of a quoted part
 

@@ -12,13 +12,13 @@ use native.Mathlib.Omega.{arith}
 use Rattle.meaning.specs.Names.{english}
 use Rattle.meaning.specs.Reading.{readStep}
 use Rattle.meaning.specs.Whole.{walk}
-use Rattle.meaning.specs.Writing.{stepOf, steps}
+use Rattle.meaning.specs.Writing.{steps}
 use Rattle.meaning.specs.declared.Carried.the-variants.{Nothing, Value}
 use Rattle.meaning.specs.declared.Carried.{Carried}
 use Rattle.parse.proofs.steps.Within.{part-stays}
 use Rattle.parse.proofs.rule.Within.{within-step}
 use Rattle.pattern.proofs.parts.Next.{next, starts-here}
-use Rattle.pattern.specs.First.{contentOf}
+use Rattle.rules.specs.Steps.{means}
 use Rattle.reader.proofs.walk.Walks.{walk-step, walk-done}
 use Rattle.reader.proofs.walk.parse_parts.Statement.{statement}
 use Rattle.reader.proofs.walk.parse_parts.Tie as tie
@@ -41,11 +41,14 @@ loop-holds c = ([], holds-none, refl, omega arith, omega arith)
 next-part-requires : tie.Need-next-part-requires Inv-loop μ-loop
 next-part-requires c κs = search needs
 
-parse-part-requires : tie.Need-parse-part-requires Inv-loop μ-loop
-parse-part-requires c κs =
-    let a = c .before .before .before .before .before .args in
+step-of-requires : tie.Need-step-of-requires Inv-loop μ-loop
+step-of-requires c κs =
+    let p = now (c .before .before .before .before .before .args .pattern) in
     let L = c .before .before .loop in
-    (starts-here (next (now (a .pattern)) (L .place) (c .next-part .result) (c .before .loop-test .taken) (c .next-part .ensures)), L .inv .3)
+    starts-here (next p (L .place) (c .next-part .result) (c .before .loop-test .taken) (c .next-part .ensures))
+
+parse-step-requires : tie.Need-parse-step-requires Inv-loop μ-loop
+parse-step-requires c κs = (c .step-of .ensures .held, c .before .before .before .loop .inv .3)
 
 enum-known-trouble : tie.Need-enum-known-trouble Inv-loop μ-loop
 enum-known-trouble c = search needs
@@ -55,13 +58,12 @@ no-reading-requires c κs = search needs
 
 returns : tie.Need-returns Inv-loop μ-loop
 returns c =
-    let a = c .before .before .before .before .before .before .before .before .before .before .args in
-    let p = now (a .pattern) in
-    let text = now (a .text) in
-    let L = c .before .before .before .before .before .before .before .loop in
-    let n = next p (L .place) (c .before .before .before .before .before .next-part .result) (c .before .before .before .before .before .before .loop-test .taken) (c .before .before .before .before .before .next-part .ensures) in
-    let step = walk-step english (a .current-year) (L .i) text (L .inv .0) (a .pair) (L .at) (L .place) p (c .before .before .before .before .before .next-part .result) n in
-    let stops = rw (step, ← c .before .before .before .before .parse-part .ensures, c .before .before .trouble .given .1) at (L .inv .2) in
+    let m = c .before .before .before .before .before in
+    let L = m .before .before .before .loop in
+    let a = m .before .before .before .before .before .before .args in
+    let n = next (now (a .pattern)) (L .place) (m .before .next-part .result) (m .before .before .loop-test .taken) (m .before .next-part .ensures) in
+    let step = walk-step english (a .current-year) (L .i) (now (a .text)) (L .inv .0) (L .at) (L .place) n (m .step-of .ensures) in
+    let stops = rw (step, ← c .before .before .before .before .parse-step .ensures, c .before .before .trouble .given .1) at (L .inv .2) in
     rw (← stops) (c .no-reading .ensures)
 
 enum-known-carried : tie.Need-enum-known-carried Inv-loop μ-loop
@@ -90,11 +92,10 @@ enum-told c = search needs
 
 add-place : tie.Need-add-place Inv-loop μ-loop
 add-place c =
-    let a = c .before .before .before .before .before .before .before .before .before .before .before .args in
-    let p = now (a .pattern) in
-    let text = now (a .text) in
-    let L = c .before .before .before .before .before .before .before .before .loop in
-    let n = next p (L .place) (c .before .before .before .before .before .before .next-part .result) (c .before .before .before .before .before .before .before .loop-test .taken) (c .before .before .before .before .before .before .next-part .ensures) in
+    let m = c .before .before .before .before .before .before in
+    let L = m .before .before .before .loop in
+    let a = m .before .before .before .before .before .before .args in
+    let n = next (now (a .pattern)) (L .place) (m .before .next-part .result) (m .before .before .loop-test .taken) (m .before .next-part .ensures) in
     omega (arith, n .fits)
 
 add-i : tie.Need-add-i Inv-loop μ-loop
@@ -102,24 +103,27 @@ add-i c = search needs
 
 loop-less : tie.Need-loop-less Inv-loop μ-loop
 loop-less c =
-    let a = c .before .before .before .before .before .before .before .before .before .before .before .args in
-    let p = now (a .pattern) in
-    let text = now (a .text) in
-    let L = c .before .before .before .before .before .before .before .before .loop in
-    let n = next p (L .place) (c .before .before .before .before .before .before .next-part .result) (c .before .before .before .before .before .before .before .loop-test .taken) (c .before .before .before .before .before .before .next-part .ensures) in
+    let m = c .before .before .before .before .before .before in
+    let L = m .before .before .before .loop in
+    let a = m .before .before .before .before .before .before .args in
+    let n = next (now (a .pattern)) (L .place) (m .before .next-part .result) (m .before .before .loop-test .taken) (m .before .next-part .ensures) in
     omega (arith, n .some, n .fits)
 
 loop-again : tie.Need-loop-again Inv-loop μ-loop
 loop-again c =
-    let a = c .before .before .before .before .before .before .before .before .before .before .before .args in
+    let m = c .before .before .before .before .before .before in
+    let L = m .before .before .before .loop in
+    let a = m .before .before .before .before .before .before .args in
     let p = now (a .pattern) in
     let text = now (a .text) in
-    let L = c .before .before .before .before .before .before .before .before .loop in
-    let n = next p (L .place) (c .before .before .before .before .before .before .next-part .result) (c .before .before .before .before .before .before .before .loop-test .taken) (c .before .before .before .before .before .before .next-part .ensures) in
-    let step = walk-step english (a .current-year) (L .i) text (L .inv .0) (a .pair) (L .at) (L .place) p (c .before .before .before .before .before .before .next-part .result) n in
-    let moved = rw (step, ← c .before .before .before .before .before .parse-part .ensures, c .before .before .before .carried .given .1) at (L .inv .2) in
-    let read = readStep english (a .current-year) (stepOf (a .pair) (contentOf p (c .before .before .before .before .before .before .next-part .result))) (drop (L .at) text) in
-    let inside = part-stays (L .at) text read (L .inv .3) (within-step english (a .current-year) (stepOf (a .pair) (contentOf p (c .before .before .before .before .before .before .next-part .result))) (drop (L .at) text)) (sym (c .before .before .before .before .before .parse-part .ensures) ∙ c .before .before .before .carried .given .1) in
+    let n = next p (L .place) (m .before .next-part .result) (m .before .before .loop-test .taken) (m .before .next-part .ensures) in
+    let read = c .before .before .before .before .before .parse-step .ensures in
+    let carried = c .before .before .before .carried .given .1 in
+    let step = walk-step english (a .current-year) (L .i) text (L .inv .0) (L .at) (L .place) n (m .step-of .ensures) in
+    let moved = rw (step, ← read, carried) at (L .inv .2) in
+    let k = means p (m .step-of .result) in
+    let rest = drop (L .at) text in
+    let inside = part-stays (L .at) text (readStep english (a .current-year) k rest) (L .inv .3) (within-step english (a .current-year) k rest) (sym read ∙ carried) in
     ⊎-elim
     (λ l. (Value (l .1 .given .0 .0) (l .1 .given .0 .1 .0) ∷ L .inv .0, rw (l .4, l .5, l .3 .ensures, toZ-ofZ w64 (l .1 .given .0 .1 .0) (search needs)) (holds-value (L .inv .1) (l .1 .given .0 .0) (l .1 .given .0 .1 .0)), rw (l .6) (rw (l .1 .given .1) at moved), rw (l .6) inside, omega (arith, n .some)))
     (λ r. (Nothing ∷ L .inv .0, rw (r .2, r .3) (holds-nothing (L .inv .1)), rw (r .4) (rw (r .1 .given .1) at moved), rw (r .4) inside, omega (arith, n .some)))
@@ -142,7 +146,8 @@ parse-parts-spec =
     μ-loop
     loop-holds
     next-part-requires
-    parse-part-requires
+    step-of-requires
+    parse-step-requires
     enum-known-trouble
     no-reading-requires
     returns

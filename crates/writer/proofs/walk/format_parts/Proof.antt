@@ -3,6 +3,7 @@ use Prim.Native.Nat.{_+_, _-_}
 use denote.Ref.{now}
 use lib.ListN.{length, drop, length-append}
 use lib.Seq.{sets}
+use mathlib.Core.List.{_++_}
 use mathlib.Core.Path.{_≡_, refl, _∙_}
 use native.Mathlib.Omega.{arith}
 use Rattle.writer.proofs.walk.Texts.{text-step, text-done}
@@ -11,7 +12,10 @@ use Rattle.writer.proofs.walk.format_parts.Tie as tie
 use Rattle.laws.proofs.Laid.{sets-append}
 use Rattle.meaning.specs.Names.{english}
 use Rattle.meaning.specs.Whole.{text}
+use Rattle.meaning.specs.Writing.{stepText}
 use Rattle.pattern.proofs.parts.Next.{next, starts-here}
+use Rattle.pattern.specs.Next.{Next}
+use Rattle.rules.specs.Steps.{means}
 
 abbrev Inv-loop : tie.InvT-loop
 Inv-loop pair pattern f out₀ at₀ place₀ out at place =
@@ -22,54 +26,55 @@ Inv-loop pair pattern f out₀ at₀ place₀ out at place =
 abbrev μ-loop : tie.MeasureT-loop
 μ-loop pair pattern f out₀ at₀ place₀ out at place = length pattern - place
 
+-- the part is the pattern's next
+part-next : (c : tie.After-next-part Inv-loop μ-loop) → Next (now (c .before .before .before .before .before .args .pattern)) (c .before .before .loop .place) (c .next-part .result)
+part-next c =
+    next (now (c .before .before .before .before .before .args .pattern)) (c .before .before .loop .place) (c .next-part .result) (c .before .loop-test .taken) (c .next-part .ensures)
+
+-- the text of what is left is the step's and that of what is left behind it
+step-text : (c : tie.After-step-of Inv-loop μ-loop) →
+    let a = c .before .before .before .before .before .before .args in
+    let p = now (a .pattern) in
+    let place = c .before .before .before .loop .place in
+    text (a .pair) english (drop place p) (a .f)
+    ≡ stepText english (a .f) (means p (c .step-of .result)) ++ text (a .pair) english (drop (place + c .before .next-part .result .length) p) (a .f)
+step-text c =
+    let a = c .before .before .before .before .before .before .args in
+    rw (c .step-of .ensures .meant)
+    (text-step (a .pair) english (a .f) (now (a .pattern)) (c .before .before .before .loop .place) (c .before .next-part .result) (part-next (c .before)))
+
 loop-holds : tie.Need-loop-holds Inv-loop μ-loop
 loop-holds c = (refl, omega arith, refl)
 
 next-part-requires : tie.Need-next-part-requires Inv-loop μ-loop
 next-part-requires c κs = omega arith
 
-format-part-requires : tie.Need-format-part-requires Inv-loop μ-loop
-format-part-requires c κs =
-    let a = c .before .before .before .before .before .before .args in
-    let p = now (a .pattern) in
-    let L = c .before .before .before .loop in
-    let part = c .before .next-part .result in
-    let n = next p (L .place) part (omega arith) (c .before .next-part .ensures) in
-    let step = text-step (a .pair) english (a .f) p (L .place) part n in
-    (c .before .before .before .before .before .before .pre .0, (starts-here n, omega (arith, rw length-append at (rw step at (L .inv .1)), L .inv .2, c .before .before .before .before .before .before .pre .1)))
+step-of-requires : tie.Need-step-of-requires Inv-loop μ-loop
+step-of-requires c κs = starts-here (part-next c)
+
+format-step-requires : tie.Need-format-step-requires Inv-loop μ-loop
+format-step-requires c κs =
+    let step = c .before in
+    let start = step .before .before .before .before .before .before in
+    let L = step .before .before .before .loop in
+    (start .pre .0, (step .step-of .ensures .held, omega (arith, rw length-append at (rw (step-text step) at (L .inv .1)), L .inv .2, start .pre .1)))
 
 add-place : tie.Need-add-place Inv-loop μ-loop
-add-place c =
-    let a = c .before .before .before .before .before .before .before .before .before .before .args in
-    let p = now (a .pattern) in
-    let L = c .before .before .before .before .before .before .before .loop in
-    let part = c .before .before .before .before .before .next-part .result in
-    let n = next p (L .place) part (omega arith) (c .before .before .before .before .before .next-part .ensures) in
-    let step = text-step (a .pair) english (a .f) p (L .place) part n in
-    omega (arith, n .fits)
+add-place c = omega (arith, part-next (c .before .before .before .before .before .before) .fits)
 
 loop-less : tie.Need-loop-less Inv-loop μ-loop
 loop-less c =
-    let a = c .before .before .before .before .before .before .before .before .before .before .args in
-    let p = now (a .pattern) in
-    let L = c .before .before .before .before .before .before .before .loop in
-    let part = c .before .before .before .before .before .next-part .result in
-    let n = next p (L .place) part (omega arith) (c .before .before .before .before .before .next-part .ensures) in
-    let step = text-step (a .pair) english (a .f) p (L .place) part n in
-    omega (arith, n .some, n .fits)
+    let part = part-next (c .before .before .before .before .before .before) in
+    omega (arith, part .some, part .fits)
 
 loop-again : tie.Need-loop-again Inv-loop μ-loop
 loop-again c =
-    let a = c .before .before .before .before .before .before .before .before .before .before .args in
-    let p = now (a .pattern) in
-    let L = c .before .before .before .before .before .before .before .loop in
-    let part = c .before .before .before .before .before .next-part .result in
-    let n = next p (L .place) part (omega arith) (c .before .before .before .before .before .next-part .ensures) in
-    let step = text-step (a .pair) english (a .f) p (L .place) part n in
-    let wrote = c .before .before .before .format-part in (
-      rw (wrote .ensures .held, wrote .ensures .end, ← sets-append, ← step) (L .inv .0),
-      omega (arith, rw length-append at (rw step at (L .inv .1)), wrote .ensures .end),
-      wrote .kept .1 .1 .1 .1 .0 ∙ L .inv .2,
+    let step = c .before .before .before .before .before in
+    let L = step .before .before .before .loop in
+    let wrote = c .before .before .before .format-step in (
+      rw (wrote .ensures .held, wrote .ensures .end, ← sets-append, ← step-text step) (L .inv .0),
+      omega (arith, rw length-append at (rw (step-text step) at (L .inv .1)), wrote .ensures .end),
+      wrote .kept .1 .1 .1 .0 ∙ L .inv .2,
     )
 
 same-length : tie.Need-same-length Inv-loop μ-loop
@@ -90,7 +95,8 @@ format-parts-spec =
     μ-loop
     loop-holds
     next-part-requires
-    format-part-requires
+    step-of-requires
+    format-step-requires
     add-place
     loop-less
     loop-again

@@ -1,2 +1,0 @@
-pub mod LongerRuns
-pub mod Runs
