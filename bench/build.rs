@@ -1,4 +1,4 @@
-//! Links the archive of ours that SHEET_ARCHIVE names and, where it is there, ICU with its shim.
+//! Links ICU with its shim, where it is there. The archive of ours is linked by the crate for Rust.
 
 use std::env;
 use std::path::Path;
@@ -6,13 +6,9 @@ use std::process::Command;
 
 fn main() {
     println!("cargo:rustc-check-cfg=cfg(icu)");
-    println!("cargo:rerun-if-env-changed=SHEET_ARCHIVE");
     println!("cargo:rerun-if-env-changed=ICU_VERSION");
     println!("cargo:rerun-if-changed=build.rs");
     println!("cargo:rerun-if-changed=icu.c");
-    let archive = env::var("SHEET_ARCHIVE").expect("SHEET_ARCHIVE names the archive; bench/run sets it");
-    println!("cargo:rerun-if-changed={archive}");
-    println!("cargo:rustc-link-arg={archive}");
     if let Some(words) = icu() {
         println!("cargo:rustc-cfg=icu");
         for word in words {

@@ -13,6 +13,7 @@ mod plot;
 mod records;
 mod rows;
 mod rust;
+mod stack;
 mod table;
 mod timing;
 
@@ -23,12 +24,17 @@ use std::env::args;
 use std::fs;
 use std::process::ExitCode;
 
-const USAGE: &str = "usage: bench PICTURE.svg\n       bench calls CONTENDER write|read|check ROW CALLS";
+const USAGE: &str =
+    "usage: bench PICTURE.svg\n       bench calls CONTENDER write|read|check ROW CALLS\n       bench stack";
 
 fn main() -> ExitCode {
     let words: Vec<String> = args().skip(1).collect();
     let words: Vec<&str> = words.iter().map(String::as_str).collect();
     let outcome = match words[..] {
+        ["stack"] => {
+            print!("{}", stack::table(&rows::rows(), &records()));
+            Ok(())
+        }
         [picture] => run(picture),
         ["calls", contender, op, row, calls] => only_calls(contender, op, row, calls),
         _ => Err(USAGE.to_string()),

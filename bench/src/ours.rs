@@ -3,55 +3,12 @@
 use crate::contender::Contender;
 use crate::records::{Record, CURRENT_YEAR, RECORDS};
 use harness::Fields;
+use sheet::raw::{sheet_check, sheet_read, sheet_write, CHECK_ANSWER, READ_ANSWER, READ_VALUES, WRITE_ANSWER};
 use std::hint::black_box;
 
 /// Always enough: 8 bytes for each of the longest pattern.
 pub const ROOM: usize = 2048;
 const VALUES: usize = 15;
-
-/// What a write answers with: the length and 0, or the refusal's details.
-const WROTE: usize = 2;
-
-/// What a reading has in front of the values: bytes taken, mask, number of units.
-const HEAD: usize = 3;
-
-/// A verdict: 1, or 0 with the part and the eight fields of a record.
-const VERDICT: usize = 10;
-
-extern "C" {
-    fn sheet_write(
-        pattern: *const u8,
-        pattern_length: usize,
-        year: i32,
-        month: u32,
-        day: u32,
-        day_of_year: u32,
-        week: u32,
-        weekday: u32,
-        nanoseconds: u64,
-        offset: i32,
-        out: *mut u8,
-        room: usize,
-        answer: *mut i64,
-        answer_length: usize,
-    ) -> u32;
-    fn sheet_read(
-        pattern: *const u8,
-        pattern_length: usize,
-        text: *const u8,
-        text_length: usize,
-        current_year: i32,
-        answer: *mut i64,
-        answer_length: usize,
-    ) -> u32;
-    fn sheet_check(
-        pattern: *const u8,
-        pattern_length: usize,
-        current_year: i32,
-        answer: *mut i64,
-        answer_length: usize,
-    ) -> u32;
-}
 
 /// What a read gives.
 #[derive(Debug, PartialEq, Eq)]
@@ -63,7 +20,7 @@ pub struct Reading {
 
 /// The length of the text, or the number of the refusal.
 pub fn write(pattern: &[u8], f: &Fields, out: &mut [u8; ROOM]) -> Result<usize, u32> {
-    let mut answer = [0; WROTE];
+    let mut answer = [0; WRITE_ANSWER];
     let number = write_into(pattern, f, out, &mut answer);
     accepted(number, || answer[0] as usize)
 }
@@ -71,7 +28,7 @@ pub fn write(pattern: &[u8], f: &Fields, out: &mut [u8; ROOM]) -> Result<usize, 
 /// Rows by one pointer each: of a slice that goes through a black box both halves are stored, and a load of the two together
 /// has to wait for them.
 #[inline(always)]
-fn write_into(pattern: &[u8], f: &Fields, out: &mut [u8; ROOM], answer: &mut [i64; WROTE]) -> u32 {
+fn write_into(pattern: &[u8], f: &Fields, out: &mut [u8; ROOM], answer: &mut [i64; WRITE_ANSWER]) -> u32 {
     // SAFETY: each pointer goes with the length of the slice that it comes from.
     unsafe {
         sheet_write(
@@ -94,17 +51,17 @@ fn write_into(pattern: &[u8], f: &Fields, out: &mut [u8; ROOM], answer: &mut [i6
 }
 
 pub fn read(pattern: &[u8], text: &[u8]) -> Result<Reading, u32> {
-    let mut answer = [0; HEAD + VALUES];
+    let mut answer = [0; READ_ANSWER];
     let number = read_into(pattern, text, &mut answer);
     accepted(number, || Reading {
         taken: answer[0] as usize,
         mask: answer[1] as u16,
-        values: answer[HEAD..].try_into().expect("as many values as units"),
+        values: answer[READ_VALUES..].try_into().expect("as many values as units"),
     })
 }
 
 #[inline(always)]
-fn read_into(pattern: &[u8], text: &[u8], answer: &mut [i64; HEAD + VALUES]) -> u32 {
+fn read_into(pattern: &[u8], text: &[u8], answer: &mut [i64; READ_ANSWER]) -> u32 {
     // SAFETY: each pointer goes with the length of the slice that it comes from.
     unsafe {
         sheet_read(
@@ -120,7 +77,7 @@ fn read_into(pattern: &[u8], text: &[u8], answer: &mut [i64; HEAD + VALUES]) -> 
 }
 
 #[inline(always)]
-fn check_into(pattern: &[u8], answer: &mut [i64; VERDICT]) -> u32 {
+fn check_into(pattern: &[u8], answer: &mut [i64; CHECK_ANSWER]) -> u32 {
     // SAFETY: each pointer goes with the length of the slice that it comes from.
     unsafe {
         sheet_check(
@@ -134,13 +91,13 @@ fn check_into(pattern: &[u8], answer: &mut [i64; VERDICT]) -> u32 {
 }
 
 pub fn says_yes(pattern: &[u8]) -> bool {
-    let mut answer = [0; VERDICT];
+    let mut answer = [0; CHECK_ANSWER];
     check_into(pattern, &mut answer) == 0 && answer[0] == 1
 }
 
 /// So many checks of a pattern.
 pub fn check_calls(pattern: &[u8], calls: usize) {
-    let mut answer = [0; VERDICT];
+    let mut answer = [0; CHECK_ANSWER];
     for _ in 0..calls {
         black_box(check_into(black_box(pattern), black_box(&mut answer)));
     }
@@ -173,7 +130,7 @@ impl Contender for Ours<'_> {
     }
 
     fn write_calls(&mut self, calls: usize) {
-        let mut answer = [0; WROTE];
+        let mut answer = [0; WRITE_ANSWER];
         for call in 0..calls {
             let fields = &self.records[call % RECORDS].fields;
             black_box(write_into(
@@ -186,7 +143,7 @@ impl Contender for Ours<'_> {
     }
 
     fn read_calls(&mut self, calls: usize) {
-        let mut answer = [0; HEAD + VALUES];
+        let mut answer = [0; READ_ANSWER];
         for call in 0..calls {
             let text = &self.texts[call % RECORDS];
             black_box(read_into(

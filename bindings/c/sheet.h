@@ -43,9 +43,9 @@ extern "C" {
 /* A writer needs no more than so many bytes of output for each byte of the pattern, so SHEET_LONGEST_TEXT are always enough. */
 #define SHEET_BYTES_A_PATTERN_BYTE 8
 
-/* No call takes more bytes of the stack. As measured on x86-64, a write takes 5,600 where `out` has less room than that, since the
- * text then goes through a row of its own, and 3,300 otherwise; the other functions take fewer. */
-#define SHEET_MOST_STACK 8192
+/* No call takes more bytes of the stack. As measured on x86-64, a write takes 1,000 at most, with names, a read 980, and the
+ * other functions under 200. */
+#define SHEET_MOST_STACK 2048
 
 /* How many entries each function asks for in `answer`, sheet_split in `parts`, and sheet_units in `units`. */
 #define SHEET_WRITE_ANSWER 2

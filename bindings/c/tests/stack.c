@@ -33,7 +33,7 @@ static void write_with_room(size_t length) {
     write_into(length, SHEET_LONGEST_TEXT);
 }
 
-/* One byte less than the text has, so that all of it is written elsewhere first. */
+/* One byte less than the text has, so that all of it is measured. */
 static void write_without_room(size_t length) {
     if (write_into(length, 0) == SHEET_NO_ROOM)
         write_into(length, (size_t)answer[0] - 1);

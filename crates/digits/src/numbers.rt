@@ -9,14 +9,13 @@ ghost use Rattle.meaning.specs.Bytes as text;
 use crate::laying::put_byte;
 use crate::padded::put_padded;
 
-// Two digits, which most numbers of a date have, from a row of two.
+// Two digits, which most numbers of a date have.
 fn put_two(n: u32, out: &mut [u8], at: usize) -> usize
     requires { ⌜ (n < 100) × (at + 2 ≤ length (now out)) ⌝ }
     ensures { λ r. ⌜ Laid (now (out .entry)) (now (out .exit)) at r (text.digits 2 n) ⌝ }
 {
-    let row = [48 + (n / 10) as u8, 48 + (n % 10) as u8];
-    out[at] = row[0];
-    out[at + 1] = row[1];
+    out[at + 1] = 48 + (n % 10) as u8;
+    out[at] = 48 + (n / 10) as u8;
     at + 2
 }
 

@@ -5,8 +5,6 @@ ghost use lib.ListN.{length};
 ghost use lib.Seq.{sets};
 ghost use Rattle.laws.specs.Laid.{Laid};
 ghost use Rattle.meaning.specs.Bytes as text;
-use crate::laying::put_bytes;
-use crate::laying::put_times;
 
 fn width(n: u32) -> usize
     ensures { λ r. ⌜ r ≡ text.width n ⌝ }
@@ -34,27 +32,20 @@ fn lay_digits(n: u32, w: usize, out: &mut [u8], at: usize)
     }
 }
 
-// Specification, "format! with a width": the digits are made in a small scratch row and copied.
-fn put_digits(n: u32, w: usize, out: &mut [u8], at: usize) -> usize
-    requires { ⌜ (w ≤ 10) × (at + w ≤ length (now out)) ⌝ }
-    ensures { λ r. ⌜ Laid (now (out .entry)) (now (out .exit)) at r (text.digits w n) ⌝ }
+// How many digits a padded number has.
+pub fn padded_length(n: u32, k: usize) -> usize
+    ensures { λ r. ⌜ r ≡ length (text.num k n) ⌝ }
 {
-    let mut row = [0u8; 10];
-    lay_digits(n, w, &mut row, 0);
-    put_bytes(&row[..w], out, at)
+    let w = width(n);
+    if k < w { w } else { k }
 }
 
+// Specification, "format! with a width": the digits are laid straight into their place, with zeros before them.
 pub fn put_padded(n: u32, k: usize, out: &mut [u8], at: usize) -> usize
     requires { ⌜ at + length (text.num k n) ≤ length (now out) ⌝ }
     ensures { λ r. ⌜ Laid (now (out .entry)) (now (out .exit)) at r (text.num k n) ⌝ }
 {
-    let w = width(n);
-    if k <= w {
-        return put_digits(n, w, out, at);
-    }
-    if k <= 10 {
-        return put_digits(n, k, out, at);
-    }
-    let next = put_times(48, k - w, out, at);
-    put_digits(n, w, out, next)
+    let w = padded_length(n, k);
+    lay_digits(n, w, out, at);
+    at + w
 }

@@ -1,1 +1,1 @@
-mod Texts
+pub mod Texts

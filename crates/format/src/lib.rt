@@ -1,4 +1,5 @@
-// Column Writes: everything that a step writes, from its leaves to the step.
+// Column Writes: everything that a step writes, from its leaves to the step, and how long it is.
+pub mod lengths;
 pub mod literals;
 pub mod rule;
 pub mod step;

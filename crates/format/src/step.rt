@@ -26,7 +26,7 @@ use rules::short::Short;
 use rules::step::Step;
 
 // The number that a short one writes; the day stands for no number.
-fn short_number(short: Short, f: Fields) -> u32
+pub fn short_number(short: Short, f: Fields) -> u32
     requires { ⌜ fieldsCheck f ≡ Fine ⌝ }
     ensures { λ r. ⌜ r ≡ quantityOf (shortQuantity short) f ⌝ }
 {

@@ -17,7 +17,7 @@ use meaning::Group;
 use meaning::unit_sizes::SECS_PER_HOUR;
 use meaning::unit_sizes::SECS_PER_MINUTE;
 
-fn is_there(group: Group, n: u32) -> bool
+pub fn is_there(group: Group, n: u32) -> bool
     ensures { λ r. ⌜ r ≡ isThere group n ⌝ }
 {
     match group {
@@ -76,7 +76,7 @@ fn put_zone(
     put_offset(colon, minutes, seconds, n, out, next)
 }
 
-fn is_z(utc: bool, n: u32) -> bool
+pub fn is_z(utc: bool, n: u32) -> bool
     ensures { λ r. ⌜ r ≡ both utc (eqb n 0) ⌝ }
 {
     if utc { n == 0 } else { false }

@@ -1,14 +1,14 @@
 -- Laws of decimal text: how many digits there are, that they are digits, and what number they stand for; and the turns of
 -- the loops that count and lay them. Reading a written number back is in Numbers.
 use mathlib.Core.Bool.{true, false}
-use mathlib.Core.List.{List, [], _∷_, _++_, append-assoc, append-nil}
+use mathlib.Core.List.{List, [], _∷_, _++_}
 use mathlib.Core.Logic.{_⊎_, ⊎-elim}
 use mathlib.Core.Path.{_≡_, refl, sym, ap, _∙_}
 use Prim.Native.Nat.{ℕ, zero, suc, _+_, _-_, _*_, _/_, _%_, _^_, _≤_, _<_, max}
-use native.Mathlib.Nat.{add-zero, pow-suc, pow-le-pow-right, lt-of-lt-of-le, div-lt-iff-lt-mul}
+use native.Mathlib.Nat.{pow-suc, pow-le-pow-right, lt-of-lt-of-le, div-lt-iff-lt-mul}
 use native.Mathlib.Omega.{arith}
 use lib.Dec.{leb, ltb}
-use lib.ListN.{length, set, replicate, length-append, List·getD-append}
+use lib.ListN.{length, set, length-append, List·getD-append}
 use lib.Seq.{sets}
 use borrow.Author.Tests.{lt-ltb, le-ltb, ltb-true, ltb-false, le-leb, lt-leb, leb-true}
 use Rattle.meaning.specs.Bytes.{isDigit, digitAt, digits, widthIn, width, num}
@@ -167,38 +167,6 @@ digits-done l at i m h =
     let e : i ≡ 0 = omega arith in
     rw e
 
--- padding: digits that a number has not are zeros
-
-times-snoc : (b j : ℕ) → replicate j b ++ (b ∷ []) ≡ b ∷ replicate j b
-times-snoc b zero = refl
-times-snoc b (suc j) = ap (λ (l : List ℕ). b ∷ l) (times-snoc b j)
-
-digits-of-zero : (j : ℕ) → digits j 0 ≡ replicate j 48
-unfolding digits
-digits-of-zero zero = refl
-digits-of-zero (suc j) = rw (digits-of-zero j) (times-snoc 48 j)
-
-zeros-first : (j w n : ℕ) → n < 10 ^ w → digits (j + w) n ≡ replicate j 48 ++ digits w n
-unfolding digits
-zeros-first j zero n h =
-    let e : n ≡ 0 = omega arith in
-    rw (e, add-zero) (digits-of-zero j ∙ sym (append-nil (replicate j 48)))
-zeros-first j (suc w) n h =
-    let e : j + suc w ≡ suc (j + w) = omega arith in
-    rw (e, digits, zeros-first j w (n / 10) (tenth w n h)) (append-assoc (replicate j 48) (digits w (n / 10)) _)
-
-pub num-padded : (k n : ℕ) → width n < k → num k n ≡ replicate (k - width n) 48 ++ digits (width n) n
-unfolding num
-num-padded k n h =
-    let e : max k (width n) ≡ (k - width n) + width n = omega arith in
-    rw e (zeros-first (k - width n) (width n) n (below-width n))
-
-pub num-wide : (k n : ℕ) → width n ≤ k → num k n ≡ digits k n
-unfolding num
-num-wide k n h =
-    let e : max k (width n) ≡ k = omega arith in
-    rw e
-
 -- numbers of one digit, and of two
 pub num-one : (k n : ℕ) → k < 2 → n < 10 → num k n ≡ (48 + n) ∷ []
 unfolding num digits
@@ -214,12 +182,6 @@ num-two k n few small h =
     let e : max k (width n) ≡ 2 = ⊎-elim
     (λ large. omega (arith, width-turn n large, width-small (n / 10) (omega arith)))
     (λ two. omega (arith, width-at-most 2 n (omega arith) (omega arith))) h in
-    rw e
-
-pub num-bare : (k n : ℕ) → k ≤ width n → num k n ≡ digits (width n) n
-unfolding num
-num-bare k n h =
-    let e : max k (width n) ≡ width n = omega arith in
     rw e
 
 -- digits at their places, before whatever follows

@@ -5,8 +5,8 @@ use mathlib.Core.Path.{_≡_, refl, ap, _∙_}
 use Prim.Native.Nat.{ℕ, suc, _+_, _-_, _≤_, _<_}
 use native.Mathlib.Nat.{add-zero}
 use native.Mathlib.Omega.{arith}
-use lib.ListN.{length, getD, set, take, drop, replicate, length-append}
-use lib.Seq.{sets, sets-eq, set-comm, drop-cons, drop-length, take-at}
+use lib.ListN.{length, getD, set, drop, replicate, length-append}
+use lib.Seq.{sets, set-comm, drop-cons, drop-length}
 use Rattle.laws.specs.Laid.{Laid}
 
 module _ {A : Type 0} where
@@ -50,12 +50,6 @@ module _ {A : Type 0} where
   lay-times-done l at b times j h =
       let e : times - j ≡ 0 = omega arith in
       rw e
-
-  -- the front of a row in which a text is laid from its start
-  pub take-laid : (l vs : List A) (n : ℕ) → length vs ≡ n → n ≤ length l → take n (sets l 0 vs) ≡ vs
-  take-laid l vs n e h =
-      let f : 0 + length vs ≤ length l = omega arith in
-      rw (sets-eq vs l 0 f) (take-at vs (drop (0 + length vs) l) n e)
 
 -- two writers, one after the other
 pub laid-then : {a b c : List ℕ} {i j k : ℕ} {s t : List ℕ} → Laid a b i j s → Laid b c j k t → Laid a c i k (s ++ t)

@@ -2,7 +2,7 @@
 ghost use mathlib.Core.Path.{_≡_};
 ghost use Prim.Native.Nat.{_+_, _<_, _≤_};
 ghost use lib.Dec.{T};
-ghost use lib.ListN.{length};
+ghost use lib.ListN.{length, getD};
 ghost use Rattle.laws.specs.Laid.{Laid};
 ghost use Rattle.meaning.specs.Readers.{matchName};
 ghost use Rattle.names.specs.Table.{table, nameAt, tableOk, foundIn};
@@ -33,6 +33,14 @@ pub fn first_name(rows: &[u8], lens: &[u8], text: &[u8]) -> Found
         }
     }
     Found::Nothing
+}
+
+// How many bytes a name has.
+pub fn length_at(lens: &[u8], index: usize) -> usize
+    requires { ⌜ index < length (now lens) ⌝ }
+    ensures { λ r. ⌜ r ≡ getD (now (lens .entry)) index 0 ⌝ }
+{
+    lens[index] as usize
 }
 
 // Writes a name at a place and gives the next place.

@@ -1,12 +1,11 @@
 -- What a write answers and leaves of the output: refused by a pattern or a field, with room, without.
 use mathlib.Core.List.{List}
-use mathlib.Core.Path.{_≡_, refl, _∙_}
+use mathlib.Core.Path.{_≡_, refl}
 use Prim.Native.Nat.{ℕ, _≤_, _<_}
 use borrow.Author.Tests.{le-leb, lt-leb}
-use lib.ListN.{length, take}
+use lib.ListN.{length}
 use lib.Seq.{sets}
 use Rattle.laws.proofs.Checks.{else-assoc}
-use Rattle.laws.proofs.Laid.{take-laid}
 use Rattle.laws.proofs.Told.{by-whole}
 use Rattle.meaning.specs.Answers.{_else_, patternCheck, fieldsCheck, roomCheck}
 use Rattle.meaning.specs.Names.{english}
@@ -17,7 +16,6 @@ use Rattle.meaning.specs.declared.Fields.{Fields}
 use Rattle.meaning.specs.declared.Pair.{Pair}
 use Rattle.meaning.specs.declared.Refusal.{Refusal}
 use Rattle.meaning.specs.declared.Refusal.the-variants.{NoRoom}
-use Rattle.meaning.specs.declared.Wrote.{Wrote}
 use Rattle.meaning.specs.declared.Wrote.the-variants as wrote
 
 module _ (pair : Pair) (p : List ℕ) (f : Fields) (out : List ℕ) where
@@ -31,13 +29,6 @@ module _ (pair : Pair) (p : List ℕ) (f : Fields) (out : List ℕ) where
         × (output pair english p f out ≡ sets out 0 (text pair english p f))
     unfolding write output writeCheck
     with-room fits = rw (pattern, fields, le-leb _ _ fits) (refl, refl)
-
-    -- what is found in a row that was written
-    pub found : {r : Wrote} {row : List ℕ} → Writes pair english p f out r row → length (text pair english p f) ≤ length out
-        → (r ≡ wrote.Length (length (text pair english p f))) × (take (length (text pair english p f)) row ≡ text pair english p f)
-    found w fits =
-        let room = with-room fits in
-        (w .0 .whole ∙ room .0, rw (w .1, room .1) (take-laid out (text pair english p f) _ refl fits))
 
     pub no-room : length out < length (text pair english p f)
         → Writes pair english p f out (wrote.Refused (NoRoom (length (text pair english p f)))) out

@@ -1,4 +1,4 @@
-// The walk over the parts of a pattern, which lays their texts one after the other.
+// The walks over the parts of a pattern: one measures their texts, one lays them one after the other.
 ghost use mathlib.Core.Path.{_≡_};
 ghost use Prim.Native.Nat.{_≤_};
 ghost use lib.ListN.{length};
@@ -7,11 +7,29 @@ ghost use Rattle.meaning.specs.Answers.{fieldsCheck};
 ghost use Rattle.meaning.specs.Names.{english};
 ghost use Rattle.meaning.specs.Whole.{text};
 ghost use Rattle.meaning.specs.declared.Checked.the-variants.{Fine};
+use format::lengths::step_length;
 use format::step::format_step;
 use meaning::Fields;
 use meaning::Pair;
 use pattern::parts::next_part;
 use rules::step::step_of;
+
+// How many bytes the text of all parts has, where they are at most 2,048.
+pub fn text_length(pair: Pair, pattern: &[u8], f: Fields) -> usize
+    requires { ⌜ fieldsCheck f ≡ Fine ⌝ }
+    requires { ⌜ length (text pair english (now pattern) f) ≤ 2048 ⌝ }
+    ensures { λ r. ⌜ r ≡ length (text pair english (now (pattern .entry)) f) ⌝ }
+{
+    let mut n = 0;
+    let mut from = 0;
+    while from < pattern.len() {
+        let part = next_part(pattern, from);
+        let step = step_of(pair, pattern, part);
+        n += step_length(step, pattern, f);
+        from += part.length;
+    }
+    n
+}
 
 // All parts, where there is room for their text.
 pub fn format_parts(pair: Pair, pattern: &[u8], f: Fields, out: &mut [u8]) -> usize

@@ -2,7 +2,7 @@
 -- table that holds some names, a turn over the bytes of a name, and a turn over names.
 use mathlib.Core.Bool.{Bool, true, false}
 use mathlib.Core.List.{List, [], _∷_}
-use mathlib.Core.Path.{_≡_, refl, ap, _∙_}
+use mathlib.Core.Path.{_≡_, refl, ap, sym, _∙_}
 use Prim.Native.Nat.{ℕ, zero, suc, _+_, _*_, _≤_, _<_}
 use native.Mathlib.Numerals.{add-one}
 use native.Mathlib.Omega.{arith}
@@ -59,9 +59,15 @@ row rows lens i t h =
 -- ---- a table that holds these names, for the calls over it
 
 module _ {rows lens : List ℕ} {held these : List (List ℕ)} (t : IsTable rows lens held) (e : held ≡ these) where
+  pub index-asked : (i : ℕ) → i < length these → i < length lens
+  index-asked i h = omega (arith, table-length rows lens, ap length (t .held ∙ e))
+
+  pub length-told : (i : ℕ) → i < length these → getD lens i 0 ≡ length (getD these i [])
+  length-told i h = sym (rw (t .held ∙ e) at (row rows lens i (t .whole) (index-asked i h) .size))
+
   pub put-asked : (i at room : ℕ) → i < length these → at + length (getD these i []) ≤ room
       → T (tableOk rows lens) × ((i < length lens) × (at + length (nameAt rows lens i) ≤ room))
-  put-asked i at room h k = (t .whole, (omega (arith, table-length rows lens, ap length (t .held ∙ e)), rw (t .held ∙ e) k))
+  put-asked i at room h k = (t .whole, (index-asked i h, rw (t .held ∙ e) k))
 
   pub put-told : {old new : List ℕ} {at next : ℕ} (i : ℕ) → Laid old new at next (nameAt rows lens i) → Laid old new at next (getD these i [])
   put-told i l = rw (t .held ∙ e) at l

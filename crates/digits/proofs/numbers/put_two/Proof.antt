@@ -1,7 +1,8 @@
--- The tens and the ones.
+-- The ones and the tens.
 use borrow.Author.Needs.{needs}
-use Prim.Native.Nat.{_/_, _%_}
+use Prim.Native.Nat.{_+_, _/_, _%_}
 use lib.ListN.{length-set}
+use lib.Seq.{set-comm}
 use mathlib.Core.Path.{_≡_}
 use native.Mathlib.Numerals.{add-one}
 use native.Mathlib.Omega.{arith}
@@ -9,29 +10,23 @@ use Rattle.meaning.specs.Bytes.{digits}
 use Rattle.digits.proofs.numbers.put_two.Statement.{statement}
 use Rattle.digits.proofs.numbers.put_two.Tie as tie
 
-cast-t6 : tie.Need-cast-t6
-cast-t6 c = search needs
-
-add-t7 : tie.Need-add-t7
-add-t7 c = search needs
-
 cast-out : tie.Need-cast-out
 cast-out c = search needs
 
 add-out : tie.Need-add-out
 add-out c = search needs
 
-array-read-out : tie.Need-array-read-out
-array-read-out c = search needs
+add-out-2 : tie.Need-add-out-2
+add-out-2 c = search needs
 
 slice-write-out : tie.Need-slice-write-out
 slice-write-out c = search needs
 
-array-read-out-2 : tie.Need-array-read-out-2
-array-read-out-2 c = search needs
+cast-out-2 : tie.Need-cast-out-2
+cast-out-2 c = search needs
 
-add-out-2 : tie.Need-add-out-2
-add-out-2 c = search needs
+add-out-3 : tie.Need-add-out-3
+add-out-3 c = search needs
 
 slice-write-out-2 : tie.Need-slice-write-out-2
 slice-write-out-2 c = simp length-set (omega (arith, c .pre .1))
@@ -46,20 +41,18 @@ returns : tie.Need-returns
 unfolding digits
 returns c =
     let tens : c .args .n / 10 % 10 ≡ c .args .n / 10 = omega arith in
-    record { end = omega arith; held = rw (tens, add-one) }
+    record { end = omega arith; held = rw (tens, set-comm _ (c .args .at + 1) (c .args .at) _ _ (omega arith), add-one) }
 
 pub put-two-spec : {M : Type 1} → statement M
 put-two-spec =
     tie.close
     (tie.spec
-    cast-t6
-    add-t7
     cast-out
     add-out
-    array-read-out
-    slice-write-out
-    array-read-out-2
     add-out-2
+    slice-write-out
+    cast-out-2
+    add-out-3
     slice-write-out-2
     add-result
     same-length

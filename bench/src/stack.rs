@@ -1,0 +1,218 @@
+//! How deep each exported function goes: the stack below a call is painted, and what is paint no longer was used.
+
+use crate::ours::ROOM;
+use crate::records::{Record, CURRENT_YEAR};
+use crate::rows::Row;
+use harness::Fields;
+use sheet::raw;
+use std::fmt::Write;
+use std::hint::black_box;
+use std::thread;
+
+/// More than any function takes, and a thread that has it.
+const PAINTED: usize = 64 * 1024;
+const THREAD: usize = 16 * PAINTED;
+const PAINT: u8 = 0xa5;
+
+/// Every list of names, and a number, a year and a zone.
+const NAMES: &str = "GGGG qqqq MMMM eeee bbbb aaaa yyyyyyyy nnnnn XXXXX";
+
+type Rows = unsafe extern "C" fn(*const u8, usize, *mut i64, usize, *mut i64, usize) -> u32;
+
+/// Where the stack ends, downwards.
+#[cfg(target_arch = "x86_64")]
+#[inline(always)]
+fn stack_pointer() -> usize {
+    let pointer: usize;
+    // SAFETY: a register is read.
+    unsafe { std::arch::asm!("mov {}, rsp", out(reg) pointer, options(nomem, nostack, preserves_flags)) };
+    pointer
+}
+
+#[cfg(target_arch = "aarch64")]
+#[inline(always)]
+fn stack_pointer() -> usize {
+    let pointer: usize;
+    // SAFETY: a register is read.
+    unsafe { std::arch::asm!("mov {}, sp", out(reg) pointer, options(nomem, nostack, preserves_flags)) };
+    pointer
+}
+
+/// How many bytes below the stack pointer a call leaves changed. The first call, in which a linker may be at work, does not
+/// count.
+#[inline(never)]
+fn depth(mut call: impl FnMut() -> u32) -> usize {
+    black_box(call());
+    let top = stack_pointer();
+    // SAFETY: the thread's stack has PAINTED bytes below this frame, and nothing is kept there between calls.
+    unsafe {
+        for place in 1..PAINTED {
+            ((top - place) as *mut u8).write_volatile(PAINT);
+        }
+        black_box(call());
+        (1..PAINTED)
+            .rev()
+            .find(|place| ((top - place) as *const u8).read_volatile() != PAINT)
+            .unwrap_or(0)
+    }
+}
+
+fn of_write(write: raw::Writer, pattern: &[u8], f: &Fields, out: &mut [u8]) -> (usize, usize) {
+    let mut answer = [0; raw::WRITE_ANSWER];
+    let used = depth(|| {
+        // SAFETY: each pointer goes with the length of the slice that it comes from.
+        unsafe {
+            write(
+                pattern.as_ptr(),
+                pattern.len(),
+                f.year,
+                f.month,
+                f.day,
+                f.day_of_year,
+                f.week,
+                f.weekday,
+                f.nanoseconds,
+                f.offset,
+                out.as_mut_ptr(),
+                out.len(),
+                answer.as_mut_ptr(),
+                answer.len(),
+            )
+        }
+    });
+    (used, answer[0] as usize)
+}
+
+fn of_read(read: raw::Reader, pattern: &[u8], text: &[u8]) -> usize {
+    let mut answer = [0; raw::READ_ANSWER];
+    depth(|| {
+        // SAFETY: each pointer goes with the length of the slice that it comes from.
+        unsafe {
+            read(
+                pattern.as_ptr(),
+                pattern.len(),
+                text.as_ptr(),
+                text.len(),
+                CURRENT_YEAR,
+                answer.as_mut_ptr(),
+                answer.len(),
+            )
+        }
+    })
+}
+
+fn of_rows(function: Rows, pattern: &[u8]) -> usize {
+    let mut answer = [0; raw::SPLIT_ANSWER];
+    let mut row = [0; raw::SPLIT_PARTS];
+    depth(|| {
+        // SAFETY: each pointer goes with the length of the slice that it comes from.
+        unsafe {
+            function(
+                pattern.as_ptr(),
+                pattern.len(),
+                answer.as_mut_ptr(),
+                answer.len(),
+                row.as_mut_ptr(),
+                row.len(),
+            )
+        }
+    })
+}
+
+fn of_check(pattern: &[u8]) -> usize {
+    let mut answer = [0; raw::CHECK_ANSWER];
+    depth(|| {
+        // SAFETY: each pointer goes with the length of the slice that it comes from.
+        unsafe {
+            raw::sheet_check(
+                pattern.as_ptr(),
+                pattern.len(),
+                CURRENT_YEAR,
+                answer.as_mut_ptr(),
+                answer.len(),
+            )
+        }
+    })
+}
+
+fn of_parse_offset(text: &[u8]) -> usize {
+    let mut answer = [0; raw::OFFSET_ANSWER];
+    // SAFETY: each pointer goes with the length of the slice that it comes from.
+    depth(|| unsafe { raw::sheet_parse_offset(text.as_ptr(), text.len(), answer.as_mut_ptr(), answer.len()) })
+}
+
+/// The depths by one pattern, in the order of `FUNCTIONS`.
+fn depths(pattern: &[u8], f: &Fields) -> Vec<usize> {
+    let mut out = [0; ROOM];
+    let (write, length) = of_write(raw::sheet_write, pattern, f, &mut out);
+    let text = out[..length].to_vec();
+    vec![
+        write,
+        of_write(raw::sheet_write, pattern, f, &mut out[..length]).0,
+        of_write(raw::sheet_write, pattern, f, &mut out[..length - 1]).0,
+        of_write(raw::sheet_write_date, pattern, f, &mut out).0,
+        of_read(raw::sheet_read, pattern, &text),
+        of_read(raw::sheet_read_date, pattern, &text),
+        of_check(pattern),
+        of_rows(raw::sheet_split, pattern),
+        of_rows(raw::sheet_units, pattern),
+    ]
+}
+
+const FUNCTIONS: [&str; 9] = [
+    "write",
+    "write, room to the byte",
+    "write, a byte too little",
+    "write_date",
+    "read",
+    "read_date",
+    "check",
+    "split",
+    "units",
+];
+
+/// The table: a line for each function, a column for each pattern.
+pub fn table(rows: &[Row], records: &[Record]) -> String {
+    let patterns: Vec<&str> = rows.iter().map(|row| row.pattern.as_str()).chain([NAMES]).collect();
+    let fields = records[0].fields;
+    let (columns, offset): (Vec<Vec<usize>>, usize) = with_stack(|| {
+        let columns = patterns
+            .iter()
+            .map(|pattern| depths(pattern.as_bytes(), &fields))
+            .collect();
+        (columns, of_parse_offset(b"+05:30"))
+    });
+    let mut table = String::from("Bytes of stack that a call takes, with its return address\n\n");
+    for (number, pattern) in patterns.iter().enumerate() {
+        let shown = if pattern.len() > 60 {
+            "256 bytes of pattern"
+        } else {
+            pattern
+        };
+        let _ = writeln!(table, "{}: {shown}", number + 1);
+    }
+    let _ = write!(table, "\n{:<24}", "");
+    for number in 1..=patterns.len() {
+        let _ = write!(table, "{number:>6}");
+    }
+    for (line, function) in FUNCTIONS.iter().enumerate() {
+        let _ = write!(table, "\n{function:<24}");
+        for column in &columns {
+            let _ = write!(table, "{:>6}", column[line]);
+        }
+    }
+    let _ = write!(table, "\n{:<24}{offset:>6}\n", "parse_offset, +05:30");
+    table
+}
+
+/// In a thread, whose stack is known to be large enough.
+fn with_stack<T: Send>(measured: impl FnOnce() -> T + Send) -> T {
+    thread::scope(|scope| {
+        thread::Builder::new()
+            .stack_size(THREAD)
+            .spawn_scoped(scope, measured)
+            .expect("a thread can be started")
+            .join()
+            .expect("what is measured does not panic")
+    })
+}
