@@ -11,7 +11,7 @@
  * Threads and stack. The functions have no state: any thread may call any of them at any time, with rows and an `out` that no
  * other thread uses meanwhile. A call takes no more than SHEET_MOST_STACK bytes of the stack.
  *
- * What is returned. SHEET_ACCEPTED; or the number of a refusal, 1 to 14; or SHEET_ROW_TOO_SMALL where a row has fewer
+ * What is returned. SHEET_ACCEPTED; or the number of a refusal, 1 to 14 or 19; or SHEET_ROW_TOO_SMALL where a row has fewer
  * entries than the function asks for: then nothing is altered.
  *
  * What is altered. Accepted, the first entries of `answer`, as many as the function asks for, are what its comment says, and a
@@ -73,6 +73,7 @@ extern "C" {
 #define SHEET_OFFSET_LENGTH 12   /* an offset of another length than 6: its length */
 #define SHEET_OFFSET_RANGE 13    /* an offset's hour or minute is too large: 1 or 2 */
 #define SHEET_CURRENT_YEAR 14    /* a current year that is not 1 to 9999: that year */
+#define SHEET_PLUS_SIGN 19       /* a plus as the first byte of a number: part, place */
 #define SHEET_ROW_TOO_SMALL 100  /* a row is too small: nothing is altered, and there are no details */
 
 /* The units of a reading: each one's bit in the mask and its place among the values. */
@@ -122,7 +123,8 @@ uint32_t sheet_write_date(const uint8_t *pattern, size_t pattern_len, int32_t ye
 /* Reads a text by a pattern; `year` is the current year, 1 to 9999, in whose millennium a year of two digits is.
  * Answers: how many bytes were read (a rest is allowed), the mask with bit k set where unit k was read, how many units that is,
  * and the fifteen values by unit, 0 where one was not read. No value is held to a range.
- * Refuses: 1, 2, 3, 14, 6, 7, the first in this order, then 8 to 11 at the first part that can't be read. */
+ * Refuses: 1, 2, 3, 14, 6, 7, the first in this order, then 8 to 11 or 19 at the first part that
+ * can't be read. */
 uint32_t sheet_read(const uint8_t *pattern, size_t pattern_len, const uint8_t *text, size_t text_len, int32_t year,
                     int64_t *answer, size_t answer_len);
 
@@ -135,7 +137,7 @@ uint32_t sheet_was_read(int64_t mask, uint32_t unit);
 
 /* Reads an offset such as +05:30, or Z, by itself.
  * Answers: the seconds, and 0.
- * Refuses: 6, 7, 12, 9 (part 0, place), 13, the first in this order. */
+ * Refuses: 6, 7, 12, then 19 or 9 (part 0, place) for the hour and for the minute, 13, the first in this order. */
 uint32_t sheet_parse_offset(const uint8_t *text, size_t text_len, int64_t *answer, size_t answer_len);
 
 /* Splits a pattern into its parts.
@@ -176,6 +178,7 @@ static inline const char *sheet_refusal_text(uint32_t number) {
     case SHEET_OFFSET_LENGTH: return "the offset has another length than +05:30, and does not begin with Z";
     case SHEET_OFFSET_RANGE: return "the hour or the minute of the offset is too large";
     case SHEET_CURRENT_YEAR: return "the current year is not from 1 to 9999";
+    case SHEET_PLUS_SIGN: return "the text has a plus in front of a number";
     case SHEET_ROW_TOO_SMALL: return "a row for the answer is too small";
     default: return "no such number";
     }

@@ -1,13 +1,14 @@
 //! The comparison rule: the one line that the specification and the Rust together allow for a request.
 //!
-//! First come the specification's limits in its order. Beyond them the Rust decides: where it answers, its
-//! answer is the line; where it doesn't, the line is the specification's number for the way it stopped, read
-//! off its wording, with the part and the place that it had come to.
+//! First come the specification's limits in its order. Then the one exception: a number that begins with a plus is
+//! refused 19. Beyond these the Rust decides: where it answers, its answer is the line; where it doesn't, the line is the
+//! specification's number for the way it stopped, read off its wording, with the part and the place that it had come to.
 
 use crate::answer::{self, as_pattern, as_text};
 use crate::limits::{field_limit, pattern_limit, refused, room_limit, text_limit, year_limit};
+use crate::pluses::{plus_in, IN_AN_OFFSET};
 use crate::request::Request;
-use crate::walk::{self, Cause, Kind, Stopped};
+use crate::walk::{self, Cause, Kind, Pair, Stopped, Walked};
 
 /// The expected line, by who decides it.
 #[derive(Debug, PartialEq, Eq)]
@@ -18,12 +19,17 @@ pub enum Expected {
     Refused(String),
     /// The Rust answers.
     Accepted(String),
+    /// The Rust came to a number that begins with a plus, whatever it answered.
+    Excepted(String),
 }
 
 impl Expected {
     pub fn line(&self) -> &str {
         match self {
-            Expected::Limit(line) | Expected::Refused(line) | Expected::Accepted(line) => line,
+            Expected::Limit(line)
+            | Expected::Refused(line)
+            | Expected::Accepted(line)
+            | Expected::Excepted(line) => line,
         }
     }
 }
@@ -89,20 +95,58 @@ fn from_the_rust(request: &Request) -> Expected {
             text,
             now,
         } => {
-            let pattern = as_pattern(pattern).expect(ASCII);
-            match walk::read(*pair, pattern, as_text(text).expect(ASCII), *now) {
+            let (pattern, text) = (
+                as_pattern(pattern).expect(ASCII),
+                as_text(text).expect(ASCII),
+            );
+            let walked = walk::walked(*pair, pattern, text, *now);
+            if let Some(line) = plus_read(*pair, pattern, text, &walked) {
+                return Expected::Excepted(line);
+            }
+            match walked.outcome {
                 Ok(reading) => Expected::Accepted(answer::read(&reading)),
                 Err(stopped) => Expected::Refused(refused_read(pattern, &stopped)),
             }
         }
         Request::ParseOffset { text } => {
             let text = as_text(text).expect(ASCII);
-            match walk::parse_offset(text) {
+            let line = match walk::parse_offset(text) {
                 Ok(seconds) => Expected::Accepted(answer::offset(seconds)),
                 Err(cause) => Expected::Refused(refused_offset(text, &cause)),
-            }
+            };
+            plus_in_offset(text, line.line()).map_or(line, Expected::Excepted)
         }
     }
+}
+
+/// Refusal 19, where a part that the Rust came to has a number that begins with a plus, and it stopped at no place before.
+fn plus_read(pair: Pair, pattern: &str, text: &str, walked: &Walked) -> Option<String> {
+    let parts = walk::split(pattern);
+    let (number, place) = walked
+        .places
+        .iter()
+        .enumerate()
+        .find_map(|(number, began)| {
+            let place = plus_in(pair, pattern, parts[number], &text[*began..])?;
+            Some((number, began + place))
+        })?;
+    match &walked.outcome {
+        Err(stopped) if stopped.part == number && stopped.reached < place => None,
+        _ => Some(refused(19, &[number as i64, place as i64])),
+    }
+}
+
+/// The same of an offset by itself: each number of two bytes in its turn, after 12 and before the 9 of the same bytes.
+fn plus_in_offset(text: &str, line: &str) -> Option<String> {
+    if text.starts_with('Z') || text.len() != 6 {
+        return None;
+    }
+    let no_hour = refused(9, &[0, IN_AN_OFFSET[0] as i64]);
+    let place = IN_AN_OFFSET
+        .into_iter()
+        .find(|place| text.as_bytes()[*place] == b'+')?;
+    let stopped_before = line == no_hour && place != IN_AN_OFFSET[0];
+    (!stopped_before).then(|| refused(19, &[0, place as i64]))
 }
 
 fn refused_read(pattern: &str, stopped: &Stopped) -> String {

@@ -13,6 +13,7 @@ pub mod expected;
 pub mod generator;
 pub mod limits;
 pub mod options;
+mod pluses;
 pub mod printing;
 pub mod request;
 pub mod running;

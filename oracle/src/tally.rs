@@ -28,6 +28,7 @@ struct Row {
     accepted: usize,
     refused: usize,
     limits: usize,
+    excepted: usize,
     differences: usize,
 }
 
@@ -60,6 +61,7 @@ impl Row {
             Expected::Limit(_) => self.limits += 1,
             Expected::Refused(_) => self.refused += 1,
             Expected::Accepted(_) => self.accepted += 1,
+            Expected::Excepted(_) => self.excepted += 1,
         }
     }
 
@@ -69,6 +71,7 @@ impl Row {
             accepted: self.accepted + other.accepted,
             refused: self.refused + other.refused,
             limits: self.limits + other.limits,
+            excepted: self.excepted + other.excepted,
             differences: self.differences + other.differences,
         }
     }
@@ -76,8 +79,13 @@ impl Row {
     fn print(&self, name: &str, f: &mut fmt::Formatter<'_>) -> fmt::Result {
         writeln!(
             f,
-            "{name:<14}{:>10}{:>10}{:>10}{:>10}{:>13}",
-            self.requests, self.accepted, self.refused, self.limits, self.differences
+            "{name:<14}{:>10}{:>10}{:>10}{:>10}{:>10}{:>13}",
+            self.requests,
+            self.accepted,
+            self.refused,
+            self.limits,
+            self.excepted,
+            self.differences
         )
     }
 }
@@ -87,8 +95,8 @@ impl fmt::Display for Tally {
         self.differences.print_first(f)?;
         writeln!(
             f,
-            "{:<14}{:>10}{:>10}{:>10}{:>10}{:>13}",
-            "", "requests", "accepted", "refused", "limits", "differences"
+            "{:<14}{:>10}{:>10}{:>10}{:>10}{:>10}{:>13}",
+            "", "requests", "accepted", "refused", "limits", "excepted", "differences"
         )?;
         for op in Op::ALL {
             self.by_op[op as usize].print(op.name(), f)?;

@@ -49,6 +49,12 @@ pub struct Stopped {
     pub cause: Cause,
 }
 
+/// A read with the places in the text where the parts that it came to began.
+pub struct Walked {
+    pub places: Vec<usize>,
+    pub outcome: Result<Reading, Stopped>,
+}
+
 /// A pattern's parts as the Rust holds them, for the full pair to write and read one by one.
 pub struct Parts(Vec<String>);
 
@@ -94,11 +100,28 @@ pub fn write(pair: Pair, pattern: &str, fields: &Fields) -> Result<String, Cause
 }
 
 pub fn read(pair: Pair, pattern: &str, text: &str, now: i32) -> Result<Reading, Stopped> {
+    walked(pair, pattern, text, now).outcome
+}
+
+pub fn walked(pair: Pair, pattern: &str, text: &str, now: i32) -> Walked {
+    let mut places = Vec::new();
+    let outcome = read_noting(pair, pattern, text, now, &mut places);
+    Walked { places, outcome }
+}
+
+fn read_noting(
+    pair: Pair,
+    pattern: &str,
+    text: &str,
+    now: i32,
+    places: &mut Vec<usize>,
+) -> Result<Reading, Stopped> {
     give_current_year(now);
     let mut rest = text.to_string();
     let mut reading = Reading::default();
     for (number, part) in parse_format_string(pattern).iter().enumerate() {
         let began = text.len() - rest.len();
+        places.push(began);
         let carried = guarded(|| read_part(pair, part, &mut rest)).map_err(|cause| Stopped {
             part: number,
             began,

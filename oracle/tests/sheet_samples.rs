@@ -2,7 +2,7 @@
 //! and which line the comparer asks of a program.
 
 use harness::answer::answer;
-use harness::expected::expected;
+use harness::expected::{expected, Expected};
 use harness::request::{hex, Request};
 use harness::walk::Pair;
 use harness::Fields;
@@ -131,9 +131,47 @@ fn quotes_are_read() {
 #[test]
 fn numbers_are_read() {
     reads(&read("M", "12", 2025), "1 2 1", &[0, 1]);
-    reads(&read("dd", "+5", 2025), "2 4 1", &[0, 0, 5]);
     reads(&read("d/M", "3/12", 2025), "3 6 2", &[0, 1, 3]);
     reads(&read("HH", "99", 2025), "2 16 1", &[0, 0, 0, 0, 99]);
+}
+
+/// The Rust takes a plus in front of a number; ours refuses it, behind 8 and before 9, at the first of a reading.
+#[test]
+fn no_number_takes_a_plus() {
+    let excepted = |pattern: &str, text: &str, line: &str| {
+        assert_eq!(
+            expected(&read(pattern, text, 2025)),
+            Expected::Excepted(line.to_string())
+        );
+    };
+    excepted("dd", "+5", "refused 19 0 0");
+    excepted("dd", "+a", "refused 19 0 0");
+    excepted("yyyyy", "+2025", "refused 19 0 0");
+    excepted("d/d", "3/+5", "refused 19 2 2");
+    excepted("d/dM", "+5/xx", "refused 19 0 0");
+    excepted("X", "++5", "refused 19 0 1");
+    excepted("XXX", "+05:+3", "refused 19 0 4");
+    refused(&read("dd", "+", 2025), "refused 8 0 0");
+    refused(&read("y", "+5", 2025), "refused 9 0 0");
+    refused(&read("XXX", "+a5:+3", 2025), "refused 9 0 1");
+    reads(&read("w", "+5", 2025), "2 0 0", &[]);
+    let offset = |text: &str| expected(&Request::ParseOffset { text: text.into() });
+    assert_eq!(
+        offset("++5:30"),
+        Expected::Excepted("refused 19 0 1".to_string())
+    );
+    assert_eq!(
+        offset("+05:+3"),
+        Expected::Excepted("refused 19 0 4".to_string())
+    );
+    assert_eq!(
+        offset("+a5:+3"),
+        Expected::Refused("refused 9 0 1".to_string())
+    );
+    assert_eq!(
+        offset("+24:+3"),
+        Expected::Excepted("refused 19 0 4".to_string())
+    );
 }
 
 #[test]

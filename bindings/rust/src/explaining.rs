@@ -39,7 +39,7 @@ fn explained(
     text: &[u8],
     refusal: &Refusal,
 ) -> Option<String> {
-    let (raw::TOO_FEW..=raw::NO_SIGN, &[number, place]) = (refusal.number(), refusal.details()) else {
+    let (raw::TOO_FEW..=raw::NO_SIGN | raw::PLUS_SIGN, &[number, place]) = (refusal.number(), refusal.details()) else {
         return None;
     };
     let part = *split(pattern).ok()?.get(number as usize)?;

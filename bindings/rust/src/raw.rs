@@ -46,6 +46,7 @@ pub const NO_SIGN: u32 = 11;
 pub const OFFSET_LENGTH: u32 = 12;
 pub const OFFSET_RANGE: u32 = 13;
 pub const CURRENT_YEAR: u32 = 14;
+pub const PLUS_SIGN: u32 = 19;
 
 /// What is returned where a lent row is too small; then nothing is altered.
 pub const ROW_TOO_SMALL: u32 = 100;
@@ -166,6 +167,7 @@ pub fn refusal_text(number: u32) -> &'static str {
         OFFSET_LENGTH => "the offset has another length than +05:30, and does not begin with Z",
         OFFSET_RANGE => "the hour or the minute of the offset is too large",
         CURRENT_YEAR => "the current year is not from 1 to 9999",
+        PLUS_SIGN => "the text has a plus in front of a number",
         ROW_TOO_SMALL => "a row for the answer is too small",
         _ => "no such number",
     }

@@ -80,8 +80,8 @@ impl Reading {
 }
 
 /// Reads a text by a pattern. A year of two digits is in the millennium of the current year, which is 1 to 9999. No value is
-/// held to a range. Refuses with 1, 2, 3, 14, 6 or 7, the first in this order, then with 8 to 11 at the first part that can't be
-/// read.
+/// held to a range. Refuses with 1, 2, 3, 14, 6 or 7, the first in this order, then with 8 to 11 or 19 at the first part that
+/// can't be read.
 ///
 /// ```
 /// use sheet::ParseUnit;

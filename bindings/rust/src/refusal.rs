@@ -20,6 +20,7 @@ use std::fmt;
 /// | 12 | an offset by itself has not 6 bytes | the length |
 /// | 13 | an offset's hour or minute is too large | 1 or 2 |
 /// | 14 | the current year is not 1 to 9999 | that year |
+/// | 19 | a number begins with a plus | part, place |
 ///
 /// ```
 /// let refusal = sheet::read("dd/MM", "3/12", 2025).unwrap_err();
@@ -49,7 +50,7 @@ const FIELDS: [(&str, &str); 8] = [
 ];
 
 impl Refusal {
-    /// The number, 1 to 14.
+    /// The number, 1 to 14 or 19.
     pub fn number(&self) -> u32 {
         self.number
     }
@@ -62,7 +63,7 @@ impl Refusal {
     /// What is returned with the number, one or two details.
     pub fn details(&self) -> &[i64] {
         match self.number {
-            raw::TOO_FEW..=raw::NO_SIGN => &self.details,
+            raw::TOO_FEW..=raw::NO_SIGN | raw::PLUS_SIGN => &self.details,
             _ => &self.details[..1],
         }
     }
@@ -90,7 +91,9 @@ impl fmt::Display for Refusal {
                 format!("the {field}, which is {range}")
             }
             raw::NO_ROOM => format!("it needs {detail} bytes"),
-            raw::TOO_FEW..=raw::NO_SIGN => format!("at place {place}, for part {detail}, both counted from 0"),
+            raw::TOO_FEW..=raw::NO_SIGN | raw::PLUS_SIGN => {
+                format!("at place {place}, for part {detail}, both counted from 0")
+            }
             raw::OFFSET_RANGE if detail == 1 => "the hour is over 23".to_string(),
             raw::OFFSET_RANGE => "the minute is over 59".to_string(),
             _ => format!("it is {detail}"),

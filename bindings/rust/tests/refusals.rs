@@ -136,6 +136,22 @@ fn of_a_part() {
 }
 
 #[test]
+fn of_a_plus() {
+    refused(
+        read("dd/MM", "03/+5", 2025),
+        19,
+        &[2, 3],
+        "the text has a plus in front of a number: at place 3, for part 2, both counted from 0",
+    );
+    refused(
+        parse_offset("+05:+3"),
+        19,
+        &[0, 4],
+        "the text has a plus in front of a number: at place 4, for part 0, both counted from 0",
+    );
+}
+
+#[test]
 fn of_an_offset() {
     refused(
         parse_offset("+0530"),

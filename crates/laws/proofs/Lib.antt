@@ -7,6 +7,7 @@ pub mod Laid
 pub mod Names
 pub mod Numbers
 pub mod Places
+pub mod Pluses
 pub mod Readers
 pub mod Sizes
 pub mod Splitting

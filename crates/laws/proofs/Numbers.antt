@@ -3,7 +3,7 @@
 use mathlib.Core.Bool.{Bool, true, false}
 use mathlib.Core.List.{List, [], _∷_, _++_}
 use mathlib.Core.Option.{some}
-use mathlib.Core.Path.{_≡_, _∙_}
+use mathlib.Core.Path.{_≡_, refl, _∙_}
 use Prim.Native.Nat.{ℕ, _+_, _-_, _≤_, _<_}
 use native.Mathlib.Nat.{add-zero}
 use native.Mathlib.Omega.{arith}
@@ -30,8 +30,8 @@ use Rattle.laws.proofs.Tests.{both-true}
 -- a digit is no sign
 pub digit-is-bare : (kind : Numeral) (b : ℕ) → isDigit b ≡ true → signOf kind b ≡ Bare
 unfolding signOf
-digit-is-bare Count b h = let d = digit-bounds b h in rw (ne-eqb b 43 (λ e. omega arith))
-digit-is-bare Year b h = let d = digit-bounds b h in rw (ne-eqb b 43 (λ e. omega arith), ne-eqb b 45 (λ e. omega arith))
+digit-is-bare Count b h = refl
+digit-is-bare Year b h = let d = digit-bounds b h in rw (ne-eqb b 45 (λ e. omega arith))
 
 pub sized-digits : (kind : Numeral) (negative : Bool) (s : List ℕ) → 0 < length s → allDigits s ≡ true
     → decimal 0 s ≤ largest kind negative → sized kind negative s ≡ some (record { negative = negative; size = decimal 0 s })

@@ -1,22 +1,25 @@
 -- Laws of the readers that reading is made of: what each step gives where it goes on and where it stops, and one reader
 -- after the other. Proofs about reading cite these and do not open `skip` or `takeNumber`.
 use mathlib.Core.Bool.{true, false}
-use mathlib.Core.List.{List, _++_}
+use mathlib.Core.List.{List, [], _∷_, _++_}
 use mathlib.Core.Option.{none, some}
-use mathlib.Core.Path.{_≡_, _∙_}
+use mathlib.Core.Path.{_≡_, refl, _∙_}
 use Prim.Native.Nat.{ℕ, zero, suc, _+_, _≤_, _<_}
 use native.Mathlib.Nat.{eq-or-lt-of-le}
 use mathlib.Core.Logic.{_⊎_, inl, inr}
 use native.Mathlib.Omega.{arith}
+use lib.Dec.{eqb}
 use lib.ListN.{length, take, drop}
 use lib.Seq.{drop-append-seam}
-use borrow.Author.Tests.{lt-ltb, le-ltb}
-use Rattle.meaning.specs.Bytes.{digitAt}
-use Rattle.meaning.specs.Numerals.{Signed, numberOf}
+use borrow.Author.Tests.{eqb-true, lt-ltb, le-ltb}
+use Rattle.meaning.specs.Bytes.{digitAt, plus}
+use Rattle.meaning.specs.Numerals.{Signed, allDigits, plusFirst, numberOf}
 use Rattle.meaning.specs.Readers.{got, stopped, Reader, behind, _>>=_, skip, takeNumber, reach}
 use Rattle.meaning.specs.declared.Numeral.{Numeral}
+use Rattle.meaning.specs.declared.Numeral.the-variants.{Count, Year}
 use Rattle.meaning.specs.declared.Trouble.{Trouble}
-use Rattle.meaning.specs.declared.Trouble.the-variants.{TooFew, NoNumber}
+use Rattle.meaning.specs.declared.Trouble.the-variants.{TooFew}
+use Rattle.laws.proofs.Tests.{by-test}
 
 -- one reader after the other
 
@@ -44,19 +47,26 @@ pub skip-stops : (k : ℕ) (s : List ℕ) → length s < k → skip k s ≡ stop
 unfolding skip
 skip-stops k s h = rw (lt-ltb (length s) k h)
 
+-- a number has no plus in front
+plus-is-none : (kind : Numeral) (s : List ℕ) → numberOf kind (plus ∷ s) ≡ none
+unfolding numberOf allDigits
+plus-is-none Count s = refl
+plus-is-none Year s = refl
+
+number-bare : (kind : Numeral) (s : List ℕ) {n : Signed} → numberOf kind s ≡ some n → plusFirst s ≡ false
+number-bare kind [] e = refl
+number-bare kind (b ∷ s) e =
+    by-test (eqb b plus)
+    (λ p. let none′ = rw (eqb-true b plus p, plus-is-none kind s) at e in absurd (let z : _≡_ {A = ℕ} 0 1 = cc in omega arith)) (λ p. p)
+
 pub take-goes-on : (kind : Numeral) (k : ℕ) (s : List ℕ) (n : Signed) → k ≤ length s → numberOf kind (take k s) ≡ some n
     → takeNumber kind k s ≡ got k n
 unfolding takeNumber
-take-goes-on kind k s n h e = rw (le-ltb (length s) k h, e)
+take-goes-on kind k s n h e = rw (le-ltb (length s) k h, number-bare kind (take k s) e, e)
 
 pub take-stops : (kind : Numeral) (k : ℕ) (s : List ℕ) → length s < k → takeNumber kind k s ≡ stopped TooFew 0
 unfolding takeNumber
 take-stops kind k s h = rw (lt-ltb (length s) k h)
-
-pub take-refuses : (kind : Numeral) (k : ℕ) (s : List ℕ) → k ≤ length s → numberOf kind (take k s) ≡ none
-    → takeNumber kind k s ≡ stopped NoNumber 0
-unfolding takeNumber
-take-refuses kind k s h e = rw (le-ltb (length s) k h, e)
 
 -- how far a greedy number goes
 

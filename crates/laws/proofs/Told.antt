@@ -21,7 +21,7 @@ use Rattle.meaning.specs.declared.Offset.the-variants as offset
 use Rattle.meaning.specs.declared.Refusal.{Refusal}
 use Rattle.meaning.specs.declared.Refusal.the-variants.{PatternTooLong, PatternByte, LoneQuote, FieldRange, NoRoom, TextTooLong, TextByte, InPart, OffsetLength, OffsetRange, CurrentYear}
 use Rattle.meaning.specs.declared.Trouble.{Trouble}
-use Rattle.meaning.specs.declared.Trouble.the-variants.{TooFew, NoNumber, NoName, NoSign}
+use Rattle.meaning.specs.declared.Trouble.the-variants.{TooFew, NoNumber, NoName, NoSign, PlusSign}
 use Rattle.meaning.specs.declared.Verdict.{Verdict}
 use Rattle.meaning.specs.declared.Verdict.the-variants as verdict
 use Rattle.meaning.specs.declared.Wrote.{Wrote}
@@ -39,9 +39,13 @@ one ds = natAbs (getD ds 0 (pos 0))
 abbrev two : List ℤ → ℕ
 two ds = natAbs (getD ds 1 (pos 0))
 
+-- for a number that no refusal has
+abbrev unused : List ℤ → Refusal
+unused ds = LoneQuote 0
+
 abbrev table : List (List ℤ → Refusal)
 table =
-    (λ ds. LoneQuote 0)
+    unused
     ∷ (λ ds. PatternTooLong (one ds))
     ∷ (λ ds. PatternByte (one ds))
     ∷ (λ ds. LoneQuote (one ds))
@@ -56,10 +60,15 @@ table =
     ∷ (λ ds. OffsetLength (one ds))
     ∷ (λ ds. OffsetRange (one ds))
     ∷ (λ ds. CurrentYear (getD ds 0 (pos 0)))
+    ∷ unused
+    ∷ unused
+    ∷ unused
+    ∷ unused
+    ∷ (λ ds. InPart PlusSign (one ds) (two ds))
     ∷ []
 
 abbrev refusalOf : ℕ → List ℤ → Refusal
-refusalOf n ds = getD table n (λ _. LoneQuote 0) ds
+refusalOf n ds = getD table n unused ds
 
 -- a refusal is found again, and its number is not that of what is accepted
 record Found (why : Refusal) : Type 0 where
@@ -72,6 +81,7 @@ in-part TooFew part place = record { again = refl; not-0 = refl }
 in-part NoNumber part place = record { again = refl; not-0 = refl }
 in-part NoName part place = record { again = refl; not-0 = refl }
 in-part NoSign part place = record { again = refl; not-0 = refl }
+in-part PlusSign part place = record { again = refl; not-0 = refl }
 
 found : (why : Refusal) → Found why
 unfolding number details

@@ -17,7 +17,7 @@ use Rattle.meaning.specs.Bytes.{when, both, digitAt, num, plus, minus}
 use Rattle.meaning.specs.Names.{Book}
 use Rattle.meaning.specs.Numerals.{Signed, numberOf}
 use Rattle.meaning.specs.Readers.{got, _>>=_, done, skip, takeCount, ahead, behindUtc, zoneSign}
-use Rattle.meaning.specs.Reading.{colonLength, takeGroup, zoneGroup, zoneSize, zoneBehind, readRule, carriedOffset}
+use Rattle.meaning.specs.Reading.{colonLength, takeGroup, zoneGroup, zoneSizeWith, zoneSize, zoneBehind, readRule, carriedOffset}
 use Rattle.meaning.specs.Writing.{isNegative, colonText, groupText, offsetText, zoneText}
 use Rattle.meaning.specs.declared.Carried.the-variants.{Value}
 use Rattle.meaning.specs.declared.Group.{Group}
@@ -105,7 +105,7 @@ module _ (c : Bool) (minutes seconds : Group) (n : ℕ) (r : List ℕ) (small : 
 
   size-comes-back : zoneSize c minutes seconds (num 2 (n / 3600) ++ (groupsText c minutes seconds n ++ r))
       ≡ got (length (num 2 (n / 3600)) + length (groupsText c minutes seconds n)) (offsetValue minutes seconds n)
-  unfolding zoneSize offsetValue
+  unfolding zoneSizeWith offsetValue
   size-comes-back =
       in-turn (takeCount 2) _ (num 2 (n / 3600)) (groupsText c minutes seconds n) r (n / 3600) _
       (two-digits (n / 3600) _ (omega arith)) (groups-come-back (n / 3600))

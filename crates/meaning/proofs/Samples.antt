@@ -20,7 +20,8 @@ use Rattle.meaning.specs.declared.Checked.the-variants.{Fine, Refused}
 use Rattle.meaning.specs.declared.Fields.{Fields}
 use Rattle.meaning.specs.declared.Pair.the-variants.{Full}
 use Rattle.meaning.specs.declared.Reading.{Reading}
-use Rattle.meaning.specs.declared.Refusal.the-variants.{LoneQuote}
+use Rattle.meaning.specs.declared.Refusal.the-variants.{LoneQuote, InPart}
+use Rattle.meaning.specs.declared.Trouble.the-variants.{PlusSign}
 use Rattle.meaning.specs.declared.Wrote.{Wrote}
 use Rattle.meaning.specs.declared.Wrote.the-variants as wrote
 
@@ -47,7 +48,8 @@ asked (writing year p) =
     wrote′ (write Full english (bytes p) (recordR year) blank) (output Full english (bytes p) (recordR year) blank)
 asked (reading p s) = read′ (read Full english (bytes p) (bytes s) (pos 2025))
 
--- the text, the refusal of a lone quote at a place, the month and the day with the mask, the units and the bytes read
+-- the text, the refusal of a lone quote at a place, the month and the day with the mask, the units and the bytes read, the
+-- refusal of a plus at a place of the first part
 pub gives : String → ℕ → Answer
 unfolding blank
 gives t n = wrote′ (wrote.Length n) (lib.Seq.sets blank 0 (bytes t))
@@ -67,6 +69,17 @@ gives′ month day mask units taken =
       units = units;
     })
 
+pub plusAt : ℕ → Answer
+plusAt place =
+    read′
+    (record {
+      checked = Refused (InPart PlusSign 0 place);
+      taken = 0;
+      values = replicate 15 (pos 0);
+      mask = 0;
+      units = 0;
+    })
+
 pub record Sample : Type 0 where
   pub question : Question
   pub answer : Answer
@@ -76,7 +89,7 @@ q ↦′ a = record { question = q; answer = a }
 
 infix 90 _↦′_
 pub table : List Sample
-unfolding gives loneQuote gives′
+unfolding gives loneQuote gives′ plusAt
 table =
     writing (pos 2025) "yyyy/MM/dd" ↦′ gives "2025/12/03" 10
     ∷ writing (pos 2025) "h 'o''clock'" ↦′ gives "7 o'clock" 9
@@ -90,10 +103,10 @@ table =
     ∷ writing (pos 2025) "'''" ↦′ loneQuote 2
     ∷ writing (pos 2025) "''" ↦′ gives "'" 1
     ∷ reading "M" "12" ↦′ gives′ (pos 1) (pos 0) 2 1 1
-    ∷ reading "dd" "+5" ↦′ gives′ (pos 0) (pos 5) 4 1 2
+    ∷ reading "dd" "+5" ↦′ plusAt 0
     ∷ reading "d/M" "3/12" ↦′ gives′ (pos 1) (pos 3) 6 2 3
     ∷ []
 
 pub samples : map (λ s. asked (s .question)) table ≡ map (λ s. s .answer) table
-unfolding table asked gives loneQuote gives′ blank english names bytes write output read writeCheck readCheck text walk valueOf wasRead bits howMany A.bytesCheck A.byteCheck A.patternCheck A.fieldsCheck A.textCheck A.currentYearCheck A.endsInLoneQuote B.num B.digits B.width B.widthIn B.digitAt N.allDigits N.decimal N.signOf N.sized N.numberOf R.skip R.takeNumber R.reach D.readStep D.readRule S.contents S.elements S.outside U.ruleOf U.roleAmong U.dateRole U.timeRole U.roleOf U.pick U.otherwiseRule W.quantityOf W.signedText W.twoDigitText W.offsetText W.ruleText W.stepOf W.endsInQuote W.steps W.stepText W.texts
+unfolding table asked gives loneQuote gives′ plusAt blank english names bytes write output read writeCheck readCheck text walk valueOf wasRead bits howMany A.bytesCheck A.byteCheck A.patternCheck A.fieldsCheck A.textCheck A.currentYearCheck A.endsInLoneQuote B.num B.digits B.width B.widthIn B.digitAt N.allDigits N.decimal N.signOf N.sized N.numberOf R.skip R.takeNumber R.reach D.readStep D.readRule S.contents S.elements S.outside U.ruleOf U.roleAmong U.dateRole U.timeRole U.roleOf U.pick U.otherwiseRule W.quantityOf W.signedText W.twoDigitText W.offsetText W.ruleText W.stepOf W.endsInQuote W.steps W.stepText W.texts
 samples = refl

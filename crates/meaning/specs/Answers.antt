@@ -19,7 +19,7 @@ use Rattle.meaning.specs.declared.Refusal.{Refusal}
 use Rattle.meaning.specs.declared.Refusal.the-variants.{PatternTooLong, PatternByte, LoneQuote, FieldRange, NoRoom, TextTooLong, TextByte, InPart, OffsetLength, OffsetRange, CurrentYear}
 use Rattle.meaning.specs.declared.Split.{Split}
 use Rattle.meaning.specs.declared.Trouble.{Trouble}
-use Rattle.meaning.specs.declared.Trouble.the-variants.{TooFew, NoNumber, NoName, NoSign}
+use Rattle.meaning.specs.declared.Trouble.the-variants.{TooFew, NoNumber, NoName, NoSign, PlusSign}
 use Rattle.meaning.specs.declared.Verdict.{Verdict}
 use Rattle.meaning.specs.declared.Verdict.the-variants as verdict
 use Rattle.meaning.specs.declared.Wrote.{Wrote}
@@ -30,6 +30,7 @@ troubleNumber TooFew = 8
 troubleNumber NoNumber = 9
 troubleNumber NoName = 10
 troubleNumber NoSign = 11
+troubleNumber PlusSign = 19
 
 unfoldable pub number : Refusal → ℕ
 number (PatternTooLong n) = 1

@@ -9,5 +9,6 @@ pub mod Readers
 pub mod Reading
 pub mod Answers
 pub mod Whole
+pub mod Pluses
 pub mod Trust
 pub mod Promises

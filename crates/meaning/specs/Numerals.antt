@@ -1,6 +1,6 @@
--- Specification, "What each symbol does", how a number is read: "an optional `+` (for a year also `-`) and at least one digit
--- and, for a year, fit 32 signed bits". Any other number has at most nine digits here and is held, as in the Rust, to 32
--- unsigned bits.
+-- Specification, "What each symbol does", how a number is read: at least one digit and nothing else, for a year with a `-`
+-- allowed in front and held to 32 signed bits. Any other number has at most nine digits here and is held, as in the Rust, to
+-- 32 unsigned bits. That a plus in front is refused by itself is in Readers.
 use mathlib.Core.Bool.{Bool, true, false}
 use mathlib.Core.List.{List, [], _∷_}
 use mathlib.Core.Option.{Option, none, some}
@@ -12,7 +12,7 @@ use Rattle.meaning.specs.Bytes.{when, both, isDigit, plus, minus}
 use Rattle.meaning.specs.declared.Numeral.{Numeral}
 use Rattle.meaning.specs.declared.Numeral.the-variants.{Count, Year}
 use Rattle.meaning.specs.declared.Sign.{Sign}
-use Rattle.meaning.specs.declared.Sign.the-variants.{Plus, Minus, Bare}
+use Rattle.meaning.specs.declared.Sign.the-variants.{Minus, Bare}
 
 unfoldable pub allDigits : List ℕ → Bool
 allDigits [] = true
@@ -33,8 +33,13 @@ integer n = when (n .negative) (negℤ (pos (n .size))) (pos (n .size))
 
 -- what the first byte says of the sign
 unfoldable pub signOf : Numeral → ℕ → Sign
-signOf Count b = when (eqb b plus) Plus Bare
-signOf Year b = when (eqb b plus) Plus (when (eqb b minus) Minus Bare)
+signOf Count b = Bare
+signOf Year b = when (eqb b minus) Minus Bare
+
+-- whether the first of these bytes is a plus
+abbrev pub plusFirst : List ℕ → Bool
+plusFirst [] = false
+plusFirst (b ∷ s) = eqb b plus
 
 -- the largest size that fits
 abbrev pub largest : Numeral → Bool → ℕ
@@ -51,7 +56,6 @@ sized kind negative (b ∷ s) =
     (some (record { negative = negative; size = decimal 0 (b ∷ s) })) none
 
 abbrev pub sizedBy : Numeral → Sign → ℕ → List ℕ → Option Signed
-sizedBy kind Plus b s = sized kind false s
 sizedBy kind Minus b s = sized kind true s
 sizedBy kind Bare b s = sized kind false (b ∷ s)
 

@@ -10,11 +10,11 @@ use lib.Dec.{eqb, ltb}
 use lib.IntN.{ℤ}
 use lib.ListN.{length, take, drop}
 use Rattle.meaning.specs.Bytes.{when, both, digitAt, plus, minus}
-use Rattle.meaning.specs.Numerals.{Signed, numberOf, integer}
+use Rattle.meaning.specs.Numerals.{Signed, plusFirst, numberOf, integer}
 use Rattle.meaning.specs.declared.Numeral.{Numeral}
 use Rattle.meaning.specs.declared.Numeral.the-variants.{Count, Year}
 use Rattle.meaning.specs.declared.Trouble.{Trouble}
-use Rattle.meaning.specs.declared.Trouble.the-variants.{TooFew, NoNumber, NoName, NoSign}
+use Rattle.meaning.specs.declared.Trouble.the-variants.{TooFew, NoNumber, NoName, NoSign, PlusSign}
 
 pub data Got (A : Type 0) : Type 0 where
   got : ℕ → A → Got A  -- how many bytes, and what they give
@@ -47,20 +47,34 @@ done a s = got 0 a
 unfoldable pub skip : ℕ → Reader Unit
 skip k s = when (ltb (length s) k) (stopped TooFew 0) (got k tt)
 
--- "take k": refusal 8 when fewer than k bytes remain, then 9 unless they are a number
+-- "take k": refusal 8 when fewer than k bytes remain, then 19 where the first of them is a plus, then 9 unless they are a
+-- number
 abbrev pub takenNumber : ℕ → Option Signed → Got Signed
 takenNumber k none = stopped NoNumber 0
 takenNumber k (some n) = got k n
 
 unfoldable pub takeNumber : Numeral → ℕ → Reader Signed
 unfolding numberOf
-takeNumber kind k s = when (ltb (length s) k) (stopped TooFew 0) (takenNumber k (numberOf kind (take k s)))
+takeNumber kind k s =
+    when (ltb (length s) k) (stopped TooFew 0)
+    (when (plusFirst (take k s)) (stopped PlusSign 0) (takenNumber k (numberOf kind (take k s))))
+
+-- What takes a number. Reading is defined with any: with takeNumber it is the specification's, with the Rust's, which is in
+-- Pluses, it is as it was before refusal 19.
+abbrev pub NumberReader : Type 0
+NumberReader = Numeral → ℕ → Reader Signed
+
+abbrev pub takeCountWith : NumberReader → ℕ → Reader ℕ
+takeCountWith number k = number Count k >>= λ n. done (n .size)
+
+abbrev pub takeYearWith : NumberReader → ℕ → Reader ℤ
+takeYearWith number k = number Year k >>= λ n. done (integer n)
 
 abbrev pub takeCount : ℕ → Reader ℕ
-takeCount k = takeNumber Count k >>= λ n. done (n .size)
+takeCount = takeCountWith takeNumber
 
 abbrev pub takeYear : ℕ → Reader ℤ
-takeYear k = takeNumber Year k >>= λ n. done (integer n)
+takeYear = takeYearWith takeNumber
 
 -- "greedy": so many bytes, and one more for each digit that follows them, at most `more`
 unfoldable pub reach : ℕ → ℕ → List ℕ → ℕ

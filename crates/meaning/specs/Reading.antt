@@ -1,5 +1,6 @@
 -- Specification, "What each symbol does", column Reads, with the carried values in brackets and the paragraphs on yy and
--- zones; and "Splitting", what a read of literals skips. The steps are those of Readers.
+-- zones; and "Splitting", what a read of literals skips. The steps are those of Readers. What takes a number is defined with any
+-- number reader, `..With`, and then with the specification's.
 use mathlib.Core.Bool.{Bool, true, false}
 use mathlib.Core.List.{List, [], _∷_}
 use mathlib.Core.Option.{Option, none, some}
@@ -9,7 +10,7 @@ use lib.IntN.{ℤ, pos, negℤ, natAbs, _+ℤ_}
 use lib.ListN.{length, drop}
 use Rattle.meaning.specs.Bytes.{when, isDigit, digitAt, minus}
 use Rattle.meaning.specs.Names.{Book, names}
-use Rattle.meaning.specs.Readers.{Reader, _>>=_, _>>_, done, skip, takeCount, takeYear, reach, ifDigit, matchName, letters, ZoneSign, utc, ahead, behindUtc, zoneSign}
+use Rattle.meaning.specs.Readers.{Reader, _>>=_, _>>_, done, skip, NumberReader, takeNumber, takeCountWith, takeYearWith, reach, ifDigit, matchName, letters, ZoneSign, utc, ahead, behindUtc, zoneSign}
 use Rattle.meaning.specs.UnitSizes.{secondsPerHour, secondsPerMinute}
 use Rattle.meaning.specs.Writing.{quantityOf, secondOfDay, isNegative, Step, literal, field}
 use Rattle.meaning.specs.declared.Carried.{Carried}
@@ -69,56 +70,22 @@ yearLength s = minusFirst s + digitRun (drop (minusFirst s) s)
 abbrev pub year : ℤ → Carried
 year z = Value unit.Year z
 
--- so many bytes of a year
-abbrev pub takenYear : ℕ → Reader Carried
-takenYear k = takeYear k >>= λ z. done (year z)
-
--- yy "reads 3 bytes at `-`, else 2 and adds current year / 1000 * 1000"
+-- what yy "adds": "current year / 1000 * 1000"
 abbrev pub millennium : ℕ → ℕ
 millennium current = current / 1000 * 1000
 
-abbrev pub twoDigitYear : ℕ → Reader Carried
-twoDigitYear current s =
-    when (eqb (minusFirst s) 1) (takenYear 3 s) ((takeYear 2 >>= λ z. done (year (z +ℤ pos (millennium current)))) s)
-
--- a group of a zone. Where it may be missing it is there if its first digit is.
 abbrev pub colonLength : Bool → ℕ
 colonLength true = 1
 colonLength false = 0
-
-abbrev pub takeGroup : Bool → Reader ℕ
-takeGroup c = do
-  skip (colonLength c)
-  takeCount 2
-
-abbrev pub zoneGroup : Bool → Group → Reader ℕ
-zoneGroup c Never = done 0
-zoneGroup c NotZero = ifDigit (colonLength c) (takeGroup c) (done 0)
-zoneGroup c Always = takeGroup c
-
-unfoldable pub zoneSize : Bool → Group → Group → Reader ℕ
-unfolding digitAt
-zoneSize c minutes seconds = do
-  hh ← takeCount 2
-  mm ← zoneGroup c minutes
-  ss ← zoneGroup c seconds
-  done (hh * secondsPerHour + mm * secondsPerMinute + ss)
 
 abbrev pub zoneBehind : Reader ℕ → ZoneSign → Reader ℤ
 zoneBehind size utc = done (pos 0)
 zoneBehind size ahead = size >>= λ n. done (pos n)
 zoneBehind size behindUtc = size >>= λ n. done (negℤ (pos n))
 
-abbrev pub takenZone : Bool → Bool → Group → Group → Reader Carried
-takenZone z c minutes seconds = zoneSign z >>= zoneBehind (zoneSize c minutes seconds) >>= λ o. done (Value unit.Offset o)
-
 -- a number that stands for zero
 abbrev pub zeroFor : ℕ → ℕ → ℕ
 zeroFor z n = when (eqb n z) 0 n
-
--- so many bytes of a number, as the value of a unit
-abbrev pub takenUnit : ParseUnit → ℕ → ℕ → Reader Carried
-takenUnit u z k = takeCount k >>= λ n. done (Value u (pos (zeroFor z n)))
 
 -- so many bytes that carry nothing
 abbrev pub passed : ℕ → Reader Carried
@@ -131,25 +98,96 @@ matchedName book l = matchName (names book l) >>= λ i. done (nameCarries l i)
 abbrev pub matchedLetters : Book → NameList → ℕ → Reader Carried
 matchedLetters book l n = letters n (names book l) >>= λ i. done (nameCarries l i)
 
--- what a symbol reads
-unfoldable pub readRule : Book → ℕ → Rule → Reader Carried
-unfolding reach skip nameCarries names matchName letters digitRun zoneSize zoneSign
-readRule book current (Number q least most u z) s = takenUnit u z (reach (most - least) least s) s
-readRule book current (SkippedNumber q least most) s = passed (reach (most - least) least s) s
-readRule book current LetterQuarter s = passed 2 s
-readRule book current (SkippedName l n) s = passed n s
-readRule book current (MatchedName l) s = matchedName book l s
-readRule book current (Letters l n) s = matchedLetters book l n s
-readRule book current (Years k) s = takenYear (yearLength s) s
-readRule book current (FixedYear k) s = takenYear (minusFirst s + k) s
-readRule book current TwoDigitYear s = twoDigitYear current s
-readRule book current (Zone z c minutes seconds) s = takenZone z c minutes seconds s
+-- with any number reader
 
--- what a part reads
+module _ (number : NumberReader) where
+  -- so many bytes of a year
+  abbrev pub takenYearWith : ℕ → Reader Carried
+  takenYearWith k = takeYearWith number k >>= λ z. done (year z)
+
+  -- yy "reads 3 bytes at `-`, else 2"
+  abbrev pub twoDigitYearWith : ℕ → Reader Carried
+  twoDigitYearWith current s =
+      when (eqb (minusFirst s) 1) (takenYearWith 3 s)
+      ((takeYearWith number 2 >>= λ z. done (year (z +ℤ pos (millennium current)))) s)
+
+  -- a group of a zone. Where it may be missing it is there if its first digit is.
+  abbrev pub takeGroupWith : Bool → Reader ℕ
+  takeGroupWith c = do
+    skip (colonLength c)
+    takeCountWith number 2
+
+  abbrev pub zoneGroupWith : Bool → Group → Reader ℕ
+  zoneGroupWith c Never = done 0
+  zoneGroupWith c NotZero = ifDigit (colonLength c) (takeGroupWith c) (done 0)
+  zoneGroupWith c Always = takeGroupWith c
+
+  unfoldable pub zoneSizeWith : Bool → Group → Group → Reader ℕ
+  unfolding digitAt
+  zoneSizeWith c minutes seconds = do
+    hh ← takeCountWith number 2
+    mm ← zoneGroupWith c minutes
+    ss ← zoneGroupWith c seconds
+    done (hh * secondsPerHour + mm * secondsPerMinute + ss)
+
+  abbrev pub takenZoneWith : Bool → Bool → Group → Group → Reader Carried
+  takenZoneWith z c minutes seconds =
+      zoneSign z >>= zoneBehind (zoneSizeWith c minutes seconds) >>= λ o. done (Value unit.Offset o)
+
+  -- so many bytes of a number, as the value of a unit
+  abbrev pub takenUnitWith : ParseUnit → ℕ → ℕ → Reader Carried
+  takenUnitWith u z k = takeCountWith number k >>= λ n. done (Value u (pos (zeroFor z n)))
+
+  -- what a symbol reads
+  unfoldable pub readRuleWith : Book → ℕ → Rule → Reader Carried
+  unfolding reach skip nameCarries names matchName letters digitRun zoneSizeWith zoneSign
+  readRuleWith book current (Number q least most u z) s = takenUnitWith u z (reach (most - least) least s) s
+  readRuleWith book current (SkippedNumber q least most) s = passed (reach (most - least) least s) s
+  readRuleWith book current LetterQuarter s = passed 2 s
+  readRuleWith book current (SkippedName l n) s = passed n s
+  readRuleWith book current (MatchedName l) s = matchedName book l s
+  readRuleWith book current (Letters l n) s = matchedLetters book l n s
+  readRuleWith book current (Years k) s = takenYearWith (yearLength s) s
+  readRuleWith book current (FixedYear k) s = takenYearWith (minusFirst s + k) s
+  readRuleWith book current TwoDigitYear s = twoDigitYearWith current s
+  readRuleWith book current (Zone z c minutes seconds) s = takenZoneWith z c minutes seconds s
+
+  -- what a part reads
+  unfoldable pub readStepWith : Book → ℕ → Step → Reader Carried
+  unfolding readRuleWith skip
+  readStepWith book current (literal w lost) s = passed (length w) s
+  readStepWith book current (field rule) s = readRuleWith book current rule s
+
+-- with the specification's number reader
+
+abbrev pub takenYear : ℕ → Reader Carried
+takenYear = takenYearWith takeNumber
+
+abbrev pub twoDigitYear : ℕ → Reader Carried
+twoDigitYear = twoDigitYearWith takeNumber
+
+abbrev pub takeGroup : Bool → Reader ℕ
+takeGroup = takeGroupWith takeNumber
+
+abbrev pub zoneGroup : Bool → Group → Reader ℕ
+zoneGroup = zoneGroupWith takeNumber
+
+abbrev pub zoneSize : Bool → Group → Group → Reader ℕ
+zoneSize = zoneSizeWith takeNumber
+
+abbrev pub takenZone : Bool → Bool → Group → Group → Reader Carried
+takenZone = takenZoneWith takeNumber
+
+abbrev pub takenUnit : ParseUnit → ℕ → ℕ → Reader Carried
+takenUnit = takenUnitWith takeNumber
+
+unfoldable pub readRule : Book → ℕ → Rule → Reader Carried
+unfolding readRuleWith
+readRule = readRuleWith takeNumber
+
 unfoldable pub readStep : Book → ℕ → Step → Reader Carried
-unfolding readRule skip
-readStep book current (literal w lost) s = passed (length w) s
-readStep book current (field rule) s = readRule book current rule s
+unfolding readStepWith readRule
+readStep = readStepWith takeNumber
 
 -- "h, K [hour mod 12], H, k [hour]": what a number carries is what this quantity writes
 abbrev pub carriedAs : Quantity → Quantity

@@ -2,19 +2,18 @@
 -- reading for a pair; parse_offset.
 use mathlib.Core.Bool.{Bool, true, false}
 use mathlib.Core.List.{List, [], _∷_, _++_, map}
-use mathlib.Core.Option.{Option, none, some}
 use Prim.Native.Char.{Char, code}
 use Prim.Native.Nat.{ℕ, suc, _+_, _*_, _-_, _/_, _%_, _^_}
 use lib.Dec.{eqb, leb}
 use lib.IntN.{ℤ, pos, negℤ, natAbs}
-use lib.ListN.{length, getD, take, drop, replicate}
+use lib.ListN.{length, getD, drop, replicate}
 use lib.Seq.{sets}
 use Rattle.meaning.specs.Answers.{_else_, refuseUnless, bytesCheck, patternCheck, fieldsCheck, roomCheck, textCheck, currentYearCheck}
 use Rattle.meaning.specs.Bytes.{when, plus}
 use Rattle.meaning.specs.Names.{Book}
-use Rattle.meaning.specs.Numerals.{Signed, numberOf}
-use Rattle.meaning.specs.Readers.{got, stopped}
-use Rattle.meaning.specs.Reading.{readStep}
+use Rattle.meaning.specs.Numerals.{Signed}
+use Rattle.meaning.specs.Readers.{Got, got, stopped, NumberReader, takeNumber}
+use Rattle.meaning.specs.Reading.{readStepWith, readStep}
 use Rattle.meaning.specs.Splitting.{parts, noPart}
 use Rattle.meaning.specs.UnitSizes.{secondsPerHour, secondsPerMinute}
 use Rattle.meaning.specs.Writing.{Step, steps, texts}
@@ -33,7 +32,6 @@ use Rattle.meaning.specs.declared.Part.{Part}
 use Rattle.meaning.specs.declared.Reading.{Reading}
 use Rattle.meaning.specs.declared.Refusal.the-variants.{InPart, OffsetLength, OffsetRange}
 use Rattle.meaning.specs.declared.Split.{Split}
-use Rattle.meaning.specs.declared.Trouble.the-variants.{NoNumber}
 use Rattle.meaning.specs.declared.Wrote.{Wrote}
 use Rattle.meaning.specs.declared.Wrote.the-variants as wrote
 
@@ -87,14 +85,18 @@ pub data Walk : Type 0 where
   refusedAt : Checked → Walk
 
 -- part i and those behind it, from the text that remains at a place
-unfoldable pub walk : Book → ℕ → ℕ → ℕ → List Step → List ℕ → List Carried → Walk
-unfolding readStep
-walk book current i at [] s gave = walked at gave
-walk book current i at (step ∷ steps) s gave =
-    elim (readStep book current step s) [
-      | got n c ↦ walk book current (suc i) (at + n) steps (drop n s) (c ∷ gave)
+unfoldable pub walkWith : NumberReader → Book → ℕ → ℕ → ℕ → List Step → List ℕ → List Carried → Walk
+unfolding readStepWith
+walkWith number book current i at [] s gave = walked at gave
+walkWith number book current i at (step ∷ steps) s gave =
+    elim (readStepWith number book current step s) [
+      | got n c ↦ walkWith number book current (suc i) (at + n) steps (drop n s) (c ∷ gave)
       | stopped why place ↦ refusedAt (Refused (InPart why i (at + place)))
     ]
+
+unfoldable pub walk : Book → ℕ → ℕ → ℕ → List Step → List ℕ → List Carried → Walk
+unfolding walkWith readStep
+walk = walkWith takeNumber
 
 abbrev pub unitNumber : ParseUnit → ℕ
 unitNumber unit.Year = 0
@@ -162,11 +164,16 @@ unfoldable pub readCheck : List ℕ → List ℕ → ℤ → Checked
 unfolding patternCheck currentYearCheck textCheck
 readCheck p s current = patternCheck p else currentYearCheck current else textCheck s
 
-unfoldable pub read : Pair → Book → List ℕ → List ℕ → ℤ → Reading
-unfolding readCheck steps walk valueOf wasRead bits howMany
-read pair book p s current = readBy (readCheck p s current) (walk book (natAbs current) 0 0 (steps pair p) s [])
+unfoldable pub readWith : NumberReader → Pair → Book → List ℕ → List ℕ → ℤ → Reading
+unfolding readCheck steps walkWith valueOf wasRead bits howMany
+readWith number pair book p s current =
+    readBy (readCheck p s current) (walkWith number book (natAbs current) 0 0 (steps pair p) s [])
 
--- parse_offset: 6, 7, then Z, 12, 9, 9, 13.
+unfoldable pub read : Pair → Book → List ℕ → List ℕ → ℤ → Reading
+unfolding readWith walk
+read = readWith takeNumber
+
+-- parse_offset: 6, 7, then Z, 12, then 19 and 9 of the hour, 19 and 9 of the minute, 13.
 
 abbrev pub offsetBy : Checked → Offset → Offset
 offsetBy Fine o = o
@@ -177,18 +184,27 @@ seconds ahead hour minute =
     offsetBy (refuseUnless (leb hour 23) (OffsetRange 1) else refuseUnless (leb minute 59) (OffsetRange 2))
     (offset.Seconds (when ahead (pos (hour * secondsPerHour + minute * secondsPerMinute)) (negℤ (pos (hour * secondsPerHour + minute * secondsPerMinute)))))
 
-abbrev pub hourAndMinute : Bool → Option Signed → Option Signed → Offset
-hourAndMinute ahead none minute = offset.Refused (InPart NoNumber 0 1)
-hourAndMinute ahead (some hour) none = offset.Refused (InPart NoNumber 0 4)
-hourAndMinute ahead (some hour) (some minute) = seconds ahead (hour .size) (minute .size)
+-- the hour stands at 1, the minute at 4
+abbrev pub hourAndMinute : Bool → Got Signed → Got Signed → Offset
+hourAndMinute ahead (stopped why i) minute = offset.Refused (InPart why 0 (1 + i))
+hourAndMinute ahead (got n hour) (stopped why i) = offset.Refused (InPart why 0 (4 + i))
+hourAndMinute ahead (got n hour) (got m minute) = seconds ahead (hour .size) (minute .size)
 
-abbrev pub twoAt : ℕ → List ℕ → Option Signed
-twoAt i s = numberOf Count (take 2 (drop i s))
+-- two bytes at a place, as a number
+abbrev pub twoAtWith : NumberReader → ℕ → List ℕ → Got Signed
+twoAtWith number i s = number Count 2 (drop i s)
 
-unfoldable pub parseOffset : List ℕ → Offset
-unfolding textCheck numberOf
-parseOffset s =
+unfoldable pub parseOffsetWith : NumberReader → List ℕ → Offset
+unfolding textCheck
+parseOffsetWith number s =
     offsetBy (textCheck s)
     (when (eqb (getD s 0 0) (code "Z")) (offset.Seconds (pos 0))
     (offsetBy (refuseUnless (eqb (length s) 6) (OffsetLength (length s)))
-    (hourAndMinute (eqb (getD s 0 0) plus) (twoAt 1 s) (twoAt 4 s))))
+    (hourAndMinute (eqb (getD s 0 0) plus) (twoAtWith number 1 s) (twoAtWith number 4 s))))
+
+abbrev pub twoAt : ℕ → List ℕ → Got Signed
+twoAt = twoAtWith takeNumber
+
+unfoldable pub parseOffset : List ℕ → Offset
+unfolding parseOffsetWith takeNumber
+parseOffset = parseOffsetWith takeNumber

@@ -167,7 +167,6 @@ pub enum Numeral {
 
 // What the first byte of a number says of its sign.
 pub enum Sign {
-    Plus,
     Minus,
     Bare,
 }
@@ -178,12 +177,13 @@ pub enum Carried {
     Value(ParseUnit, i64),
 }
 
-// Why a part can't be read: the refusals 8 to 11.
+// Why a part can't be read: the refusals 8 to 11, and 19.
 pub enum Trouble {
     TooFew,
     NoNumber,
     NoName,
     NoSign,
+    PlusSign,
 }
 
 // "Answer numbers": the refusals with what they return.

@@ -16,22 +16,16 @@ use Rattle.meaning.specs.Numerals.{Signed, allDigits, decimal, largest, sized, 
 use Rattle.meaning.specs.Readers.{takenNumber, takeNumber}
 use Rattle.meaning.specs.declared.Numeral.{Numeral}
 use Rattle.meaning.specs.declared.Numeral.the-variants.{Count, Year}
-use Rattle.meaning.specs.declared.Sign.the-variants.{Plus, Bare}
+use Rattle.meaning.specs.declared.Sign.the-variants.{Bare}
 use Rattle.numerals.specs.Numbers.{numberIn, gotNumber}
 use Rattle.numerals.specs.declared.Number.{Number}
-use Rattle.numerals.specs.declared.Number.the-variants.{TooFew, NoNumber, Value}
+use Rattle.numerals.specs.declared.Number.the-variants.{TooFew, PlusSign, NoNumber, Value}
 
 -- the sign, for a kind that is not known
-
-pub plus-sign : (kind : Numeral) (b : ℕ) → b ≡ 43 → signOf kind b ≡ Plus
+pub no-sign : (kind : Numeral) (b : ℕ) → (b ≡ 45 → ⊥) → signOf kind b ≡ Bare
 unfolding signOf
-plus-sign Count b h = rw (eq-eqb b 43 h)
-plus-sign Year b h = rw (eq-eqb b 43 h)
-
-pub no-sign : (kind : Numeral) (b : ℕ) → (b ≡ 43 → ⊥) → (b ≡ 45 → ⊥) → signOf kind b ≡ Bare
-unfolding signOf
-no-sign Count b h k = rw (ne-eqb b 43 h)
-no-sign Year b h k = rw (ne-eqb b 43 h, ne-eqb b 45 k)
+no-sign Count b h = refl
+no-sign Year b h = rw (ne-eqb b 45 h)
 
 -- the number of these digits behind those that gave n, held to the most that fits
 unfoldable pub sizedFrom : ℕ → Bool → ℕ → List ℕ → Number
@@ -92,16 +86,22 @@ front k [] h g = absurd (omega arith)
 front zero (b ∷ s) h g = absurd (omega arith)
 front (suc k) (b ∷ s) h g = let e : suc k - 1 ≡ k = omega arith in rw e
 
-pub taken-is : (k : ℕ) (n : Option Signed) → gotNumber (takenNumber k n) ≡ numberIn n
+taken-is : (k : ℕ) (n : Option Signed) → gotNumber (takenNumber k n) ≡ numberIn n
 taken-is k none = refl
 taken-is k (some n) = refl
 
-pub number-signed : (kind : Numeral) (k : ℕ) (s : List ℕ) → 0 < k → k ≤ length s
+pub number-signed : (kind : Numeral) (k : ℕ) (s : List ℕ) → 0 < k → k ≤ length s → (getD s 0 0 ≡ 43 → ⊥)
     → gotNumber (takeNumber kind k s)
     ≡ numberIn (sizedBy kind (signOf kind (getD s 0 0)) (getD s 0 0) (take (k - 1) (drop 1 s)))
 unfolding takeNumber numberOf
-number-signed kind k s h g =
-    rw (le-ltb (length s) k g) (taken-is k (numberOf kind (take k s)) ∙ rw (front k s h (omega arith)))
+number-signed kind k s h g e =
+    rw (le-ltb (length s) k g, front k s h (omega arith), ne-eqb (getD s 0 0) 43 e)
+    (taken-is k (sizedBy kind (signOf kind (getD s 0 0)) (getD s 0 0) (take (k - 1) (drop 1 s))))
+
+pub number-plus : (kind : Numeral) (k : ℕ) (s : List ℕ) → 0 < k → k ≤ length s → getD s 0 0 ≡ 43
+    → gotNumber (takeNumber kind k s) ≡ PlusSign
+unfolding takeNumber
+number-plus kind k s h g e = rw (le-ltb (length s) k g, front k s h (omega arith), eq-eqb (getD s 0 0) 43 e)
 
 pub number-short : (kind : Numeral) (k : ℕ) (s : List ℕ) → length s < k → gotNumber (takeNumber kind k s) ≡ TooFew
 unfolding takeNumber
@@ -111,6 +111,6 @@ pub number-of-none : (kind : Numeral) (k : ℕ) (s : List ℕ) → k ≡ 0 → g
 unfolding takeNumber numberOf
 number-of-none kind k s h = rw (h, le-ltb (length s) 0 (omega arith))
 
-pub whole-number : (kind : Numeral) (k : ℕ) (s : List ℕ) → 0 < k → k ≤ length s → signOf kind (getD s 0 0) ≡ Bare
+pub whole-number : (kind : Numeral) (k : ℕ) (s : List ℕ) → 0 < k → k ≤ length s → (getD s 0 0 ≡ 43 → ⊥) → signOf kind (getD s 0 0) ≡ Bare
     → gotNumber (takeNumber kind k s) ≡ numberIn (sized kind false (take k s))
-whole-number kind k s h g e = number-signed kind k s h g ∙ rw (e, ← front k s h (omega arith))
+whole-number kind k s h g p e = number-signed kind k s h g p ∙ rw (e, ← front k s h (omega arith))

@@ -3,7 +3,7 @@ use mathlib.Core.Option.{Option, none, some}
 use Rattle.meaning.specs.Numerals.{Signed}
 use Rattle.meaning.specs.Readers.{Got, got, stopped}
 use Rattle.meaning.specs.declared.Trouble.{Trouble}
-use Rattle.meaning.specs.declared.Trouble.the-variants.{TooFew, NoNumber, NoName, NoSign}
+use Rattle.meaning.specs.declared.Trouble.the-variants.{TooFew, NoNumber, NoName, NoSign, PlusSign}
 use Rattle.numerals.specs.declared.Number.{Number}
 use Rattle.numerals.specs.declared.Number.the-variants as number
 
@@ -11,12 +11,13 @@ abbrev pub numberIn : Option Signed → Number
 numberIn none = number.NoNumber
 numberIn (some n) = number.Value (n .negative) (n .size)
 
--- a number stops for want of bytes or of a number, and for nothing else
+-- a number stops for want of bytes, at a plus or for want of a number, and for nothing else
 abbrev pub numberStopped : Trouble → Number
 numberStopped TooFew = number.TooFew
 numberStopped NoNumber = number.NoNumber
 numberStopped NoName = number.NoNumber
 numberStopped NoSign = number.NoNumber
+numberStopped PlusSign = number.PlusSign
 
 abbrev pub gotNumber : Got Signed → Number
 gotNumber (got k n) = number.Value (n .negative) (n .size)

@@ -10,9 +10,11 @@ ghost use Rattle.numerals.specs.Numbers.{numberIn, gotNumber};
 use meaning::Numeral;
 use meaning::Sign;
 
-// What a number of so many bytes at the front of a text is: too few bytes (8), no number (9), or its sign and size.
+// What a number of so many bytes at the front of a text is: too few bytes (8), a plus in front (19), no number (9), or its sign
+// and size.
 pub enum Number {
     TooFew,
+    PlusSign,
     NoNumber,
     Value { negative: bool, size: u32 },
 }
@@ -39,9 +41,6 @@ fn largest(kind: Numeral, negative: bool) -> u64
 fn sign_of(kind: Numeral, b: u8) -> Sign
     ensures { λ r. ⌜ r ≡ numerals.signOf kind b ⌝ }
 {
-    if b == b'+' {
-        return Sign::Plus;
-    }
     if b == b'-' {
         if let Numeral::Year = kind {
             return Sign::Minus;
@@ -90,8 +89,11 @@ pub fn read_number(kind: Numeral, k: usize, text: &[u8]) -> Number
     if k == 0 {
         return Number::NoNumber;
     }
-    match sign_of(kind, text[0]) {
-        Sign::Plus => sized(kind, false, &text[1..k]),
+    let first = text[0];
+    if first == b'+' {
+        return Number::PlusSign;
+    }
+    match sign_of(kind, first) {
         Sign::Minus => sized(kind, true, &text[1..k]),
         Sign::Bare => sized(kind, false, &text[..k]),
     }

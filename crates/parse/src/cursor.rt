@@ -58,6 +58,10 @@ impl Cursor {
                 trouble: Trouble::TooFew,
                 place: at,
             },
+            Number::PlusSign => Taken::Stopped {
+                trouble: Trouble::PlusSign,
+                place: at,
+            },
             Number::NoNumber => Taken::Stopped {
                 trouble: Trouble::NoNumber,
                 place: at,

@@ -1,12 +1,11 @@
-// Specification, "parse_offset (RFC 3339 form)": the checks 6 and 7, then Z, and the refusals 12, 9, 9, 13.
+// Specification, "parse_offset (RFC 3339 form)": the checks 6 and 7, then Z, and the refusals 12, 19 and 9
+// of the hour, 19 and 9 of the minute, 13.
 ghost use mathlib.Core.Path.{_≡_};
-ghost use Prim.Native.Nat.{_+_, _≤_};
 ghost use lib.Dec.{eqb};
 ghost use lib.ListN.{length, getD};
 ghost use Rattle.meaning.specs.Bytes.{plus};
 ghost use Rattle.meaning.specs.Promises.{ParsesOffset};
 ghost use Rattle.meaning.specs.Whole as whole;
-ghost use Rattle.numerals.specs.Numbers.{numberIn};
 use crate::checks::text_check;
 use meaning::Checked;
 use meaning::Numeral;
@@ -15,16 +14,8 @@ use meaning::Refusal;
 use meaning::Trouble;
 use meaning::unit_sizes::SECS_PER_HOUR;
 use meaning::unit_sizes::SECS_PER_MINUTE;
-use numerals::Number;
-use numerals::read_number;
-
-// Two bytes at a place, as a number.
-fn two_at(text: &[u8], at: usize) -> Number
-    requires { ⌜ at + 2 ≤ length (now text) ⌝ }
-    ensures { λ r. ⌜ r ≡ numberIn (whole.twoAt at (now (text .entry))) ⌝ }
-{
-    read_number(Numeral::Count, 2, &text[at..])
-}
+use parse::cursor::Cursor;
+use parse::cursor::Taken;
 
 // "hour to 23, minute to 59".
 fn seconds(ahead: bool, hour: u32, minute: u32) -> Offset
@@ -44,11 +35,11 @@ fn seconds(ahead: bool, hour: u32, minute: u32) -> Offset
     }
 }
 
-fn no_number(place: usize) -> Offset
-    ensures { λ r. ⌜ r ≡ Offset.Refused (Refusal.InPart Trouble.NoNumber 0 place) ⌝ }
+fn refused_at(trouble: Trouble, place: usize) -> Offset
+    ensures { λ r. ⌜ r ≡ Offset.Refused (Refusal.InPart trouble 0 place) ⌝ }
 {
     Offset::Refused(Refusal::InPart {
-        trouble: Trouble::NoNumber,
+        trouble,
         part: 0,
         place,
     })
@@ -59,23 +50,25 @@ fn hour_and_minute(text: &[u8]) -> Offset
     requires { ⌜ length (now text) ≡ 6 ⌝ }
     ensures { λ r. ⌜ r ≡ whole.hourAndMinute (eqb (getD (now (text .entry)) 0 0) plus) (whole.twoAt 1 (now (text .entry))) (whole.twoAt 4 (now (text .entry))) ⌝ }
 {
-    let first = two_at(text, 1);
-    let Number::Value {
-        negative: _,
-        size: hour,
-    } = first
-    else {
-        return no_number(1);
-    };
-    let second = two_at(text, 4);
-    let Number::Value {
-        negative: _,
-        size: minute,
-    } = second
-    else {
-        return no_number(4);
-    };
-    seconds(text[0] == b'+', hour, minute)
+    let first = Cursor { at: 1 };
+    match first.take(Numeral::Count, 2, text) {
+        Taken::Stopped { trouble, place } => refused_at(trouble, place),
+        Taken::Value {
+            negative: _,
+            size: hour,
+            next: _,
+        } => {
+            let second = Cursor { at: 4 };
+            match second.take(Numeral::Count, 2, text) {
+                Taken::Stopped { trouble, place } => refused_at(trouble, place),
+                Taken::Value {
+                    negative: _,
+                    size: minute,
+                    next: _,
+                } => seconds(text[0] == b'+', hour, minute),
+            }
+        }
+    }
 }
 
 // "Z first gives 0 with the rest unread; then length 6".

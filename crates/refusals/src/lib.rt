@@ -28,6 +28,7 @@ fn number_of(trouble: Trouble) -> u32
         Trouble::NoNumber => 9,
         Trouble::NoName => 10,
         Trouble::NoSign => 11,
+        Trouble::PlusSign => 19,
     }
 }
 

@@ -1,7 +1,6 @@
 -- The answers to what can be lent fit a row: each slice has fewer than 2 ^ 63 bytes, and the current year has 32 bits.
 use mathlib.Core.Bool.{Bool}
 use mathlib.Core.List.{List, [], _∷_}
-use mathlib.Core.Option.{Option, none, some}
 use mathlib.Core.Path.{_≡_, refl}
 use Prim.Native.Char.{code}
 use Prim.Native.Nat.{ℕ, zero, suc, _+_, _*_, _≤_}
@@ -30,6 +29,7 @@ use Rattle.meaning.specs.declared.Carried.{Carried}
 use Rattle.meaning.specs.declared.Checked.{Checked}
 use Rattle.meaning.specs.declared.Checked.the-variants.{Fine, Refused}
 use Rattle.meaning.specs.declared.Fields.{Fields}
+use Rattle.meaning.specs.declared.Numeral.the-variants.{Count}
 use Rattle.meaning.specs.declared.Offset.{Offset}
 use Rattle.meaning.specs.declared.Offset.the-variants as offset
 use Rattle.meaning.specs.declared.Pair.{Pair}
@@ -41,7 +41,7 @@ use Rattle.pattern.proofs.parts.First.{contents-first, first-sized}
 use Rattle.pattern.specs.First.{firstContent}
 use Rattle.sheet.proofs.entries.Fits.{else-fits, unless-fits, byte-fits, bytes-fit}
 use Rattle.sheet.specs.Fits.{NumberFits, CheckedFits, WroteFits, ReadFits, OffsetFits, VerdictFits}
-use Rattle.parse.proofs.steps.Within.{Within}
+use Rattle.parse.proofs.steps.Within.{Within, within-take}
 use Rattle.parse.proofs.rule.Within.{within-step}
 
 -- the checks
@@ -170,11 +170,12 @@ seconds-fit ahead hour minute =
     (else-fits hours minutes (unless-fits (leb hour 23) (OffsetRange 1) (omega arith, tt)) (λ _. unless-fits (leb minute 59) (OffsetRange 2) (omega arith, tt)))
     tt
 
-time-fits : (ahead : Bool) (hour minute : Option Signed) → OffsetFits (hourAndMinute ahead hour minute)
+time-fits : (ahead : Bool) (n m : ℕ) (hour minute : Got Signed) → Within n hour → Within m minute → NumberFits (1 + n) → NumberFits (4 + m)
+    → OffsetFits (hourAndMinute ahead hour minute)
 unfolding details
-time-fits ahead none minute = (omega arith, (omega arith, tt))
-time-fits ahead (some hour) none = (omega arith, (omega arith, tt))
-time-fits ahead (some hour) (some minute) = seconds-fit ahead (hour .size) (minute .size)
+time-fits ahead n m (stopped why i) minute h k f g = (omega arith, (omega arith, tt))
+time-fits ahead n m (got n′ hour) (stopped why i) h k f g = (omega arith, (omega arith, tt))
+time-fits ahead n m (got n′ hour) (got m′ minute) h k f g = seconds-fit ahead (hour .size) (minute .size)
 
 pub offset-fits : (s : List ℕ) → NumberFits (length s) → OffsetFits (parseOffset s)
 unfolding parseOffset details
@@ -185,7 +186,8 @@ offset-fits s h =
     offset-by-fits (textCheck s) (when utc (offset.Seconds (pos 0)) (offsetBy six time)) (text-fits s h)
     (when-is OffsetFits utc (λ _. tt)
     (λ _. offset-by-fits six time (unless-fits (eqb (length s) 6) (OffsetLength (length s)) (h, tt))
-    (time-fits (eqb (getD s 0 0) plus) (twoAt 1 s) (twoAt 4 s))))
+    (time-fits (eqb (getD s 0 0) plus) (length (drop 1 s)) (length (drop 4 s)) (twoAt 1 s) (twoAt 4 s) (within-take Count 2 (drop 1 s)) (within-take Count 2 (drop 4 s))
+    (omega (arith, length-drop 1 s)) (omega (arith, length-drop 4 s)))))
 
 -- the check
 

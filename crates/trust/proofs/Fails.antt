@@ -13,7 +13,7 @@ use Rattle.meaning.specs.Bytes.{when, both, isDigit, digitAt, num, plus, minus}
 use Rattle.meaning.specs.Names.{english}
 use Rattle.meaning.specs.Numerals.{Signed, allDigits, numberOf}
 use Rattle.meaning.specs.Readers.{Reader, got, _>>=_, done, skip, takeCount, takeYear, takeNumber, reach, ahead, behindUtc, zoneSign}
-use Rattle.meaning.specs.Reading.{colonLength, millennium, takenYear, zoneBehind, zoneGroup, zoneSize, takenZone, yearLength, digitRun, minusFirst, readRule, carriedRule}
+use Rattle.meaning.specs.Reading.{colonLength, millennium, takenYear, zoneBehind, zoneGroup, zoneSizeWith, zoneSize, takenZone, yearLength, digitRun, minusFirst, readRule, carriedRule}
 use Rattle.meaning.specs.Writing.{isNegative, quantityOf, groupText, offsetText, ruleText, twoDigitText, zoneText}
 use Rattle.meaning.specs.declared.Carried.{Carried}
 use Rattle.meaning.specs.declared.Carried.the-variants as carried
@@ -216,7 +216,7 @@ module _ (current : ℕ) (utc colon : Bool) (minutes seconds : Group) (no-second
 
   takes-hours : Takes (1 + (length (num 2 (whole .hours)) + (length (groupText colon minutes 0) + (colonLength colon + 2))))
       (takenZone utc colon minutes seconds (when (isNegative z) minus plus ∷ num 2 (whole .hours) ++ (groupText colon minutes 0 ++ r)))
-  unfolding zoneSize MissingTaken
+  unfolding zoneSizeWith MissingTaken
   takes-hours =
       let hh = num 2 (whole .hours) in
       let m = groupText colon minutes 0 in

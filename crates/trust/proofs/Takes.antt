@@ -10,7 +10,7 @@ use lib.ListN.{length, take, drop}
 use lib.Seq.{drop-append-seam}
 use borrow.Author.Tests.{ltb-true, ltb-false}
 use Rattle.meaning.specs.Bytes.{digitAt}
-use Rattle.meaning.specs.Numerals.{Signed, numberOf}
+use Rattle.meaning.specs.Numerals.{Signed, plusFirst, numberOf}
 use Rattle.meaning.specs.Readers.{Got, got, stopped, Reader, behind, goOn, _>>=_, done, skip, takenNumber, takeNumber, reach}
 use Rattle.meaning.specs.declared.Numeral.{Numeral}
 use Rattle.laws.proofs.Readers.{reach-on, reach-ends}
@@ -34,7 +34,8 @@ number-takes k (some n) = refl
 pub takes-number : (kind : Numeral) (k : ℕ) (s : List ℕ) → Takes k (takeNumber kind k s)
 unfolding takeNumber
 takes-number kind k s =
-    when-is (Takes k) (ltb (length s) k) (λ _. tt) (λ _. number-takes k (numberOf kind (take k s)))
+    when-is (Takes k) (ltb (length s) k) (λ _. tt)
+    (λ _. when-is (Takes k) (plusFirst (take k s)) (λ _. tt) (λ _. number-takes k (numberOf kind (take k s))))
 
 -- one reader after the other
 

@@ -18,7 +18,8 @@ pub fn text(pair: Pair, pattern: &[u8], fields: &Fields, random: &mut Random) ->
         0..=4 => written(pair, pattern, fields, random),
         5..=7 => extended(written(pair, pattern, fields, random), random),
         8..=13 => part_by_part(pair, pattern, random),
-        14 | 15 => damaged(written(pair, pattern, fields, random), random),
+        14 => damaged(written(pair, pattern, fields, random), random),
+        15 => with_a_plus(written(pair, pattern, fields, random), random),
         16 => cut(written(pair, pattern, fields, random), random),
         17 => written(pair, &patterns::ordinary(random), fields, random),
         18 => around_the_limits(written(pair, pattern, fields, random), random),
@@ -51,6 +52,19 @@ pub fn damaged(mut text: Vec<u8>, random: &mut Random) -> Vec<u8> {
             _ if place < text.len() => drop(text.remove(place)),
             _ => text.push(byte),
         }
+    }
+    text
+}
+
+/// A plus in the place of a digit, at the start of a number as often as inside.
+fn with_a_plus(mut text: Vec<u8>, random: &mut Random) -> Vec<u8> {
+    let starts = random.one_in(2);
+    let digits: Vec<usize> = (0..text.len())
+        .filter(|place| text[*place].is_ascii_digit())
+        .filter(|place| !starts || *place == 0 || !text[place - 1].is_ascii_digit())
+        .collect();
+    if !digits.is_empty() {
+        text[random.pick(&digits)] = b'+';
     }
     text
 }

@@ -1,10 +1,10 @@
--- By the sign that the first byte gives.
+-- By what the first byte is: a plus, or what it says of the sign.
 use borrow.Author.Needs.{needs}
 use denote.Ref.{now}
 use lib.Seq.{length-take-le}
 use mathlib.Core.Path.{sym, _∙_}
 use native.Mathlib.Omega.{arith}
-use Rattle.numerals.proofs.Sizing.{number-signed, number-short, number-of-none, whole-number}
+use Rattle.numerals.proofs.Sizing.{number-signed, number-plus, number-short, number-of-none, whole-number}
 use Rattle.numerals.proofs.read_number.Statement.{statement}
 use Rattle.numerals.proofs.read_number.Tie as tie
 
@@ -20,8 +20,14 @@ returns-2 c =
     let s = now (a .text) in
     sym (number-of-none (a .kind) (a .k) s (c .if2 .taken))
 
-shared-slice-read-sign-of : tie.Need-shared-slice-read-sign-of
-shared-slice-read-sign-of c = search needs
+shared-slice-read-first : tie.Need-shared-slice-read-first
+shared-slice-read-first c = search needs
+
+returns-3 : tie.Need-returns-3
+returns-3 c =
+    let a = c .before .before .before .before .before .args in
+    let s = now (a .text) in
+    sym (number-plus (a .kind) (a .k) s (omega arith) (omega arith) (c .if3 .taken))
 
 sign-of-requires : tie.Need-sign-of-requires
 sign-of-requires c κs = search needs
@@ -44,47 +50,27 @@ sized-requires c κs = search needs
 enum-told-2 : tie.Need-enum-told-2
 enum-told-2 c = search needs
 
-sub-sized-2 : tie.Need-sub-sized-2
-sub-sized-2 c = search needs
-
-part-sized-start-2 : tie.Need-part-sized-start-2
-part-sized-start-2 c = search needs
-
-part-sized-end-2 : tie.Need-part-sized-end-2
-part-sized-end-2 c = search needs
+slice-aggregate-sized : tie.Need-slice-aggregate-sized
+slice-aggregate-sized c = sym (length-take-le _ _ (omega arith))
 
 sized-requires-2 : tie.Need-sized-requires-2
 sized-requires-2 c κs = search needs
 
-enum-told-3 : tie.Need-enum-told-3
-enum-told-3 c = search needs
-
-slice-aggregate-sized : tie.Need-slice-aggregate-sized
-slice-aggregate-sized c = sym (length-take-le _ _ (omega arith))
-
-sized-requires-3 : tie.Need-sized-requires-3
-sized-requires-3 c κs = search needs
-
-returns-3 : tie.Need-returns-3
-returns-3 c =
-    let a = c .before .before .before .before .before .before .before .before .before .args in
-    let s = now (a .text) in
-    c .sized .ensures
-    ∙ sym (number-signed (a .kind) (a .k) s (omega arith) (omega arith) ∙ rw (← c .before .before .before .before .sign-of .ensures, c .before .before .enum-told .given .1))
-
 returns-4 : tie.Need-returns-4
 returns-4 c =
-    let a = c .before .before .before .before .before .before .before .before .before .args in
+    let m = c .before .before .before .before in
+    let a = m .before .before .before .before .before .before .args in
     let s = now (a .text) in
-    c .sized2 .ensures
-    ∙ sym (number-signed (a .kind) (a .k) s (omega arith) (omega arith) ∙ rw (← c .before .before .before .before .sign-of .ensures, c .before .before .enum-told2 .given .1))
+    c .sized .ensures
+    ∙ sym (number-signed (a .kind) (a .k) s (omega arith) (omega arith) (m .before .if3 .left) ∙ rw (← m .sign-of .ensures, c .before .before .enum-told .given .1))
 
 returns-5 : tie.Need-returns-5
 returns-5 c =
-    let a = c .before .before .before .before .before .before .before .before .before .args in
+    let m = c .before .before .before .before in
+    let a = m .before .before .before .before .before .before .args in
     let s = now (a .text) in
-    c .sized3 .ensures
-    ∙ sym (whole-number (a .kind) (a .k) s (omega arith) (omega arith) (sym (c .before .before .before .before .sign-of .ensures) ∙ c .before .before .enum-told3 .given .1))
+    c .sized2 .ensures
+    ∙ sym (whole-number (a .kind) (a .k) s (omega arith) (omega arith) (m .before .if3 .left) (sym (m .sign-of .ensures) ∙ c .before .before .enum-told2 .given .1))
 
 pub read-number-spec : {M : Type 1} → statement M
 read-number-spec =
@@ -92,7 +78,8 @@ read-number-spec =
     (tie.spec
     returns
     returns-2
-    shared-slice-read-sign-of
+    shared-slice-read-first
+    returns-3
     sign-of-requires
     enum-told
     sub-sized
@@ -100,13 +87,7 @@ read-number-spec =
     part-sized-end
     sized-requires
     enum-told-2
-    sub-sized-2
-    part-sized-start-2
-    part-sized-end-2
-    sized-requires-2
-    enum-told-3
     slice-aggregate-sized
-    sized-requires-3
-    returns-3
+    sized-requires-2
     returns-4
     returns-5)

@@ -14,10 +14,10 @@ use Rattle.names.specs.Table.{foundIn}
 use Rattle.names.specs.declared.tables.Found.the-variants.{Name, Nothing}
 use Rattle.laws.proofs.Readers.{skip-goes-on, skip-stops}
 use Rattle.laws.proofs.Tests.{by-test}
-use Rattle.meaning.specs.Numerals.{Signed, numberOf}
+use Rattle.meaning.specs.Numerals.{Signed, plusFirst, numberOf}
 use Rattle.meaning.specs.Readers.{takenNumber, takeNumber, skip, matchName, letters}
 use Rattle.meaning.specs.declared.Numeral.{Numeral}
-use Rattle.meaning.specs.declared.Trouble.the-variants.{TooFew, NoNumber, NoName}
+use Rattle.meaning.specs.declared.Trouble.the-variants.{TooFew, NoNumber, NoName, PlusSign}
 use Rattle.numerals.specs.Numbers.{gotNumber}
 use Rattle.parse.specs.Steps.{takenAt, skippedAt, matchedAt}
 use Rattle.parse.specs.declared.cursor.Matched.the-variants as matched
@@ -31,6 +31,7 @@ use Rattle.numerals.specs.declared.Number.the-variants as number
 
 abbrev pub numberTaken : ℕ → ℕ → Number → Taken
 numberTaken at k number.TooFew = taken.Stopped TooFew at
+numberTaken at k number.PlusSign = taken.Stopped PlusSign at
 numberTaken at k number.NoNumber = taken.Stopped NoNumber at
 numberTaken at k (number.Value negative size) = taken.Value negative size (record { at = at + k })
 
@@ -42,7 +43,8 @@ pub taken-by : (at : ℕ) (kind : Numeral) (k : ℕ) (s : List ℕ)
     → takenAt at (takeNumber kind k s) ≡ numberTaken at k (gotNumber (takeNumber kind k s))
 unfolding takeNumber
 taken-by at kind k s =
-    by-test (ltb (length s) k) (λ e. rw (e, add-zero)) (λ e. rw e (found-number at k (numberOf kind (take k s))))
+    by-test (ltb (length s) k) (λ e. rw (e, add-zero))
+    (λ e. by-test (plusFirst (take k s)) (λ p. rw (e, p, add-zero)) (λ p. rw (e, p) (found-number at k (numberOf kind (take k s)))))
 
 pub taken-within : (kind : Numeral) (k : ℕ) (s : List ℕ) {negative : Bool} {size : ℕ}
     → gotNumber (takeNumber kind k s) ≡ number.Value negative size → k ≤ length s

@@ -8,7 +8,7 @@ use borrow.Author.Tests.{ltb-false}
 use lib.Dec.{ltb}
 use lib.ListN.{length, take, drop, length-drop}
 use Rattle.laws.proofs.Tests.{when-is}
-use Rattle.meaning.specs.Numerals.{Signed, numberOf}
+use Rattle.meaning.specs.Numerals.{Signed, plusFirst, numberOf}
 use Rattle.meaning.specs.Readers.{Got, got, stopped, Reader, behind, goOn, skip, takenNumber, takeNumber, takeCount}
 use Rattle.meaning.specs.declared.Carried.{Carried}
 use Rattle.meaning.specs.declared.Numeral.{Numeral}
@@ -46,7 +46,8 @@ pub within-take : (kind : Numeral) (k : ℕ) (s : List ℕ) → Within (length s
 unfolding takeNumber
 within-take kind k s =
     when-is (λ (g : Got Signed). Within (length s) g) (ltb (length s) k) (λ _. omega arith)
-    (λ e. within-taken k (numberOf kind (take k s)) (length s) (ltb-false (length s) k e))
+    (λ e. when-is (λ (g : Got Signed). Within (length s) g) (plusFirst (take k s)) (λ _. omega arith)
+    (λ _. within-taken k (numberOf kind (take k s)) (length s) (ltb-false (length s) k e)))
 
 pub within-count : (k : ℕ) (s : List ℕ) → Within (length s) (takeCount k s)
 within-count k s = within-on (takeNumber _ k s) _ s (within-take _ k s) (λ n t. omega arith)

@@ -10,7 +10,7 @@ use lib.ListN.{length, drop, length-drop}
 use Rattle.laws.proofs.Tests.{when-is}
 use Rattle.meaning.specs.Bytes.{both, digitAt, plus, minus}
 use Rattle.meaning.specs.Readers.{Got, got, stopped, takeCount, skip, ZoneSign, utc, ahead, behindUtc, zoneSign}
-use Rattle.meaning.specs.Reading.{zoneBehind, zoneSize, zoneGroup, takeGroup, colonLength}
+use Rattle.meaning.specs.Reading.{zoneBehind, zoneSizeWith, zoneSize, zoneGroup, takeGroup, colonLength}
 use Rattle.meaning.specs.declared.Group.{Group}
 use Rattle.meaning.specs.declared.Group.the-variants.{Never, NotZero, Always}
 use Rattle.parse.proofs.steps.Within.{Within, within-on, within-skip, within-count}
@@ -38,7 +38,7 @@ within-group c NotZero s =
 within-group c Always s = within-skip-count c s
 
 within-size : (c : Bool) (minutes seconds : Group) (s : List ℕ) → Within (length s) (zoneSize c minutes seconds s)
-unfolding zoneSize
+unfolding zoneSizeWith
 within-size c minutes seconds s =
     within-on (takeCount 2 s) _ s (within-count 2 s)
     (λ hh t. within-on (zoneGroup c minutes t) _ t (within-group c minutes t)

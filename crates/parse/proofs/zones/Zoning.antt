@@ -13,7 +13,7 @@ use lib.Seq.{drop-cons, drop-drop}
 use Rattle.meaning.specs.Bytes.{when, both, plus, minus}
 use Rattle.meaning.specs.Numerals.{Signed}
 use Rattle.meaning.specs.Readers.{Got, got, stopped, Reader, behind, goOn, _>>=_, done, skip, takeCount, takeNumber, ZoneSign, utc, ahead, behindUtc, zoneSign}
-use Rattle.meaning.specs.Reading.{takenZone, takeGroup, colonLength, zoneBehind, zoneSize, zoneGroup}
+use Rattle.meaning.specs.Reading.{takenZone, takeGroup, colonLength, zoneBehind, zoneSizeWith, zoneSize, zoneGroup}
 use Rattle.meaning.specs.declared.Carried.{Carried}
 use Rattle.meaning.specs.declared.Carried.the-variants.{Value}
 use Rattle.meaning.specs.declared.Group.{Group}
@@ -117,7 +117,7 @@ made-goes-on f (stopped why i) next next′ h s = refl
 
 zone-made : (negative c : Bool) (minutes seconds : Group) (s : List ℕ)
     → zoneFrom negative c minutes seconds s ≡ madeOf (offset negative) (zoneSize c minutes seconds s)
-unfolding zoneSize
+unfolding zoneSizeWith
 zone-made negative c minutes seconds s =
     made-goes-on (offset negative) (takeCount 2 s) _ _
     (λ hh t. made-goes-on (offset negative) (zoneGroup c minutes t) _ _

@@ -15,7 +15,7 @@ use Rattle.meaning.specs.declared.Pair.the-variants.{Full}
 use Rattle.meaning.specs.declared.Refusal.{Refusal}
 use Rattle.meaning.specs.declared.Refusal.the-variants.{PatternTooLong, PatternByte, LoneQuote, FieldRange, NoRoom, TextTooLong, TextByte, InPart, OffsetLength, OffsetRange, CurrentYear}
 use Rattle.meaning.specs.declared.Trouble.{Trouble}
-use Rattle.meaning.specs.declared.Trouble.the-variants.{TooFew, NoNumber, NoName, NoSign}
+use Rattle.meaning.specs.declared.Trouble.the-variants.{TooFew, NoNumber, NoName, NoSign, PlusSign}
 use Rattle.meaning.specs.declared.Verdict.{Verdict}
 use Rattle.meaning.specs.declared.Verdict.the-variants.{Yes, No, Refused}
 use Rattle.pattern.proofs.parts.Few.{few-steps}
@@ -32,6 +32,7 @@ trouble-number TooFew = omega arith
 trouble-number NoNumber = omega arith
 trouble-number NoName = omega arith
 trouble-number NoSign = omega arith
+trouble-number PlusSign = omega arith
 
 small-number : (why : Refusal) → number why < 10 ^ 2
 unfolding number

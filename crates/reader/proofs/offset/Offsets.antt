@@ -1,18 +1,14 @@
--- Laws of parse_offset: the number of two bytes at a place, what it answers test by test, and seconds behind UTC.
+-- Laws of parse_offset: what it answers from two numbers taken, and test by test, and seconds behind UTC.
 use mathlib.Core.Bool.{Bool, true, false}
 use mathlib.Core.List.{List, [], _∷_}
-use mathlib.Core.Logic.{⊎-elim}
-use mathlib.Core.Option.{Option, none, some}
 use mathlib.Core.Path.{_≡_, refl, _∙_}
 use Prim.Native.Char.{Char, code}
-use Prim.Native.Nat.{ℕ, zero, suc, _+_, _≤_, _<_}
+use Prim.Native.Nat.{ℕ, zero, suc, _≤_, _<_}
 use native.Mathlib.Omega.{arith}
 use lib.Dec.{eqb}
 use lib.IntN.{pos, negℤ, _-ℤ_, +ℤ-idl}
-use lib.ListN.{length, getD, drop, length-drop}
-use borrow.Author.Tests.{eq-eqb, ne-eqb, le-ltb}
-use denote.Enum.Declared.{tagOf}
-use types.Run.{OneOf}
+use lib.ListN.{length, getD}
+use borrow.Author.Tests.{eq-eqb, ne-eqb}
 use mir.Facts.{toZ-pos}
 use mir.Syntax.{w32}
 use mir.Val.{SFits, toZ, ofZ}
@@ -20,37 +16,34 @@ use mir.ValLaws.{toZ-ofZ}
 use Rattle.meaning.specs.Answers.{textCheck}
 use Rattle.meaning.specs.Bytes.{plus}
 use Rattle.meaning.specs.Numerals.{Signed}
-use Rattle.meaning.specs.Readers.{takeNumber}
-use Rattle.meaning.specs.Whole.{hourAndMinute, twoAt, parseOffset}
+use Rattle.meaning.specs.Readers.{Got, got, stopped}
+use Rattle.meaning.specs.Whole.{seconds, hourAndMinute, twoAt, parseOffset}
 use Rattle.meaning.specs.declared.Checked.the-variants as checked
-use Rattle.meaning.specs.declared.Numeral.the-variants.{Count}
+use Rattle.meaning.specs.declared.Offset.{Offset}
 use Rattle.meaning.specs.declared.Offset.the-variants.{Seconds, Refused}
 use Rattle.meaning.specs.declared.Refusal.{Refusal}
-use Rattle.meaning.specs.declared.Refusal.the-variants.{OffsetLength}
-use Rattle.numerals.specs.Numbers.{numberIn, gotNumber}
-use Rattle.numerals.specs.declared.Number.the-variants.{Value}
-use Rattle.numerals.proofs.Number.{the-type}
-use Rattle.numerals.proofs.Sizing.{taken-is}
+use Rattle.meaning.specs.declared.Refusal.the-variants.{InPart, OffsetLength}
+use Rattle.parse.specs.Steps.{takenAt}
+use Rattle.parse.specs.declared.cursor.Taken.{Taken}
+use Rattle.parse.specs.declared.cursor.Taken.the-variants as taken
 
-pub two-taken : (at : ℕ) (s : List ℕ) → at + 2 ≤ length s → gotNumber (takeNumber Count 2 (drop at s)) ≡ numberIn (twoAt at s)
-unfolding takeNumber
-two-taken at s h =
-    let room : 2 ≤ length (drop at s) = rw length-drop (omega arith) in
-    rw (le-ltb (length (drop at s)) 2 room) (taken-is 2 (twoAt at s))
+-- what the hour and the minute answer, from what the cursor took at 1 and at 4
 
--- what an answer tells of the number: none by its variant, one by its size
+abbrev pub offsetTaken : Bool → Taken → Taken → Offset
+offsetTaken ahead (taken.Stopped why place) minute = Refused (InPart why 0 place)
+offsetTaken ahead (taken.Value negative hour next) (taken.Stopped why place) = Refused (InPart why 0 place)
+offsetTaken ahead (taken.Value negative hour next) (taken.Value negative′ minute next′) = seconds ahead hour minute
 
-pub none-told : (n : Option Signed) → OneOf (0 ∷ 1 ∷ []) (tagOf the-type (numberIn n)) → n ≡ none
-none-told none h = refl
-none-told (some n) h = absurd (⊎-elim (λ e. omega arith) (λ e. omega arith) h)
+offset-taken : (ahead : Bool) (hour minute : Got Signed)
+    → hourAndMinute ahead hour minute ≡ offsetTaken ahead (takenAt 1 hour) (takenAt 4 minute)
+offset-taken ahead (stopped why i) minute = refl
+offset-taken ahead (got n hour) (stopped why i) = refl
+offset-taken ahead (got n hour) (got m minute) = refl
 
-pub some-told : (n : Option Signed) {negative : Bool} {size : ℕ} → numberIn n ≡ Value negative size
-    → n ≡ some (record { negative = negative; size = size })
-some-told none h = absurd (let z : _≡_ {A = ℕ} 0 1 = cc in omega arith)
-some-told (some n) {negative} {size} h =
-    let a : n .negative ≡ negative = cc in
-    let b : n .size ≡ size = cc in
-    rw (← a, ← b)
+pub six-taken : (s : List ℕ)
+    → hourAndMinute (eqb (getD s 0 0) plus) (twoAt 1 s) (twoAt 4 s)
+    ≡ offsetTaken (eqb (getD s 0 0) plus) (takenAt 1 (twoAt 1 s)) (takenAt 4 (twoAt 4 s))
+six-taken s = offset-taken (eqb (getD s 0 0) plus) (twoAt 1 s) (twoAt 4 s)
 
 -- the answer, by what the checks and the first byte say
 

@@ -27,11 +27,14 @@ enum-told c = search needs
 enum-told-2 : tie.Need-enum-told-2
 enum-told-2 c = search needs
 
+enum-told-3 : tie.Need-enum-told-3
+enum-told-3 c = search needs
+
 enum-known-negative : tie.Need-enum-known-negative
 enum-known-negative c = search needs
 
-add-t16 : tie.Need-add-t16
-add-t16 c =
+add-t17 : tie.Need-add-t17
+add-t17 c =
     let a = c .before .before .before .before .before .before .args in
     let at = a .self .at in
     let rest = rest-all at (now (a .text)) in
@@ -56,6 +59,14 @@ returns-2 c =
 
 returns-3 : tie.Need-returns-3
 returns-3 c =
+    let a = c .before .before .before .before .before .args in
+    let at = a .self .at in
+    let rest = rest-all at (now (a .text)) in
+    let found = sym (rw rest at (c .before .before .read-number .ensures)) ∙ c .enum-told3 .given .1 in
+    rw (taken-by at (a .kind) (a .k) (drop at (now (a .text))), found)
+
+returns-4 : tie.Need-returns-4
+returns-4 c =
     let a = c .before .before .before .before .before .before .args in
     let at = a .self .at in
     let rest = rest-all at (now (a .text)) in
@@ -72,8 +83,10 @@ take-spec =
     read-number-requires
     enum-told
     enum-told-2
+    enum-told-3
     enum-known-negative
-    add-t16
+    add-t17
     returns
     returns-2
-    returns-3)
+    returns-3
+    returns-4)
