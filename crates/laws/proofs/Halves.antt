@@ -18,7 +18,7 @@ use Rattle.meaning.specs.declared.Fields.{Fields}
 use Rattle.meaning.specs.declared.Pair.{Pair}
 use Rattle.meaning.specs.declared.Part.{Part}
 use Rattle.meaning.specs.declared.Wrote.the-variants as wrote
-use Rattle.laws.specs.Halves.{startsQuoted, meetEqual, Beside, moved}
+use Rattle.laws.specs.Halves.{endsOpen, startsQuoted, meetEqual, Beside, moved}
 use Rattle.laws.proofs.Checks.{Accepted, pattern-fine, fine-bytes, fine-pattern, Writes}
 use Rattle.laws.proofs.Seams as seams
 use Rattle.laws.proofs.Splitting.{total, parts-fill}
@@ -53,6 +53,12 @@ lone-quote p [] closed apart h k = rw append-nil h
 lone-quote p (b ∷ q) closed apart h k =
     rw (seams.contents-join p (b ∷ q) closed apart)
     (seams.lone-quote-join (contents p) (contents (b ∷ q)) (unfold startsQuoted in closed) ∙ k)
+
+-- the first has no open quote at its end
+pub no-open-quote : (p q : List ℕ) → endsOpen (contents p) ≡ false → startsQuoted p q ≡ false
+unfolding startsQuoted
+no-open-quote p [] h = refl
+no-open-quote p (b ∷ q) h = h
 
 module _ {p q : List ℕ} (beside : Beside p q) where
   pub contents-join : contents (p ++ q) ≡ contents p ++ contents q
@@ -158,11 +164,6 @@ empty-accepted : patternCheck [] ≡ Fine
 unfolding patternCheck
 empty-accepted = refl
 
-nothing-open : (q : List ℕ) → startsQuoted [] q ≡ false
-unfolding startsQuoted
-nothing-open [] = refl
-nothing-open (b ∷ q) = refl
-
 nothing-met : (p : List ℕ) → meetEqual p [] ≡ false
 unfolding meetEqual
 nothing-met [] = refl
@@ -174,7 +175,7 @@ empty-first q h =
     record {
       first = empty-accepted;
       second = h;
-      closed = nothing-open q;
+      closed = no-open-quote [] q (unfold endsOpen contents in refl);
       apart = unfold meetEqual in refl;
       short = omega (arith, pattern-fine q h .short);
     }
