@@ -15,7 +15,6 @@ use Rattle.meaning.specs.declared.Role.the-variants as role
 use Rattle.meaning.specs.declared.Rule.the-variants.{Zone}
 
 unfoldable pub rustOffsetText : Bool → Group → Group → ℤ → List ℕ
-unfolding offsetDigits
 rustOffsetText c minutes seconds z = when (isNegative z) minus plus ∷ offsetDigits c minutes seconds (natAbs z)
 
 abbrev pub rustZoneText : Bool → Bool → Group → Group → ℤ → List ℕ
@@ -24,7 +23,6 @@ rustZoneText utc c minutes seconds z =
 
 -- what is excepted: the offset is below zero, and every digit written for it is zero
 unfoldable pub minusNothing : Bool → Group → Group → ℤ → Bool
-unfolding offsetDigits allZero
 minusNothing c minutes seconds z = both (isNegative z) (allZero (offsetDigits c minutes seconds (natAbs z)))
 
 -- the same for a count of X or x: an offset from -59 to -1, at all counts but 4 and 5, which write seconds

@@ -126,13 +126,12 @@ unfoldable pub allZero : List ℕ → Bool
 allZero [] = true
 allZero (b ∷ s) = both (when (isDigit b) (eqb b (code "0")) true) (allZero s)
 
--- "where every digit written for the offset is zero, a plus", else "minus exactly when the offset is below zero"
+-- "`-` just where the offset is below zero and a digit that is written is not zero: where every digit written for the offset is
+-- zero, it is `+`"
 unfoldable pub isMinus : Bool → Group → Group → ℤ → Bool
-unfolding offsetDigits allZero
 isMinus c minutes seconds z = when (allZero (offsetDigits c minutes seconds (natAbs z))) false (isNegative z)
 
 unfoldable pub offsetText : Bool → Group → Group → ℤ → List ℕ
-unfolding offsetDigits isMinus
 offsetText c minutes seconds z = when (isMinus c minutes seconds z) minus plus ∷ offsetDigits c minutes seconds (natAbs z)
 
 -- "X with offset 0 writes Z at any count", for exactly 0 alone
