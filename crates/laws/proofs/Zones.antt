@@ -184,10 +184,15 @@ zero-sum h m s =
     let none : h * 3600 + m * 60 + s ≡ 0 = eqb-true _ 0 e in
     both-are (both (eqb h 0) (eqb m 0)) (eqb s 0) (both-are (eqb h 0) (eqb m 0) (eq-eqb h 0 (omega arith)) (eq-eqb m 0 (omega arith))) (eq-eqb s 0 (omega arith)))
 
+pub zero-each : (c : Bool) (minutes seconds : Group) (n : ℕ) → allZero (offsetDigits c minutes seconds n)
+    ≡ both (both (eqb (n / 3600) 0) (allZero (groupText c minutes (n % 3600 / 60)))) (allZero (groupText c seconds (n % 60)))
+unfolding offsetDigits
+zero-each c minutes seconds n = rw (all-zero-append, all-zero-append, zero-num)
+
 pub zero-offset : (c : Bool) (minutes seconds : Group) (n : ℕ) → allZero (offsetDigits c minutes seconds n) ≡ eqb (offsetValue minutes seconds n) 0
-unfolding offsetDigits offsetValue
+unfolding offsetValue
 zero-offset c minutes seconds n =
-    rw (all-zero-append, all-zero-append, zero-num, zero-group, zero-group)
+    rw (zero-each, zero-group, zero-group)
     (zero-sum (n / 3600) (groupValue minutes (n % 3600 / 60)) (groupValue seconds (n % 60)))
 
 -- what a zone carries of which every digit is zero
