@@ -1,4 +1,4 @@
--- The sign of a zone, by samples: each count of X and of x, at offsets around no minute and at no hour.
+-- The sign of a zone, by samples: each count of X and of x, at offsets of less than a minute, of a minute and of an hour.
 use mathlib.Core.List.{List, [], _∷_, map}
 use mathlib.Core.Path.{_≡_, refl}
 use Prim.Native.Nat.{ℕ}
