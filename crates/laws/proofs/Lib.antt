@@ -6,6 +6,7 @@ pub mod Elements
 pub mod Fields
 pub mod Halves
 pub mod Laid
+pub mod Minus
 pub mod Names
 pub mod Needed
 pub mod Numbers
