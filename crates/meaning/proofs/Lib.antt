@@ -1,4 +1,5 @@
 pub mod Names
 pub mod Pluses
 pub mod Samples
+pub mod Strict
 pub mod Units
