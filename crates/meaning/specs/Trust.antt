@@ -1,5 +1,5 @@
--- Demand 3: when a pattern can be trusted to read back what it wrote, and what an answer of the check says. The check is of
--- the full pair. How it is decided is no matter of definition.
+-- Demand 3: when a pattern can be trusted to read back what it wrote, and what an answer of the check says. How it is decided is
+-- no matter of definition.
 use mathlib.Core.Bool.{Bool}
 use mathlib.Core.List.{List}
 use mathlib.Core.Path.{_≡_}
@@ -52,7 +52,11 @@ unfoldable pub trustCheck : List ℕ → ℤ → Checked
 unfolding patternCheck currentYearCheck
 trustCheck p current = patternCheck p else currentYearCheck current
 
--- what an answer of the check says: refusals 1, 2, 3, 14; yes when every part comes back for every allowed record; no
+-- the check is of the full pair
+abbrev pub fullPair : Bool → Choices
+fullPair strict = record { pair = Full; strict = strict }
+
+-- what an answer of the check says, of a reading with these choices: refusals 1, 2, 3, 14; yes when every part comes back for every allowed record; no
 -- with the first part that fails
 unfoldable pub SaysOf : Choices → Book → List ℕ → ℤ → Verdict → Type 0
 unfolding trustCheck AllComeBack steps
@@ -62,6 +66,6 @@ SaysOf choices book p current (verdict.No part f) =
     (trustCheck p current ≡ Fine) × FailsFirst choices book (natAbs current) (steps (choices .pair) p) part f
 SaysOf choices book p current (verdict.Refused why) = trustCheck p current ≡ Refused why
 
--- the answer of the check, which is of the full pair: the same, whether a reading is strict or not
+-- the answer of the check: the same, whether a reading is strict or not
 abbrev pub Says : Book → List ℕ → ℤ → Verdict → Type 0
-Says book p current answer = (strict : Bool) → SaysOf (record { pair = Full; strict = strict }) book p current answer
+Says book p current answer = (strict : Bool) → SaysOf (fullPair strict) book p current answer
