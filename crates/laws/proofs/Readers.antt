@@ -1,20 +1,20 @@
 -- Laws of the readers that reading is made of: what each step gives where it goes on and where it stops, and one reader
 -- after the other. Proofs about reading cite these and do not open `skip` or `takeNumber`.
-use mathlib.Core.Bool.{true, false}
+use mathlib.Core.Bool.{Bool, true, false}
 use mathlib.Core.List.{List, [], _∷_, _++_}
-use mathlib.Core.Option.{none, some}
-use mathlib.Core.Path.{_≡_, refl, _∙_}
+use mathlib.Core.Option.{Option, none, some}
+use mathlib.Core.Path.{_≡_, refl, ap, _∙_}
 use Prim.Native.Nat.{ℕ, zero, suc, _+_, _≤_, _<_}
 use native.Mathlib.Nat.{eq-or-lt-of-le}
 use mathlib.Core.Logic.{_⊎_, inl, inr}
 use native.Mathlib.Omega.{arith}
 use lib.Dec.{eqb}
-use lib.ListN.{length, take, drop}
+use lib.ListN.{length, take, drop, length-append}
 use lib.Seq.{drop-append-seam}
-use borrow.Author.Tests.{eqb-true, lt-ltb, le-ltb}
+use borrow.Author.Tests.{eqb-true, eq-eqb, lt-ltb, le-ltb}
 use Rattle.meaning.specs.Bytes.{digitAt, plus}
 use Rattle.meaning.specs.Numerals.{Signed, allDigits, plusFirst, numberOf}
-use Rattle.meaning.specs.Readers.{got, stopped, Reader, behind, _>>=_, skip, takeNumber, reach}
+use Rattle.meaning.specs.Readers.{got, stopped, Reader, behind, _>>=_, skip, firstDiffering, same, takeNumber, reach}
 use Rattle.meaning.specs.declared.Numeral.{Numeral}
 use Rattle.meaning.specs.declared.Numeral.the-variants.{Count, Year}
 use Rattle.meaning.specs.declared.Trouble.{Trouble}
@@ -46,6 +46,19 @@ skip-goes-on k s h = rw (le-ltb (length s) k h)
 pub skip-stops : (k : ℕ) (s : List ℕ) → length s < k → skip k s ≡ stopped TooFew 0
 unfolding skip
 skip-stops k s h = rw (lt-ltb (length s) k h)
+
+-- bytes that are there compare as the same
+no-difference : (i : ℕ) (w r : List ℕ) → firstDiffering i w (w ++ r) ≡ none
+unfolding firstDiffering
+no-difference i [] r = refl
+no-difference i (b ∷ w) r = ap compared (eq-eqb b b refl) ∙ no-difference (suc i) w r
+  where
+    compared : Bool → Option ℕ
+    compared c = elim c as (λ x. Option ℕ) [ true ↦ firstDiffering (suc i) w (w ++ r) | false ↦ some i ]
+
+pub same-goes-on : (w r : List ℕ) → same w (w ++ r) ≡ got (length w) tt
+unfolding same
+same-goes-on w r = rw (le-ltb (length (w ++ r)) (length w) (simp length-append (omega arith)), no-difference 0 w r)
 
 -- a number has no plus in front
 plus-is-none : (kind : Numeral) (s : List ℕ) → numberOf kind (plus ∷ s) ≡ none

@@ -8,7 +8,7 @@ use crate::record::no_reading;
 use crate::record::unit_number;
 use meaning::Carried;
 use meaning::Checked;
-use meaning::Pair;
+use meaning::Choices;
 use meaning::Reading;
 use meaning::Refusal;
 use parse::cursor::Cursor;
@@ -17,9 +17,9 @@ use parse::step::parse_step;
 use pattern::parts::next_part;
 use rules::step::step_of;
 
-// All parts in order; the first that can't be read refuses the whole.
-pub fn parse_parts(pair: Pair, pattern: &[u8], text: &[u8], current_year: u32) -> Reading
-    ensures { λ r. ⌜ r ≡ walkReading (walk english «current_year» 0 0 (steps pair (now (pattern .entry))) (now (text .entry)) []) ⌝ }
+// All parts in order; the first that can't be read refuses the whole, and so does what a strict reading leaves.
+pub fn parse_parts(choices: Choices, pattern: &[u8], text: &[u8], current_year: u32) -> Reading
+    ensures { λ r. ⌜ r ≡ walkReading (walk choices english «current_year» 0 0 (steps (choices .pair) (now (pattern .entry))) (now (text .entry)) []) ⌝ }
 {
     let mut values = [0i64; 15];
     let mut mask: u16 = 0;
@@ -28,8 +28,8 @@ pub fn parse_parts(pair: Pair, pattern: &[u8], text: &[u8], current_year: u32) -
     let mut i = 0;
     while place < pattern.len() {
         let part = next_part(pattern, place);
-        let step = step_of(pair, pattern, part);
-        match parse_step(step, pattern, current_year, text, Cursor { at }) {
+        let step = step_of(choices.pair, pattern, part);
+        match parse_step(choices, step, pattern, current_year, text, Cursor { at }) {
             PartRead::Stopped {
                 trouble,
                 place: stop,
@@ -51,6 +51,9 @@ pub fn parse_parts(pair: Pair, pattern: &[u8], text: &[u8], current_year: u32) -
         }
         place += part.length;
         i += 1;
+    }
+    if choices.strict && at < text.len() {
+        return no_reading(Checked::Refused(Refusal::TextLeft(at)));
     }
     Reading {
         checked: Checked::Fine,
