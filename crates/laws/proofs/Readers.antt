@@ -12,9 +12,11 @@ use lib.Dec.{eqb}
 use lib.ListN.{length, take, drop, length-append}
 use lib.Seq.{drop-append-seam}
 use borrow.Author.Tests.{eqb-true, eq-eqb, lt-ltb, le-ltb}
+use Rattle.meaning.specs.Answers.{restCheck}
 use Rattle.meaning.specs.Bytes.{digitAt, plus}
 use Rattle.meaning.specs.Numerals.{Signed, allDigits, plusFirst, numberOf}
 use Rattle.meaning.specs.Readers.{got, stopped, Reader, behind, _>>=_, skip, firstDiffering, sameBy, same, takeNumber, reach}
+use Rattle.meaning.specs.declared.Checked.the-variants.{Fine}
 use Rattle.meaning.specs.declared.Numeral.{Numeral}
 use Rattle.meaning.specs.declared.Numeral.the-variants.{Count, Year}
 use Rattle.meaning.specs.declared.Trouble.{Trouble}
@@ -124,3 +126,8 @@ reach-exact (suc more) i s n h k d e = go (eq-or-lt-of-le h)
         let no-digit : digitAt i s ≡ false = rw (← q) at (e (omega arith)) in
         reach-ends more i s no-digit ∙ q
     go (inr l) ih = reach-on more i s (d i l) ∙ ih l
+
+-- where no byte remains, no reading leaves any
+pub none-left : (strict : Bool) (at : ℕ) (s : List ℕ) → length s ≤ 0 → restCheck strict at s ≡ Fine
+none-left true at s h = rw (le-ltb 0 (length s) h)
+none-left false at s h = refl

@@ -4,6 +4,7 @@ pub mod CurrentYear
 pub mod Fails
 pub mod Fitting
 pub mod NameRules
+pub mod ReadBack
 pub mod RealDays
 pub mod RulesAhead
 pub mod Samples
@@ -13,4 +14,5 @@ pub mod Table
 pub mod Takes
 pub mod Turns
 pub mod Verdicts
+pub mod Walks
 pub mod Witness

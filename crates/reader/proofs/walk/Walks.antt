@@ -1,5 +1,5 @@
 -- Laws of the walk over the parts of a pattern: a part more, and the end.
-use mathlib.Core.Bool.{Bool, true, false}
+use mathlib.Core.Bool.{true, false}
 use mathlib.Core.List.{List, _∷_}
 use mathlib.Core.Logic.{_⊎_, inl, inr}
 use mathlib.Core.Path.{_≡_, refl, _∙_}
@@ -8,7 +8,8 @@ use native.Mathlib.Numerals.{add-one}
 use native.Mathlib.Omega.{arith}
 use lib.ListN.{length, drop, length-drop}
 use lib.Seq.{drop-drop}
-use borrow.Author.Tests.{lt-ltb, le-ltb}
+use borrow.Author.Tests.{lt-ltb}
+use Rattle.laws.proofs.Readers.{none-left}
 use Rattle.meaning.specs.Answers.{restCheck}
 use Rattle.meaning.specs.Names.{Book}
 use Rattle.meaning.specs.Readers.{Got, got, stopped}
@@ -16,7 +17,7 @@ use Rattle.meaning.specs.Reading.{readStep}
 use Rattle.meaning.specs.Whole.{Walk, walked, refusedAt, walkedBy, walk}
 use Rattle.meaning.specs.Writing.{Step, steps}
 use Rattle.meaning.specs.declared.Carried.{Carried}
-use Rattle.meaning.specs.declared.Checked.the-variants.{Fine, Refused}
+use Rattle.meaning.specs.declared.Checked.the-variants.{Refused}
 use Rattle.meaning.specs.declared.Choices.{Choices}
 use Rattle.meaning.specs.declared.Part.{Part}
 use Rattle.meaning.specs.declared.Refusal.the-variants.{InPart, TextLeft}
@@ -27,10 +28,6 @@ use Rattle.pattern.specs.Next.{Next}
 use Rattle.pattern.proofs.parts.Walks.{steps-next, steps-done}
 use Rattle.rules.specs.Steps.{means, Chosen}
 use Rattle.rules.specs.declared.step.Step as rules
-
-none-left : (strict : Bool) (at : ℕ) (s : List ℕ) → length s ≤ 0 → restCheck strict at s ≡ Fine
-none-left true at s h = rw (le-ltb 0 (length s) h)
-none-left false at s h = refl
 
 module _ (choices : Choices) (book : Book) (current i : ℕ) (text : List ℕ) (gave : List Carried) where
   -- what follows a part, by what it gave
