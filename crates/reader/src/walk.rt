@@ -2,7 +2,7 @@
 ghost use mathlib.Core.List.{[]};
 ghost use mathlib.Core.Path.{_≡_};
 ghost use Rattle.meaning.specs.Names.{english};
-ghost use Rattle.meaning.specs.Whole.{walk, walkReading};
+ghost use Rattle.meaning.specs.Whole.{readingOf, walk, walkReading};
 ghost use Rattle.meaning.specs.Writing.{steps};
 use crate::record::no_reading;
 use crate::record::unit_number;
@@ -11,16 +11,28 @@ use meaning::Checked;
 use meaning::Choices;
 use meaning::Reading;
 use meaning::Refusal;
+use meaning::Trouble;
 use parse::cursor::Cursor;
 use parse::cursor::PartRead;
 use parse::step::parse_step;
 use pattern::parts::next_part;
 use rules::step::step_of;
 
+fn refused_in(part: usize, trouble: Trouble, place: usize) -> Reading
+    ensures { λ r. ⌜ r ≡ readingOf (Checked.Refused (Refusal.InPart trouble part place)) 0 [] ⌝ }
+{
+    no_reading(Checked::Refused(Refusal::InPart {
+        trouble,
+        part,
+        place,
+    }))
+}
+
 // All parts in order; the first that can't be read refuses the whole, and so does what a strict reading leaves.
 pub fn parse_parts(choices: Choices, pattern: &[u8], text: &[u8], current_year: u32) -> Reading
     ensures { λ r. ⌜ r ≡ walkReading (walk choices english «current_year» 0 0 (steps (choices .pair) (now (pattern .entry))) (now (text .entry)) []) ⌝ }
 {
+    let pair = choices.pair;
     let mut values = [0i64; 15];
     let mut mask: u16 = 0;
     let mut at = 0;
@@ -28,17 +40,13 @@ pub fn parse_parts(choices: Choices, pattern: &[u8], text: &[u8], current_year: 
     let mut i = 0;
     while place < pattern.len() {
         let part = next_part(pattern, place);
-        let step = step_of(choices.pair, pattern, part);
+        let step = step_of(pair, pattern, part);
         match parse_step(choices, step, pattern, current_year, text, Cursor { at }) {
             PartRead::Stopped {
                 trouble,
                 place: stop,
             } => {
-                return no_reading(Checked::Refused(Refusal::InPart {
-                    trouble,
-                    part: i,
-                    place: stop,
-                }));
+                return refused_in(i, trouble, stop);
             }
             PartRead::Got { carried, next } => {
                 if let Carried::Value(unit, value) = carried {

@@ -1,4 +1,5 @@
 -- Two answers that `SaysOf` allows are the same but for the record that a no shows, whatever the names are.
+use mathlib.Core.Bool.{false}
 use mathlib.Core.List.{List}
 use mathlib.Core.Path.{_≡_, refl, sym, ap, _∙_}
 use Prim.Native.Nat.{ℕ, _<_}
@@ -7,7 +8,7 @@ use lib.Dec.{ltb}
 use lib.IntN.{ℤ}
 use borrow.Author.Tests.{ltb-true, ltb-false}
 use Rattle.meaning.specs.Names.{Book}
-use Rattle.meaning.specs.Trust.{AllComeBack, FailsFirst, SaysOf}
+use Rattle.meaning.specs.Trust.{AllComeBack, FailsFirst, fullPair, SaysOf, Says}
 use Rattle.meaning.specs.Writing.{Step}
 use Rattle.meaning.specs.declared.Checked.{Checked}
 use Rattle.meaning.specs.declared.Checked.the-variants.{Fine, Refused}
@@ -48,17 +49,21 @@ module _ {choices : Choices} {book : Book} {current : ℕ} {ss : List Step} wher
       by-test (ltb j i) (λ d. absurd (not-before first′ (first .earlier) (ltb-true j i d)))
       (λ d. omega (arith, ltb-false i j e, ltb-false j i d)))
 
-pub answers-coincide : (choices : Choices) (book : Book) (p : List ℕ) (current : ℤ) (v w : Verdict) → SaysOf choices book p current v
+pub answers-of-coincide : (choices : Choices) (book : Book) (p : List ℕ) (current : ℤ) (v w : Verdict) → SaysOf choices book p current v
     → SaysOf choices book p current w → SameButRecord v w
 unfolding SaysOf
-answers-coincide choices book p current Yes Yes a b = refl
-answers-coincide choices book p current Yes (No j g) a b = absurd (not-before (b .1) (a .1) (b .1 .there))
-answers-coincide choices book p current Yes (Refuses why) a b = absurd (not-both (a .0) b)
-answers-coincide choices book p current (No i f) Yes a b = absurd (not-before (a .1) (b .1) (a .1 .there))
-answers-coincide choices book p current (No i f) (No j g) a b = ap failsAt (same-part i j (a .1) (b .1))
-answers-coincide choices book p current (No i f) (Refuses why) a b = absurd (not-both (a .0) b)
-answers-coincide choices book p current (Refuses why) Yes a b = absurd (not-both (b .0) a)
-answers-coincide choices book p current (Refuses why) (No j g) a b = absurd (not-both (b .0) a)
-answers-coincide choices book p current (Refuses why) (Refuses why′) a b =
+answers-of-coincide choices book p current Yes Yes a b = refl
+answers-of-coincide choices book p current Yes (No j g) a b = absurd (not-before (b .1) (a .1) (b .1 .there))
+answers-of-coincide choices book p current Yes (Refuses why) a b = absurd (not-both (a .0) b)
+answers-of-coincide choices book p current (No i f) Yes a b = absurd (not-before (a .1) (b .1) (a .1 .there))
+answers-of-coincide choices book p current (No i f) (No j g) a b = ap failsAt (same-part i j (a .1) (b .1))
+answers-of-coincide choices book p current (No i f) (Refuses why) a b = absurd (not-both (a .0) b)
+answers-of-coincide choices book p current (Refuses why) Yes a b = absurd (not-both (b .0) a)
+answers-of-coincide choices book p current (Refuses why) (No j g) a b = absurd (not-both (b .0) a)
+answers-of-coincide choices book p current (Refuses why) (Refuses why′) a b =
     let e : Refused why ≡ Refused why′ = sym a ∙ b in
     cc
+
+-- and so are two answers of the check
+pub answers-coincide : (book : Book) (p : List ℕ) (current : ℤ) (v w : Verdict) → Says book p current v → Says book p current w → SameButRecord v w
+answers-coincide book p current v w a b = answers-of-coincide (fullPair false) book p current v w (a false) (b false)

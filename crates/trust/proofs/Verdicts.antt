@@ -24,7 +24,7 @@ use Rattle.laws.proofs.Checks.{else-fine, fine-unless}
 use Rattle.laws.proofs.Fields.{allowed}
 use Rattle.laws.proofs.Tests.{both-true, by-test}
 use Rattle.laws.proofs.Texts.{text-from}
-use Rattle.trust.proofs.Agreement.{SameButRecord, answers-coincide}
+use Rattle.trust.proofs.Agreement.{SameButRecord, answers-of-coincide}
 use Rattle.trust.proofs.Fitting.{Fitting, fitting-from, steps-fit}
 use Rattle.trust.proofs.Steps.{step-comes-back, step-fails}
 use Rattle.trust.proofs.Turns.{failing-on, failing-here}
@@ -143,7 +143,7 @@ verdict-says p current = go (trustCheck p current) refl
 pub told-as-checked : (p : List ℕ) (current : ℤ) (strict : Bool) (v : Verdict) → SaysOf (fullPair strict) english p current v
     → SameButRecord v (verdictOf p current)
 told-as-checked p current strict v says =
-    answers-coincide (fullPair strict) english p current v (verdictOf p current) says (verdict-says p current strict)
+    answers-of-coincide (fullPair strict) english p current v (verdictOf p current) says (verdict-says p current strict)
 
 -- so it is the same of both
 pub same-strict-or-not : (p : List ℕ) (current : ℤ) (v w : Verdict) → SaysOf (fullPair true) english p current v

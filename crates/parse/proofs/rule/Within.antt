@@ -1,14 +1,14 @@
 -- No reader takes more than there is, and none stops behind it: a year, a name, a rule, a part.
 use mathlib.Core.Bool.{Bool, true, false}
 use mathlib.Core.List.{List, [], _∷_}
-use mathlib.Core.Option.{Option, some}
 use mathlib.Core.Path.{_≡_, refl}
 use Prim.Native.Nat.{ℕ, suc, _+_, _-_, _≤_}
 use native.Mathlib.Omega.{arith}
 use lib.Dec.{eqb, ltb}
 use lib.ListN.{length, take, length-take}
 use borrow.Author.Tests.{ltb-false}
-use Rattle.laws.proofs.Tests.{when-is}
+use Rattle.laws.proofs.Readers.{same-byte, other-byte}
+use Rattle.laws.proofs.Tests.{by-test, when-is}
 use Rattle.meaning.specs.Names.{Book, names}
 use Rattle.meaning.specs.Readers.{Got, got, stopped, _>>=_, skip, firstDiffering, sameBy, same, takeNumber, takeCount, takeYear, reach, matchName, letters, zoneSign}
 use Rattle.meaning.specs.Reading.{literalRead, readRule, readStep, passed, takenYear, minusFirst, zoneBehind, zoneSize}
@@ -78,12 +78,9 @@ within-differing : (k room : ℕ) → k ≤ room → (i : ℕ) (w s : List ℕ) 
 unfolding firstDiffering
 within-differing k room fits i [] s h = fits
 within-differing k room fits i (a ∷ w) [] h = omega arith
-within-differing k room fits i (a ∷ w) (b ∷ s) h = go (eqb a b) (within-differing k room fits (suc i) w s (omega arith))
-  where
-    go : (c : Bool) → Within room (sameBy k (firstDiffering (suc i) w s))
-        → Within room (sameBy k (elim c as (λ x. Option ℕ) [ true ↦ firstDiffering (suc i) w s | false ↦ some i ]))
-    go true rest = rest
-    go false rest = omega arith
+within-differing k room fits i (a ∷ w) (b ∷ s) h =
+    by-test (eqb a b) (λ e. rw (same-byte i a w b s e) (within-differing k room fits (suc i) w s (omega arith)))
+    (λ e. rw (other-byte i a w b s e) (omega arith))
 
 within-same : (w s : List ℕ) → Within (length s) (same w s)
 unfolding same

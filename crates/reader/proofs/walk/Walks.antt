@@ -1,20 +1,26 @@
 -- Laws of the walk over the parts of a pattern: a part more, and the end.
+use mathlib.Core.Bool.{true, false}
 use mathlib.Core.List.{List, _∷_}
-use mathlib.Core.Path.{_≡_, refl}
-use Prim.Native.Nat.{ℕ, suc, _+_, _≤_}
+use mathlib.Core.Logic.{_⊎_, inl, inr}
+use mathlib.Core.Path.{_≡_, refl, _∙_}
+use Prim.Native.Nat.{ℕ, suc, _+_, _≤_, _<_}
 use native.Mathlib.Numerals.{add-one}
-use lib.ListN.{length, drop}
+use native.Mathlib.Omega.{arith}
+use lib.ListN.{length, drop, length-drop}
 use lib.Seq.{drop-drop}
+use borrow.Author.Tests.{lt-ltb}
+use Rattle.laws.proofs.Readers.{none-left}
+use Rattle.meaning.specs.Answers.{restCheck}
 use Rattle.meaning.specs.Names.{Book}
 use Rattle.meaning.specs.Readers.{Got, got, stopped}
 use Rattle.meaning.specs.Reading.{readStep}
-use Rattle.meaning.specs.Whole.{Walk, walked, refusedAt, walk}
+use Rattle.meaning.specs.Whole.{Walk, walked, refusedAt, walkedBy, walk}
 use Rattle.meaning.specs.Writing.{Step, steps}
 use Rattle.meaning.specs.declared.Carried.{Carried}
 use Rattle.meaning.specs.declared.Checked.the-variants.{Refused}
-use Rattle.meaning.specs.declared.Pair.{Pair}
+use Rattle.meaning.specs.declared.Choices.{Choices}
 use Rattle.meaning.specs.declared.Part.{Part}
-use Rattle.meaning.specs.declared.Refusal.the-variants.{InPart}
+use Rattle.meaning.specs.declared.Refusal.the-variants.{InPart, TextLeft}
 use Rattle.parse.specs.Steps.{partAt}
 use Rattle.parse.specs.declared.cursor.PartRead.{PartRead}
 use Rattle.parse.specs.declared.cursor.PartRead.the-variants as part
@@ -23,15 +29,15 @@ use Rattle.pattern.proofs.parts.Walks.{steps-next, steps-done}
 use Rattle.rules.specs.Steps.{means, Chosen}
 use Rattle.rules.specs.declared.step.Step as rules
 
-module _ (book : Book) (current i : ℕ) (text : List ℕ) (gave : List Carried) where
+module _ (choices : Choices) (book : Book) (current i : ℕ) (text : List ℕ) (gave : List Carried) where
   -- what follows a part, by what it gave
   abbrev pub walkBy : List Step → PartRead → Walk
   walkBy ss (part.Stopped why place) = refusedAt (Refused (InPart why i place))
-  walkBy ss (part.Got c next) = walk book current (i + 1) (next .at) ss (drop (next .at) text) (c ∷ gave)
+  walkBy ss (part.Got c next) = walk choices book current (i + 1) (next .at) ss (drop (next .at) text) (c ∷ gave)
 
   by-part : (at : ℕ) (ss : List Step) (g : Got Carried)
       → (elim g as (λ x. Walk) [
-        | got n c ↦ walk book current (suc i) (at + n) ss (drop n (drop at text)) (c ∷ gave)
+        | got n c ↦ walk choices book current (suc i) (at + n) ss (drop n (drop at text)) (c ∷ gave)
         | stopped why place ↦ refusedAt (Refused (InPart why i (at + place)))
       ])
       ≡ walkBy ss (partAt at g)
@@ -39,17 +45,29 @@ module _ (book : Book) (current i : ℕ) (text : List ℕ) (gave : List Carried)
   by-part at ss (stopped why place) = refl
 
   walk-on : (at : ℕ) (step : Step) (ss : List Step)
-      → walk book current i at (step ∷ ss) (drop at text) gave ≡ walkBy ss (partAt at (readStep book current step (drop at text)))
+      → walk choices book current i at (step ∷ ss) (drop at text) gave ≡ walkBy ss (partAt at (readStep choices book current step (drop at text)))
   unfolding walk
-  walk-on at step ss = by-part at ss (readStep book current step (drop at text))
+  walk-on at step ss = by-part at ss (readStep choices book current step (drop at text))
 
-  pub walk-step : {pair : Pair} (at place : ℕ) {p : List ℕ} {part : Part} {k : rules.Step} → Next p place part → Chosen pair p part k
-      → walk book current i at (steps pair (drop place p)) (drop at text) gave
-      ≡ walkBy (steps pair (drop (place + part .length) p)) (partAt at (readStep book current (means p k) (drop at text)))
-  walk-step {pair} at place {p} {part} {k} n chosen =
+  pub walk-step : (at place : ℕ) {p : List ℕ} {part : Part} {k : rules.Step} → Next p place part → Chosen (choices .pair) p part k
+      → walk choices book current i at (steps (choices .pair) (drop place p)) (drop at text) gave
+      ≡ walkBy (steps (choices .pair) (drop (place + part .length) p)) (partAt at (readStep choices book current (means p k) (drop at text)))
+  walk-step at place {p} {part} {k} n chosen =
+      let pair = choices .pair in
       rw (steps-next pair p place part n, ← chosen .meant) (walk-on at (means p k) (steps pair (drop (place + part .length) p)))
 
-  pub walk-done : (pair : Pair) (at place : ℕ) (p : List ℕ) → length p ≤ place
-      → walk book current i at (steps pair (drop place p)) (drop at text) gave ≡ walked at gave
-  unfolding walk
-  walk-done pair at place p h = rw (steps-done pair p place h)
+  -- behind the last part, where text is left over and where none is
+  module _ (at place : ℕ) (p : List ℕ) (end : length p ≤ place) where
+    walk-ends : walk choices book current i at (steps (choices .pair) (drop place p)) (drop at text) gave
+        ≡ walkedBy (restCheck (choices .strict) at (drop at text)) at gave
+    unfolding walk
+    walk-ends = rw (steps-done (choices .pair) p place end)
+
+    pub walk-left : choices .strict ≡ true → at < length text
+        → walk choices book current i at (steps (choices .pair) (drop place p)) (drop at text) gave ≡ refusedAt (Refused (TextLeft at))
+    walk-left strict h = walk-ends ∙ rw (strict, lt-ltb 0 (length (drop at text)) (rw length-drop (omega arith)))
+
+    pub walk-done : (choices .strict ≡ false) ⊎ (length text ≤ at)
+        → walk choices book current i at (steps (choices .pair) (drop place p)) (drop at text) gave ≡ walked at gave
+    walk-done (inl strict) = walk-ends ∙ rw strict
+    walk-done (inr h) = walk-ends ∙ rw (none-left (choices .strict) at (drop at text) (rw length-drop (omega arith)))

@@ -1,11 +1,13 @@
 -- What is compared so far is the same, and the rest decides.
 use borrow.Author.Needs.{needs}
 use denote.Ref.{now}
-use lib.ListN.{length, getD, drop, replicate}
-use mathlib.Core.Path.{_≡_, refl}
+use lib.ListN.{length, drop, replicate, length-replicate}
+use mathlib.Core.Path.{_≡_, sym, _∙_}
 use Prim.Native.Nat.{_+_, _-_, _≤_}
 use native.Mathlib.Omega.{arith}
+use Rattle.laws.proofs.Readers.{no-byte}
 use Rattle.meaning.specs.Readers.{firstDiffering}
+use Rattle.parse.proofs.literals.Compared.{times-from, same-on, differs-at, too-few, compared-at}
 use Rattle.parse.proofs.literals.same_times.Statement.{statement}
 use Rattle.parse.proofs.literals.same_times.Tie as tie
 
@@ -17,43 +19,69 @@ abbrev μ-loop : tie.MeasureT-loop
 μ-loop byte count text at end i₀ i = end - i
 
 sub-if1 : tie.Need-sub-if1 Inv-loop μ-loop
-sub-if1 c = ?
+sub-if1 c = search needs
 
 stopped-requires : tie.Need-stopped-requires Inv-loop μ-loop
 stopped-requires c κs = search needs
 
 returns : tie.Need-returns Inv-loop μ-loop
-returns c = ?
+returns c =
+    let a = c .before .before .before .args in
+    let w = replicate (a .count) (a .byte) in
+    c .stopped .ensures ∙ sym (too-few (now (a .text)) (a .cursor .at) w (rw length-replicate (omega arith)))
 
 add-end : tie.Need-add-end Inv-loop μ-loop
-add-end c = ?
+add-end c = search needs
 
 loop-holds : tie.Need-loop-holds Inv-loop μ-loop
-loop-holds c = ?
+loop-holds c =
+    let a = c .before .before .args in
+    let e : a .cursor .at + a .count - a .cursor .at ≡ a .count = omega arith in
+    (rw e, omega arith)
 
 shared-slice-read-if2 : tie.Need-shared-slice-read-if2 Inv-loop μ-loop
-shared-slice-read-if2 c = ?
+shared-slice-read-if2 c = omega arith
 
 stopped-requires-2 : tie.Need-stopped-requires-2 Inv-loop μ-loop
 stopped-requires-2 c κs = search needs
 
 returns-2 : tie.Need-returns-2 Inv-loop μ-loop
-returns-2 c = ?
+returns-2 c =
+    let a = c .before .before .before .before .before .before .before .args in
+    let text = now (a .text) in
+    let w = replicate (a .count) (a .byte) in
+    let L = c .before .before .before .before .loop in
+    let end : a .cursor .at + a .count ≡ a .cursor .at + length w = rw length-replicate in
+    let first = times-from (a .byte) (L .i) (a .cursor .at + a .count) (c .before .before .before .loop-test .taken) in
+    let differs = differs-at text (L .i) first (omega arith) (c .before .if2 .taken) in
+    c .stopped2 .ensures ∙ sym (compared-at text (a .cursor .at) w end (omega arith) (sym (L .inv .0) ∙ differs))
 
 add-i : tie.Need-add-i Inv-loop μ-loop
-add-i c = ?
+add-i c = omega arith
 
 loop-less : tie.Need-loop-less Inv-loop μ-loop
-loop-less c = ?
+loop-less c = omega arith
 
 loop-again : tie.Need-loop-again Inv-loop μ-loop
-loop-again c = ?
+loop-again c =
+    let a = c .before .before .before .before .before .before .args in
+    let L = c .before .before .before .loop in
+    let first = times-from (a .byte) (L .i) (a .cursor .at + a .count) (c .before .before .loop-test .taken) in
+    (same-on (now (a .text)) (L .i) first (omega arith) (c .if2 .left) ∙ L .inv .0, omega arith)
 
 passed-requires : tie.Need-passed-requires Inv-loop μ-loop
 passed-requires c κs = search needs
 
 returns-3 : tie.Need-returns-3 Inv-loop μ-loop
-returns-3 c = ?
+returns-3 c =
+    let a = c .before .before .before .before .before .args in
+    let text = now (a .text) in
+    let w = replicate (a .count) (a .byte) in
+    let L = c .before .before .loop in
+    let end : a .cursor .at + a .count ≡ a .cursor .at + length w = rw length-replicate in
+    let past : a .cursor .at + a .count - L .i ≡ 0 = omega arith in
+    let same = sym (rw past at (L .inv .0)) ∙ no-byte (L .i) (drop (L .i) text) in
+    c .passed .ensures ∙ sym (compared-at text (a .cursor .at) w end (omega arith) same)
 
 pub same-times-spec : {M : Type 1} → statement M
 same-times-spec =
