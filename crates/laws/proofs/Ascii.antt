@@ -17,7 +17,7 @@ use Rattle.meaning.specs.Numerals.{allDigits}
 use Rattle.meaning.specs.Rules.{roleOf}
 use Rattle.meaning.specs.Splitting.{Element, byte, escaped, single, elementOf, elements, Content, run, quotes, quoted, unclosed, joinByte, joinEscaped, joinInside, outside, inside, contents}
 use Rattle.meaning.specs.Whole.{text}
-use Rattle.meaning.specs.Writing.{quantityOf, signedText, twoDigitText, colonText, isThere, groupText, offsetText, zoneText, placeOf, nameText, ruleText, isNegative, runStep, stepOf, endsInQuote, steps, literal, stepText, texts}
+use Rattle.meaning.specs.Writing.{quantityOf, signedText, twoDigitText, colonText, isThere, groupText, offsetDigits, isMinus, offsetText, zoneText, placeOf, nameText, ruleText, isNegative, runStep, stepOf, endsInQuote, steps, literal, stepText, texts}
 use Rattle.meaning.specs.declared.Checked.the-variants.{Fine}
 use Rattle.meaning.specs.declared.Fields.{Fields}
 use Rattle.meaning.specs.declared.Group.{Group}
@@ -87,13 +87,13 @@ group-ascii c g n =
     (λ _. every-append isAscii (colonText c) (num 2 n) (when-is Ascii c (λ _. before colon [] (omega arith) none) (λ _. none)) (num-ascii 2 n)) (λ _. none)
 
 offset-ascii : (c : Bool) (minutes seconds : Group) (z : ℤ) → Ascii (offsetText c minutes seconds z)
-unfolding offsetText
+unfolding offsetText offsetDigits
 offset-ascii c minutes seconds z =
     let hour = natAbs z / 3600 in
     let minute = natAbs z % 3600 / 60 in
     let second = natAbs z % 60 in
     let front = every-append isAscii (num 2 hour) (groupText c minutes minute) (num-ascii 2 hour) (group-ascii c minutes minute) in
-    sign-before (isNegative z) _
+    sign-before (isMinus c minutes seconds z) _
     (every-append isAscii (num 2 hour ++ groupText c minutes minute) (groupText c seconds second) front (group-ascii c seconds second))
 
 zone-ascii : (utc c : Bool) (minutes seconds : Group) (z : ℤ) → Ascii (zoneText utc c minutes seconds z)
