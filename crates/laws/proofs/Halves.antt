@@ -1,6 +1,6 @@
 -- Two half patterns side by side: the join has the parts of the one and then those of the other, it is accepted, and to write it
 -- is to write the one and, behind that, the other. The empty pattern is neutral.
-use mathlib.Core.Bool.{Bool, true, false}
+use mathlib.Core.Bool.{false}
 use mathlib.Core.List.{List, [], _∷_, _++_, map, append-nil, append-assoc, map-append}
 use mathlib.Core.Path.{_≡_, refl, ap, _∙_}
 use Prim.Native.Nat.{ℕ, _+_, _-_}
