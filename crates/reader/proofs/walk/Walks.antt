@@ -45,7 +45,7 @@ step-here {pair} {p} {place} {part} n chosen = rw (steps-next pair p place part 
 
 module _ (choices : Choices) (current i : ℕ) (text : List ℕ) (gave : List Carried) where
   -- what follows a part, by what it gave
-  abbrev walkBy : List Step → PartRead → Walk
+  abbrev pub walkBy : List Step → PartRead → Walk
   walkBy ss (read.Stopped why place) = refusedAt (Refused (InPart why i place))
   walkBy ss (read.Got c next) = walk choices english current (i + 1) (next .at) ss (drop (next .at) text) (c ∷ gave)
 
@@ -88,7 +88,7 @@ module _ (choices : Choices) (current i : ℕ) (text : List ℕ) (gave : List Ca
 
     pub walk-goes-on : {c : Carried} {next : Cursor} → Gave (read.Got c next)
         → when (choices .strict) (compared (means p k) text (next .at)) Same ≡ Same
-        → Walked (walk choices english current (i + 1) (next .at) (steps (choices .pair) (drop (place + part .length) p)) (drop (next .at) text) (c ∷ gave))
+        → Walked (walkBy (steps (choices .pair) (drop (place + part .length) p)) (read.Got c next))
     walk-goes-on e same = walk-step e ∙ rw same
 
   -- behind the last part, where text is left over and where none is

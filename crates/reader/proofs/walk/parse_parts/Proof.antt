@@ -65,8 +65,10 @@ returns c =
     let m = c .before .before .before .before .before in
     let L = m .before .before .before .loop in
     let a = m .before .before .before .before .before .before .args in
-    let n = next (now (a .pattern)) (L .place) (m .before .next-part .result) (m .before .before .loop-test .taken) (m .before .next-part .ensures) in
-    let gave = sym (c .before .before .before .before .parse-step .ensures) ∙ c .before .before .trouble .given .1 in
+    let found = m .before .next-part in
+    let n = next (now (a .pattern)) (L .place) (found .result) (m .before .before .loop-test .taken) (found .ensures) in
+    let read = c .before .before .before .before .parse-step .ensures in
+    let gave = sym read ∙ c .before .before .trouble .given .1 in
     let stops = walk-stops (a .choices) (a .current-year) (L .i) (now (a .text)) (L .inv .0) (L .at) (L .place) n (m .step-of .ensures) gave in
     rw (← rw stops at (L .inv .2)) (c .refused-in .ensures)
 
@@ -100,8 +102,10 @@ compare-part-requires c κs =
     let L = m .before .before .before .loop in
     let a = m .before .before .before .before .before .before .args in
     let p = now (a .pattern) in
-    let n = next p (L .place) (m .before .next-part .result) (m .before .before .loop-test .taken) (m .before .next-part .ensures) in
-    let gave = sym (c .before .before .before .before .before .before .parse-step .ensures) ∙ c .before .before .before .before .carried .given .1 in
+    let found = m .before .next-part in
+    let n = next p (L .place) (found .result) (m .before .before .loop-test .taken) (found .ensures) in
+    let read = c .before .before .before .before .before .before .parse-step .ensures in
+    let gave = sym read ∙ c .before .before .before .before .carried .given .1 in
     let end = ended (now (a .text)) (L .at) (a .current-year) (means p (m .step-of .result)) gave (L .inv .3) in
     (m .before .before .loop-test .taken, rw (step-here n (m .step-of .ensures)) end)
 
@@ -117,13 +121,14 @@ returns-2 c =
     let L = m .before .before .before .loop in
     let a = m .before .before .before .before .before .before .args in
     let p = now (a .pattern) in
-    let text = now (a .text) in
-    let n = next p (L .place) (m .before .next-part .result) (m .before .before .loop-test .taken) (m .before .next-part .ensures) in
+    let found = m .before .next-part in
+    let n = next p (L .place) (found .result) (m .before .before .loop-test .taken) (found .ensures) in
     let g = c .before .before .before .before .before in
-    let gave = sym (g .before .before .before .before .before .before .parse-step .ensures) ∙ g .before .before .before .before .carried .given .1 in
+    let read = g .before .before .before .before .before .before .parse-step .ensures in
+    let gave = sym read ∙ g .before .before .before .before .carried .given .1 in
     let seen = rw (step-here n (m .step-of .ensures)) at (c .before .before .before .before .compare-part .ensures) in
-    let differs = sym seen ∙ c .before .before .found .given .1 in
-    let stops = walk-differs (a .choices) (a .current-year) (L .i) text (L .inv .0) (L .at) (L .place) n (m .step-of .ensures) gave (g .if1 .taken) differs in
+    let differs = walk-differs (a .choices) (a .current-year) (L .i) (now (a .text)) (L .inv .0) (L .at) (L .place) n (m .step-of .ensures) in
+    let stops = differs gave (g .if1 .taken) (sym seen ∙ c .before .before .found .given .1) in
     rw (← rw stops at (L .inv .2)) (c .refused-in2 .ensures)
 
 enum-told-2 : tie.Need-enum-told-2 Inv-loop μ-loop
@@ -155,12 +160,15 @@ loop-again c =
     let a = m .before .before .before .before .before .before .args in
     let p = now (a .pattern) in
     let text = now (a .text) in
-    let n = next p (L .place) (m .before .next-part .result) (m .before .before .loop-test .taken) (m .before .next-part .ensures) in
+    let found = m .before .next-part in
+    let n = next p (L .place) (found .result) (m .before .before .loop-test .taken) (found .ensures) in
     let k = means p (m .step-of .result) in
     let rest = drop (L .at) text in
-    let gave = sym (c .before .before .before .before .before .parse-step .ensures) ∙ c .before .before .before .carried .given .1 in
+    let read = c .before .before .before .before .before .parse-step .ensures in
+    let gave = sym read ∙ c .before .before .before .carried .given .1 in
     let moved = walk-goes-on (a .choices) (a .current-year) (L .i) text (L .inv .0) (L .at) (L .place) n (m .step-of .ensures) gave in
-    let inside = part-stays (L .at) text (plainRead (a .current-year) k rest) (L .inv .3) (within-step (plain Full) english (a .current-year) k rest) gave in
+    let within = within-step (plain Full) english (a .current-year) k rest in
+    let inside = part-stays (L .at) text (plainRead (a .current-year) k rest) (L .inv .3) within gave in
     ⊎-elim
     (λ l.
     let u = l .1 .given .0 .0 in
@@ -199,16 +207,21 @@ returns-3 c =
     let m = c .before .before .before in
     let a = m .before .before .before .before .args in
     let L = m .before .loop in
-    let ends = walk-left (a .choices) (a .current-year) (L .i) (now (a .text)) (L .inv .0) (L .at) (L .place) (now (a .pattern)) (m .loop-test .left) in
-    rw (← rw (ends (c .before .before .if2 .taken) (ltb-true (L .at) (length (now (a .text))) (c .before .if3 .taken))) at (L .inv .2)) (c .no-reading .ensures)
+    let p = now (a .pattern) in
+    let text = now (a .text) in
+    let ends = walk-left (a .choices) (a .current-year) (L .i) text (L .inv .0) (L .at) (L .place) p (m .loop-test .left) in
+    let left = ltb-true (L .at) (length text) (c .before .if3 .taken) in
+    rw (← rw (ends (c .before .before .if2 .taken) left) at (L .inv .2)) (c .no-reading .ensures)
 
 returns-4 : tie.Need-returns-4 Inv-loop μ-loop
 returns-4 c =
     let m = c .before in
     let a = m .before .before .before .before .args in
     let L = m .before .loop in
-    let ends = walk-done (a .choices) (a .current-year) (L .i) (now (a .text)) (L .inv .0) (L .at) (L .place) (now (a .pattern)) (m .loop-test .left) in
-    let none-left = ⊎-elim (λ t. inr (ltb-false (L .at) (length (now (a .text))) (t .1 .left))) (λ e. inl (e .left)) (c .if2 .came) in
+    let p = now (a .pattern) in
+    let text = now (a .text) in
+    let ends = walk-done (a .choices) (a .current-year) (L .i) text (L .inv .0) (L .at) (L .place) p (m .loop-test .left) in
+    let none-left = ⊎-elim (λ t. inr (ltb-false (L .at) (length text) (t .1 .left))) (λ e. inl (e .left)) (c .if2 .came) in
     rw (← rw (ends none-left) at (L .inv .2)) (holds-reading (L .inv .1) (L .at))
 
 pub parse-parts-spec : {M : Type 1} → statement M
