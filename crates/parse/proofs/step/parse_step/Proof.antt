@@ -44,7 +44,8 @@ returns-2 c =
     let read = m .before .before .quick-digits in
     let s = m .before .before .before .before .before .before in
     let a = s .args in
-    let law = quick-read (now (a .pattern)) (drop (a .cursor .at) (now (a .text))) (a .choices) (a .current-year) (a .step) (s .pre .0) (read .ensures) (m .if1 .taken) in
+    let rest = drop (a .cursor .at) (now (a .text)) in
+    let law = quick-read (now (a .pattern)) rest (a .choices) (a .current-year) (a .step) (s .pre .0) (read .ensures) (m .if1 .taken) in
     rw (law, widened (read .result .size) (omega (arith, m .if1 .taken)), c .before .before .before .quick-unit .ensures)
 
 parse-other-requires : tie.Need-parse-other-requires
