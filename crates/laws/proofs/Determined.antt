@@ -32,7 +32,8 @@ pub writes-coincide : (pair : Pair) (book : Book) (p : List ℕ) (f : Fields) (o
 writes-coincide pair book p f out w v = (same-determined (w .0) (v .0), determined (w .1) (v .1))
 
 -- reader::parse_with, and reader::parse and reader::date::parse, which have no choice
-pub reads-coincide : (choices : Choices) (book : Book) (p s : List ℕ) (current : ℤ) {r t : Reading} → Reads choices book p s current r → Reads choices book p s current t → r ≡ t
+pub reads-coincide : (choices : Choices) (book : Book) (p s : List ℕ) (current : ℤ) {r t : Reading} → Reads choices book p s current r
+    → Reads choices book p s current t → r ≡ t
 reads-coincide choices book p s current = same-determined
 
 -- reader::offset::parse_offset

@@ -183,11 +183,13 @@ module _ (text : List ℕ) (i at : ℕ) (next next′ : ℕ → Carried → Walk
 
 module _ (choices : Choices) (book : Book) (current : ℕ) (text : List ℕ) where
   walk-plus : (i at : ℕ) (ss : List Step) (gave : List Carried)
-      → WalkPlusOrSame text (walkWith takeNumber choices book current i at ss (drop at text) gave) (walkWith takeNumberWithPlus choices book current i at ss (drop at text) gave)
+      → WalkPlusOrSame text (walkWith takeNumber choices book current i at ss (drop at text) gave)
+      (walkWith takeNumberWithPlus choices book current i at ss (drop at text) gave)
   unfolding walkWith
   walk-plus i at [] gave = same-walk
   walk-plus i at (step ∷ ss) gave =
-      part-plus text i at _ _ (λ n c. rw (drop-drop n at text) (walk-plus (suc i) (at + n) ss (c ∷ gave))) (step-plus choices book current step (drop at text))
+      part-plus text i at _ _ (λ n c. rw (drop-drop n at text) (walk-plus (suc i) (at + n) ss (c ∷ gave)))
+      (step-plus choices book current step (drop at text))
 
 by-check : (s : List ℕ) (checked : Checked) {w v : Walk} → WalkPlusOrSame s w v
     → RefusedAtPlus s (readBy checked w .checked) ⊎ (readBy checked w ≡ readBy checked v)

@@ -1,6 +1,6 @@
 -- Specification, "What each symbol does", column Reads, with the carried values in brackets and the paragraphs on yy and
--- zones; and "Splitting", what a read of literals skips or, where it is strict, compares. The steps are those of Readers. What takes a number is defined with any
--- number reader, `..With`, and then with the specification's.
+-- zones; and "Splitting", what a read of literals skips or, where it is strict, compares. The steps are those of Readers. What
+-- takes a number is defined with any number reader, `..With`, and then with the specification's.
 use mathlib.Core.Bool.{Bool, true, false}
 use mathlib.Core.List.{List, [], _∷_}
 use mathlib.Core.Option.{Option, none, some}

@@ -56,8 +56,8 @@ trustCheck p current = patternCheck p else currentYearCheck current
 abbrev pub fullPair : Bool → Choices
 fullPair strict = record { pair = Full; strict = strict }
 
--- what an answer of the check says, of a reading with these choices: refusals 1, 2, 3, 14; yes when every part comes back for every allowed record; no
--- with the first part that fails
+-- what an answer of the check says, of a reading with these choices: refusals 1, 2, 3, 14; yes when every part comes back for
+-- every allowed record; no with the first part that fails
 unfoldable pub SaysOf : Choices → Book → List ℕ → ℤ → Verdict → Type 0
 unfolding trustCheck AllComeBack steps
 SaysOf choices book p current verdict.Yes =

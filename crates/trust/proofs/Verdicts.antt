@@ -104,7 +104,8 @@ all-come-back : (choices : Choices) (current : ℕ) {ss : List Step} → Fitting
 unfolding AllComeBack
 all-come-back choices current fit n h all f fine i k = part-comes-back choices current fit i (omega arith) (all i k) f fine
 
-fails-first : (choices : Choices) (current : ℕ) → current ≤ 9999 → {ss : List Step} → Fitting ss → (i : ℕ) (f : Fields) → FirstOf ss i f → FailsFirst choices english current ss i f
+fails-first : (choices : Choices) (current : ℕ) → current ≤ 9999 → {ss : List Step} → Fitting ss → (i : ℕ) (f : Fields) → FirstOf ss i f
+    → FailsFirst choices english current ss i f
 fails-first choices current small {ss} fit i f first =
     record {
       there = first .there;
