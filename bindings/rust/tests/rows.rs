@@ -11,7 +11,7 @@ const REST: usize = 3;
 /// The function asks for so many entries: it refuses fewer, and alters all of these and none behind them.
 #[track_caller]
 fn asks_for(entries: usize, number: u32, mut call: impl FnMut(&mut [i64]) -> u32) {
-    for fewer in [0, 1, entries - 1] {
+    for fewer in 0..entries {
         let mut row = vec![MARK; fewer];
         assert_eq!(call(&mut row), raw::ROW_TOO_SMALL);
         assert!(row.iter().all(|entry| *entry == MARK));
