@@ -1,11 +1,9 @@
-//! Where in the text each unit was read: all that the last part took that gave it, by every reader; and nothing where a read is
-//! refused.
+//! Where in the text each unit was read: all that the last part took that gave it, by every reader.
 
 use sheet::ParseUnit::{self, *};
 use sheet::{raw, read, read_date, read_with, split, units, Choices, PartUnit, Reading};
 use std::ops::Range;
 
-const MARK: i64 = -77;
 const RECORDED: &str = include_str!("recorded.txt");
 
 type Spans = [(ParseUnit, Range<usize>)];
@@ -64,58 +62,6 @@ fn in_the_longest_text() {
     let year = "0".repeat(raw::LONGEST_TEXT - 2);
     let reading = read("y/d", year.clone() + "/5", 2025).expect("it is not too long");
     assert_eq!(spans(&reading), [(Year, 0..year.len()), (DayOfMonth, 2047..2048)]);
-}
-
-/// What a reader with choices returns, and all that it leaves in a row that was full of marks.
-fn row(choices: u32, pattern: &str, text: &str) -> (u32, [i64; raw::READ_ANSWER]) {
-    let mut row = [MARK; raw::READ_ANSWER];
-    let (p, t) = (pattern.as_bytes(), text.as_bytes());
-    // SAFETY: each pointer goes with the length of the slice that it comes from.
-    let number = unsafe {
-        raw::sheet_read_with(
-            choices,
-            p.as_ptr(),
-            p.len(),
-            t.as_ptr(),
-            t.len(),
-            2025,
-            row.as_mut_ptr(),
-            row.len(),
-        )
-    };
-    (number, row)
-}
-
-#[test]
-fn as_c_sees_them() {
-    let day = DayOfMonth as usize;
-    let mut expected = [0; raw::READ_ANSWER];
-    expected[..3].copy_from_slice(&[4, 1 << day, 1]);
-    expected[raw::READ_VALUES + day] = 14;
-    expected[raw::READ_STARTS + day] = 2;
-    expected[raw::READ_ENDS + day] = 4;
-    for choices in 0..=raw::DATE_PAIR + raw::STRICT {
-        assert_eq!(row(choices, "d d", "3 14"), (raw::ACCEPTED, expected));
-    }
-}
-
-#[test]
-fn a_refused_read_has_none() {
-    let refused = |details: &[i64]| {
-        let mut row = [0; raw::READ_ANSWER];
-        row[..details.len()].copy_from_slice(details);
-        row
-    };
-    for pair in [0, raw::DATE_PAIR] {
-        for choices in [pair, pair + raw::STRICT] {
-            assert_eq!(row(choices, "d/MM", "3/x"), (raw::TOO_FEW, refused(&[2, 2])));
-            assert_eq!(row(choices, "d/MM", "3/xy"), (raw::NO_NUMBER, refused(&[2, 2])));
-            assert_eq!(row(choices, "d/MM", "3/+5"), (raw::PLUS_SIGN, refused(&[2, 2])));
-        }
-        let strict = pair + raw::STRICT;
-        assert_eq!(row(strict, "dd-", "03/"), (raw::LITERAL_DIFFERS, refused(&[1, 2])));
-        assert_eq!(row(strict, "dd", "03/"), (raw::TEXT_LEFT, refused(&[2])));
-    }
 }
 
 struct Read {
