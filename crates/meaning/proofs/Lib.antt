@@ -1,5 +1,6 @@
 pub mod Names
 pub mod Pluses
 pub mod Samples
+pub mod Spans
 pub mod Strict
 pub mod Units

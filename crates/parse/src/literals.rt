@@ -71,13 +71,7 @@ fn same_unescaped(inside: &[u8], text: &[u8], cursor: Cursor) -> PartRead
     passed(next)
 }
 
-pub fn parse_times(
-    strict: bool,
-    byte: u8,
-    count: usize,
-    text: &[u8],
-    cursor: Cursor,
-) -> PartRead
+pub fn parse_times(strict: bool, byte: u8, count: usize, text: &[u8], cursor: Cursor) -> PartRead
     requires { ⌜ cursor .at ≤ length (now text) ⌝ }
     ensures { λ r. ⌜ r ≡ partAt (cursor .at) (literalRead strict (replicate count byte) (drop (cursor .at) (now (text .entry)))) ⌝ }
 {

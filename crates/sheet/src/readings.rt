@@ -47,7 +47,11 @@ pub fn choices_of(number: u32) -> Choices
     ensures { λ r. ⌜ r ≡ choicesOf number ⌝ }
 {
     Choices {
-        pair: if number % 2 == 1 { Pair::Date } else { Pair::Full },
+        pair: if number % 2 == 1 {
+            Pair::Date
+        } else {
+            Pair::Full
+        },
         strict: number / 2 % 2 == 1,
     }
 }
