@@ -11,6 +11,8 @@ pub mod Pluses
 pub mod Readers
 pub mod Sizes
 pub mod Splitting
+pub mod Table
+pub mod Takes
 pub mod Tests
 pub mod Texts
 pub mod Told

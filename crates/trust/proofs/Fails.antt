@@ -27,6 +27,7 @@ use Rattle.meaning.specs.declared.Rule.{Rule}
 use Rattle.meaning.specs.declared.Rule.the-variants.{Number, SkippedNumber, LetterQuarter, SkippedName, MatchedName, Letters, Years, FixedYear, TwoDigitYear, Zone}
 use Rattle.laws.proofs.Digits.{all-num, digit-behind, digit-in, length-num, num-some}
 use Rattle.laws.proofs.Readers.{take-goes-on}
+use Rattle.laws.proofs.Takes.{Takes, takes-got, takes-skip, takes-number, takes-both, takes-then, takes-done, reach-bounds, reach-past}
 use Rattle.laws.proofs.Tests.{both-true, by-test, when-is, true-is-not-false}
 use Rattle.laws.proofs.Years.{no-minus}
 use Rattle.laws.proofs.Zones.{group-comes-back, two-digits}
@@ -34,7 +35,6 @@ use Rattle.laws.specs.Widths.{mostDigits}
 use Rattle.trust.proofs.RulesAhead.{seven-digits}
 use Rattle.trust.proofs.Sound.{Back}
 use Rattle.trust.proofs.Table.{numberFits, zoneFits, fits, number-fits}
-use Rattle.trust.proofs.Takes.{Takes, takes-got, takes-skip, takes-number, takes-both, takes-then, takes-done, reach-bounds, reach-past}
 use Rattle.trust.proofs.Witness.{of-witness}
 use Rattle.trust.specs.Check.{shortNumbers, longNumbers, witness}
 use Rattle.trust.specs.Needs.{numberNeed, groupNeed, lastGroup, ruleNeed}

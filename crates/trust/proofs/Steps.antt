@@ -16,12 +16,12 @@ use Rattle.meaning.specs.declared.Choices.{Choices}
 use Rattle.meaning.specs.declared.Fields.{Fields}
 use Rattle.laws.proofs.Fields.{Allowed, allowed}
 use Rattle.laws.proofs.Readers.{skip-goes-on, same-goes-on}
+use Rattle.laws.proofs.Takes.{Takes, takes-got, takes-skip, takes-same, takes-done}
 use Rattle.laws.proofs.Tests.{true-is-not-false}
 use Rattle.trust.proofs.Ahead.{first-byte, no-first-digit, second-byte, no-second-digit}
 use Rattle.trust.proofs.Fails.{Shown, rule-fails}
 use Rattle.trust.proofs.Fitting.{Fitting, symbol-first, literal-first, open-last}
 use Rattle.trust.proofs.Sound.{Met, rule-comes-back}
-use Rattle.trust.proofs.Takes.{Takes, takes-got, takes-skip, takes-same, takes-done}
 use Rattle.trust.proofs.Witness.{witness-fine}
 use Rattle.trust.specs.Ahead.{digitFirst, digitSecond}
 use Rattle.trust.specs.Check.{meets, witness, shortNumbers}
