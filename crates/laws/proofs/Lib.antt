@@ -6,6 +6,8 @@ pub mod Fields
 pub mod Laid
 pub mod Names
 pub mod Numbers
+pub mod OwnReaders
+pub mod OwnText
 pub mod Places
 pub mod Pluses
 pub mod Readers

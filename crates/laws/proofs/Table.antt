@@ -9,12 +9,13 @@ use Rattle.meaning.specs.Bytes.{both}
 use Rattle.meaning.specs.Rules.{Row, _is_, among, Otherwise, always, fixedYear, otherwiseRule, pick, Symbol, ruleOf, roleAmong, dateSymbols, timeSymbols, dateRole, timeRole, orElse, roleOf}
 use Rattle.meaning.specs.Splitting.{Content, run, quotes, quoted, unclosed, contents}
 use Rattle.meaning.specs.Writing.{Step, literal, field, runStep, stepOf, steps}
+use Rattle.meaning.specs.declared.NameList.{NameList}
 use Rattle.meaning.specs.declared.Pair.{Pair}
 use Rattle.meaning.specs.declared.Pair.the-variants.{Full, Date}
 use Rattle.meaning.specs.declared.Role.{Role}
 use Rattle.meaning.specs.declared.Role.the-variants as role
 use Rattle.meaning.specs.declared.Rule.{Rule}
-use Rattle.meaning.specs.declared.Rule.the-variants.{FixedYear}
+use Rattle.meaning.specs.declared.Rule.the-variants.{Number, SkippedNumber, LetterQuarter, SkippedName, MatchedName, Letters, Years, FixedYear, TwoDigitYear, Zone}
 use Rattle.laws.proofs.Tests.{both-true, both-are, every, when-is}
 
 abbrev pub RoleHas : (Rule → Type 0) → Role → Type 0
@@ -59,6 +60,19 @@ symbolPasses test symbol = both (every (rowPasses test) (symbol .rows)) (otherwi
 abbrev pub stepPasses : (Rule → Bool) → Step → Bool
 stepPasses test (literal w lost) = true
 stepPasses test (field rule) = test rule
+
+-- a test of the names that a rule reads: of a list that is matched, and of one of so many letters
+abbrev pub namesPass : (NameList → Bool) → (NameList → ℕ → Bool) → Rule → Bool
+namesPass matched letters (Number q least most u z) = true
+namesPass matched letters (SkippedNumber q least most) = true
+namesPass matched letters LetterQuarter = true
+namesPass matched letters (SkippedName l n) = true
+namesPass matched letters (MatchedName l) = matched l
+namesPass matched letters (Letters l n) = letters l n
+namesPass matched letters (Years k) = true
+namesPass matched letters (FixedYear k) = true
+namesPass matched letters TwoDigitYear = true
+namesPass matched letters (Zone utc colon minutes seconds) = true
 
 module _ (test : Rule → Bool) (fixed : (c : ℕ) → test (FixedYear c) ≡ true) where
   otherwise-passes : (c : ℕ) (o : Otherwise) → otherwisePasses test o ≡ true → test (otherwiseRule c o) ≡ true
