@@ -12,6 +12,7 @@ pub mod Places
 pub mod Pluses
 pub mod Readers
 pub mod Sizes
+pub mod SomeBytes
 pub mod Splitting
 pub mod Table
 pub mod Takes
