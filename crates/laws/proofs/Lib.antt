@@ -2,8 +2,10 @@ pub mod Carried
 pub mod Checks
 pub mod Determined
 pub mod Digits
+pub mod Entries
 pub mod Fields
 pub mod Laid
+pub mod Marks
 pub mod Names
 pub mod Numbers
 pub mod OwnReaders
@@ -13,6 +15,7 @@ pub mod Pluses
 pub mod Readers
 pub mod Sizes
 pub mod SomeBytes
+pub mod Spans
 pub mod Splitting
 pub mod Table
 pub mod Takes

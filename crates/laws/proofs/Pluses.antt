@@ -169,7 +169,7 @@ data WalkPlusOrSame (text : List ℕ) : Walk → Walk → Type 0 where
   same-walk : {w : Walk} → WalkPlusOrSame text w w
 
 -- what follows part i at a place, by what it gave
-abbrev behindPart : ℕ → ℕ → (ℕ → Carried → Walk) → Got Carried → Walk
+abbrev pub behindPart : ℕ → ℕ → (ℕ → Carried → Walk) → Got Carried → Walk
 behindPart i at next g = elim g [ got n c ↦ next n c | stopped why place ↦ refusedAt (Refused (InPart why i (at + place))) ]
 
 module _ (text : List ℕ) (i at : ℕ) (next next′ : ℕ → Carried → Walk) (h : (n : ℕ) (c : Carried) → WalkPlusOrSame text (next n c) (next′ n c)) where
