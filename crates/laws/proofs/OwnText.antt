@@ -7,7 +7,7 @@ use Prim.Native.Nat.{ℕ, _+_, _-_, _≤_}
 use native.Mathlib.Omega.{arith}
 use lib.Dec.{eqb}
 use lib.IntN.{pos, _+ℤ_}
-use lib.ListN.{length, take, drop}
+use lib.ListN.{length, take}
 use Rattle.meaning.specs.Bytes.{when, bytes, digitAt, minus}
 use Rattle.meaning.specs.Names.{Book, names}
 use Rattle.meaning.specs.Numerals.{integer}
@@ -26,7 +26,7 @@ use Rattle.meaning.specs.declared.Rule.{Rule}
 use Rattle.meaning.specs.declared.Rule.the-variants.{Number, SkippedNumber, LetterQuarter, SkippedName, MatchedName, Letters, Years, FixedYear, TwoDigitYear, Zone}
 use Rattle.laws.proofs.OwnReaders.{OwnText, Own, own-both, own-nothing, own-done, own-skip, own-number, own-same, own-letters, own-sign, own-first, own-chosen, own-when, digit-kept, no-digit-cut, reach-cut, minus-cut, year-cut}
 use Rattle.laws.proofs.Table.{tablePasses, symbolPasses, stepPasses, namesPass, steps-pass}
-use Rattle.laws.proofs.Takes.{Takes, takes-skip, takes-number, takes-both, takes-done}
+use Rattle.laws.proofs.Takes.{takes-done, takes-unit, takes-year, takes-full-year, takes-passed, takes-group}
 use Rattle.laws.proofs.Tests.{by-test, every}
 
 -- numbers and years, of k bytes
@@ -34,32 +34,17 @@ use Rattle.laws.proofs.Tests.{by-test, every}
 own-count : (k : ℕ) → Own (takeCount k)
 own-count k = own-done (takeNumber Count k) (λ n. n .size) (own-number Count k)
 
-takes-count : (k : ℕ) (s : List ℕ) → Takes k (takeCount k s)
-takes-count k s = takes-done k (takeNumber Count k) (λ n. n .size) s (takes-number Count k s)
-
 own-unit : (u : ParseUnit) (z k : ℕ) → Own (takenUnit u z k)
 own-unit u z k = own-done (takeCount k) (λ n. Value u (pos (zeroFor z n))) (own-count k)
-
-takes-unit : (u : ParseUnit) (z k : ℕ) (s : List ℕ) → Takes k (takenUnit u z k s)
-takes-unit u z k s = takes-done k (takeCount k) (λ n. Value u (pos (zeroFor z n))) s (takes-count k s)
 
 own-passed : (k : ℕ) → Own (passed k)
 own-passed k = own-done (skip k) (λ _. Nothing) (own-skip k)
 
-takes-passed : (k : ℕ) (s : List ℕ) → Takes k (passed k s)
-takes-passed k s = takes-done k (skip k) (λ _. Nothing) s (takes-skip k s)
-
 own-year : (k : ℕ) → Own (takeYear k)
 own-year k = own-done (takeNumber Year k) integer (own-number Year k)
 
-takes-year : (k : ℕ) (s : List ℕ) → Takes k (takeYear k s)
-takes-year k s = takes-done k (takeNumber Year k) integer s (takes-number Year k s)
-
 own-full-year : (k : ℕ) → Own (takenYear k)
 own-full-year k = own-done (takeYear k) year (own-year k)
-
-takes-full-year : (k : ℕ) (s : List ℕ) → Takes k (takenYear k s)
-takes-full-year k s = takes-done k (takeYear k) year s (takes-year k s)
 
 minus-one : (s : List ℕ) → minusFirst s ≤ 1
 minus-one [] = omega arith
@@ -74,10 +59,6 @@ two-digit-cut s m h =
 
 own-taken-group : (c : Bool) → Own (takeGroup c)
 own-taken-group c = own-both (skip (colonLength c)) (λ _. takeCount 2) (own-skip (colonLength c)) (λ _. own-count 2)
-
-takes-group : (c : Bool) (s : List ℕ) → Takes (colonLength c + 2) (takeGroup c s)
-takes-group c s =
-    takes-both (colonLength c) 2 (skip (colonLength c)) (λ _. takeCount 2) s (takes-skip (colonLength c) s) (λ n a _. takes-count 2 (drop n s))
 
 digit-cut : (i : ℕ) (s : List ℕ) (m : ℕ) → when (digitAt i s) (i + 2) 0 ≤ m → digitAt i (take m s) ≡ digitAt i s
 digit-cut i s m h =
