@@ -82,7 +82,8 @@ own-behind-sign c minutes seconds utc = own-nothing (pos 0)
 own-behind-sign c minutes seconds ahead = own-done (zoneSize c minutes seconds) _ (own-size c minutes seconds)
 own-behind-sign c minutes seconds behindUtc = own-done (zoneSize c minutes seconds) _ (own-size c minutes seconds)
 
--- rules and parts. A list of so many letters has names of just so many, as in the table.
+-- rules and parts. Of so many letters each name of the list has just so many, as in the table: a shorter one would be taken alone, yet
+-- not be read where it stands alone.
 
 abbrev pub wholeLetters : Book → Rule → Bool
 wholeLetters book = namesPass (λ l. true) (λ l n. every (λ name. eqb (length name) n) (names book l))
@@ -117,7 +118,7 @@ own-literal : (strict : Bool) (w : List ℕ) → Own (literalRead strict w)
 own-literal true w = own-done (same w) (λ _. Nothing) (own-same w)
 own-literal false w = own-passed (length w)
 
-pub own-step : (choices : Choices) (book : Book) (current : ℕ) (step : Step) → stepPasses (wholeLetters book) step ≡ true
+own-step : (choices : Choices) (book : Book) (current : ℕ) (step : Step) → stepPasses (wholeLetters book) step ≡ true
     → Own (readStep choices book current step)
 unfolding readStep
 own-step choices book current (literal w lost) h = own-literal (choices .strict) w

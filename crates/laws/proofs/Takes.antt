@@ -1,4 +1,5 @@
--- How many bytes a reader takes where it goes on, whatever they give: by this a failing part is told from its own text.
+-- How many bytes a reader takes where it goes on, whatever they give. By this a failing part is told from its own text, and a text may be
+-- cut behind what was taken.
 use mathlib.Core.Bool.{Bool, true, false}
 use mathlib.Core.List.{List, _++_}
 use mathlib.Core.Option.{Option, none, some}
