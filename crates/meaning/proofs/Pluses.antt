@@ -43,7 +43,7 @@ table =
     ∷ reading "yyyyy" "+2025" ↦′ refused 19 0 0
     ∷ reading "yy" "+5" ↦′ refused 19 0 0
     ∷ reading "y" "+5" ↦′ refused 9 0 0
-    ∷ reading "w" "+5" ↦′ accepted (pos 2 ∷ replicate 17 (pos 0))
+    ∷ reading "w" "+5" ↦′ accepted (pos 2 ∷ replicate 47 (pos 0))
     ∷ reading "X" "++530" ↦′ refused 19 0 1
     ∷ reading "XX" "+05+3" ↦′ refused 19 0 3
     ∷ offset "++5:30" ↦′ refused 19 0 1
