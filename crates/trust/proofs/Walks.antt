@@ -10,17 +10,17 @@ use lib.ListN.{length, drop, length-append}
 use lib.Seq.{append-snoc, drop-append-seam}
 use Rattle.meaning.specs.Answers.{fieldsCheck}
 use Rattle.meaning.specs.Names.{Book}
-use Rattle.meaning.specs.Readers.{Got, got, stopped}
+use Rattle.meaning.specs.Readers.{got}
 use Rattle.meaning.specs.Reading.{readStep, carriedStep}
 use Rattle.meaning.specs.Trust.{ComesBack, AllComeBack, SaysOf}
-use Rattle.meaning.specs.Whole.{Gave, Walk, walked, refusedAt, walk, text}
+use Rattle.meaning.specs.Whole.{Gave, walked, walk, text}
 use Rattle.meaning.specs.Writing.{Step, steps, stepText, texts}
 use Rattle.meaning.specs.declared.Carried.{Carried}
-use Rattle.meaning.specs.declared.Checked.the-variants.{Fine, Refused}
+use Rattle.meaning.specs.declared.Checked.the-variants.{Fine}
 use Rattle.meaning.specs.declared.Choices.{Choices}
 use Rattle.meaning.specs.declared.Fields.{Fields}
-use Rattle.meaning.specs.declared.Refusal.the-variants.{InPart}
 use Rattle.meaning.specs.declared.Verdict.the-variants.{Yes}
+use Rattle.laws.proofs.Pluses.{behindPart}
 use Rattle.laws.proofs.Readers.{none-left}
 use Rattle.laws.proofs.Texts.{text-from}
 use Rattle.trust.specs.ReadBack.{gaveFrom, gaveBy}
@@ -36,13 +36,7 @@ module _ (choices : Choices) (book : Book) (current : ℕ) where
       ≡ walk choices book current (suc i) (at + n) ss (drop n s) (record { carried = c; start = at; end = at + n } ∷ gave)
   unfolding walk
   walk-on i at step ss s gave e =
-      ap
-      (λ (r : Got Carried).
-      elim r as (λ x. Walk) [
-        | got n c ↦ walk choices book current (suc i) (at + n) ss (drop n s) (record { carried = c; start = at; end = at + n } ∷ gave)
-        | stopped why place ↦ refusedAt (Refused (InPart why i (at + place)))
-      ])
-      e
+      ap (behindPart i at (λ n c. walk choices book current (suc i) (at + n) ss (drop n s) (record { carried = c; start = at; end = at + n } ∷ gave))) e
 
   module _ (f : Fields) where
     -- all parts come back
