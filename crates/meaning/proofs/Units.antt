@@ -5,12 +5,14 @@ use mathlib.Core.Path.{_≡_, refl}
 use Prim.Native.Nat.{ℕ}
 use borrow.Author.Tests.{eq-eqb}
 use lib.IntN.{ℤ}
-use Rattle.meaning.specs.Whole.{Gave, unitNumber, lastOf}
+use Rattle.meaning.specs.Whole.{Gave, unitNumber, lastOf, valueOf, beganAt, endedAt}
 use Rattle.meaning.specs.declared.Carried.the-variants.{Value}
 use Rattle.meaning.specs.declared.ParseUnit.{ParseUnit}
 
-pub last-wins : {A : Type 0} (of : Gave → A) (other : A) (u : ParseUnit) (z : ℤ) (start end : ℕ) (gave : List Gave)
-    → lastOf of other (record { carried = Value u z; start = start; end = end } ∷ gave) (unitNumber u)
-    ≡ of (record { carried = Value u z; start = start; end = end })
-unfolding lastOf
-last-wins of other u z start end gave = rw (eq-eqb (unitNumber u) (unitNumber u) refl)
+module _ (u : ParseUnit) (z : ℤ) (start end : ℕ) (gave : List Gave) where
+  abbrev all : List Gave
+  all = record { carried = Value u z; start = start; end = end } ∷ gave
+
+  pub last-wins : (valueOf all (unitNumber u) ≡ z) × (beganAt all (unitNumber u) ≡ start) × (endedAt all (unitNumber u) ≡ end)
+  unfolding lastOf
+  last-wins = let same = eq-eqb (unitNumber u) (unitNumber u) refl in (rw same, rw same, rw same)
