@@ -1,1 +1,2 @@
-pub mod Compared
+pub mod Comparing
+pub mod Strict

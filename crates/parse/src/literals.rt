@@ -1,92 +1,78 @@
-// Literals: skipped unseen or, where a reading is strict, compared byte by byte.
-ghost use mathlib.Core.Bool.{true};
+// Literals compared, for a strict reading: what a part stands for with the bytes of the text that it passed over.
 ghost use mathlib.Core.Path.{_≡_};
-ghost use Prim.Native.Nat.{_≤_};
-ghost use lib.ListN.{length, drop, replicate};
-ghost use Rattle.meaning.specs.Reading.{literalRead};
-ghost use Rattle.parse.specs.Steps.{partAt};
+ghost use Prim.Native.Nat.{_-_, _≤_};
+ghost use lib.ListN.{length, replicate};
+ghost use Rattle.parse.specs.Literals.{Ended, comparedFrom, compared};
 ghost use Rattle.pattern.specs.First.{unescaped};
-use crate::cursor::Cursor;
-use crate::cursor::PartRead;
-use crate::steps::pass;
-use meaning::Carried;
-use meaning::Trouble;
+ghost use Rattle.rules.specs.Steps.{means, Held};
+use meaning::Role;
 use pattern::quoted::bytes_of;
 use pattern::quoted::unescaped_length;
+use rules::step::Step;
 
-fn stopped(trouble: Trouble, place: usize) -> PartRead
-    ensures { λ r. ⌜ r ≡ PartRead.Stopped trouble place ⌝ }
-{
-    PartRead::Stopped { trouble, place }
-}
-
-fn passed(at: usize) -> PartRead
-    ensures { λ r. ⌜ r ≡ PartRead.Got Carried.Nothing (record { at = at }) ⌝ }
-{
-    PartRead::Got {
-        carried: Carried::Nothing,
-        next: Cursor { at },
-    }
+pub enum Compared {
+    Same,
+    // The place of the first byte of the text that is another one.
+    Differs(usize),
 }
 
 // A byte, so many times.
-fn same_times(byte: u8, count: usize, text: &[u8], cursor: Cursor) -> PartRead
-    requires { ⌜ cursor .at ≤ length (now text) ⌝ }
-    ensures { λ r. ⌜ r ≡ partAt (cursor .at) (literalRead true (replicate count byte) (drop (cursor .at) (now (text .entry)))) ⌝ }
+fn compare_times(byte: u8, count: usize, text: &[u8], end: usize) -> Compared
+    requires { ⌜ count ≤ end ⌝ }
+    requires { ⌜ end ≤ length (now text) ⌝ }
+    ensures { λ r. ⌜ r ≡ comparedFrom (end - count) (replicate count byte) (now (text .entry)) ⌝ }
 {
-    let at = cursor.at;
-    if text.len() - at < count {
-        return stopped(Trouble::TooFew, at);
-    }
-    let end = at + count;
-    let mut i = at;
+    let mut i = end - count;
     while i < end {
         if text[i] != byte {
-            return stopped(Trouble::LiteralDiffers, i);
+            return Compared::Differs(i);
         }
         i += 1;
     }
-    passed(end)
+    Compared::Same
 }
 
 // The inside of quotes, where an escaped quote is one byte.
-fn same_unescaped(inside: &[u8], text: &[u8], cursor: Cursor) -> PartRead
-    requires { ⌜ cursor .at ≤ length (now text) ⌝ }
-    ensures { λ r. ⌜ r ≡ partAt (cursor .at) (literalRead true (unescaped (now (inside .entry))) (drop (cursor .at) (now (text .entry)))) ⌝ }
+fn compare_inside(inside: &[u8], text: &[u8], end: usize) -> Compared
+    requires { ⌜ length (unescaped (now inside)) ≤ end ⌝ }
+    requires { ⌜ end ≤ length (now text) ⌝ }
+    ensures { λ r. ⌜ r ≡ comparedFrom (end - length (unescaped (now (inside .entry)))) (unescaped (now (inside .entry))) (now (text .entry)) ⌝ }
 {
-    let at = cursor.at;
-    if text.len() - at < unescaped_length(inside) {
-        return stopped(Trouble::TooFew, at);
-    }
-    let mut next = at;
+    let mut next = end - unescaped_length(inside);
     let mut i = 0;
     while i < inside.len() {
         let b = inside[i];
         if text[next] != b {
-            return stopped(Trouble::LiteralDiffers, next);
+            return Compared::Differs(next);
         }
         next += 1;
         i += bytes_of(b);
     }
-    passed(next)
+    Compared::Same
 }
 
-pub fn parse_times(strict: bool, byte: u8, count: usize, text: &[u8], cursor: Cursor) -> PartRead
-    requires { ⌜ cursor .at ≤ length (now text) ⌝ }
-    ensures { λ r. ⌜ r ≡ partAt (cursor .at) (literalRead strict (replicate count byte) (drop (cursor .at) (now (text .entry)))) ⌝ }
+// What a step stands for with the bytes before a place. It calls itself for a run that stands for itself, which keeps it a call of
+// its own: a reading that is not strict does not carry it along.
+pub fn compare(step: Step, pattern: &[u8], text: &[u8], end: usize) -> Compared
+    requires { ⌜ Held (now pattern) step ⌝ }
+    requires { ⌜ Ended (means (now pattern) step) (length (now text)) end ⌝ }
+    ensures { λ r. ⌜ r ≡ compared (means (now (pattern .entry)) step) (now (text .entry)) end ⌝ }
 {
-    if strict {
-        return same_times(byte, count, text, cursor);
+    match step {
+        Step::Times { byte, count } => compare_times(byte, count, text, end),
+        Step::Quoted { from, to } => compare_inside(&pattern[from..to], text, end),
+        Step::Open { from } => compare_inside(&pattern[from..], text, end),
+        Step::Short {
+            number: _,
+            count: _,
+        } => Compared::Same,
+        Step::Year(_) => Compared::Same,
+        Step::MonthAbbreviated => Compared::Same,
+        Step::MonthWide => Compared::Same,
+        Step::WdayWide => Compared::Same,
+        Step::Run { role, byte, count } => match role {
+            Role::Literal => compare(Step::Times { byte, count }, pattern, text, end),
+            Role::Symbol(_) => Compared::Same,
+        },
     }
-    pass(count, text, cursor)
-}
-
-pub fn parse_inside(strict: bool, inside: &[u8], text: &[u8], cursor: Cursor) -> PartRead
-    requires { ⌜ cursor .at ≤ length (now text) ⌝ }
-    ensures { λ r. ⌜ r ≡ partAt (cursor .at) (literalRead strict (unescaped (now (inside .entry))) (drop (cursor .at) (now (text .entry)))) ⌝ }
-{
-    if strict {
-        return same_unescaped(inside, text, cursor);
-    }
-    pass(unescaped_length(inside), text, cursor)
 }

@@ -1,29 +1,26 @@
-// What a step reads: its rule, or a literal that is skipped unseen or compared.
+// What a step reads: its rule, or a literal that is skipped unseen; a strict reading compares it afterwards (literals).
 ghost use mathlib.Core.Path.{_≡_};
 ghost use Prim.Native.Nat.{_≤_};
 ghost use lib.ListN.{length, drop};
-ghost use Rattle.meaning.specs.Names.{english};
-ghost use Rattle.meaning.specs.Reading.{readStep};
 ghost use Rattle.parse.specs.ShortReads.{quickDigits, quickUnit};
-ghost use Rattle.parse.specs.Steps.{partAt};
+ghost use Rattle.parse.specs.Steps.{partAt, plainRead};
 ghost use Rattle.parse.specs.Years.{longYearRead};
 ghost use Rattle.rules.specs.Steps.{means, Held};
 use crate::cursor::Cursor;
 use crate::cursor::PartRead;
-use crate::literals::parse_inside;
-use crate::literals::parse_times;
 use crate::named::parse_name;
 use crate::rule::parse_rule;
 use crate::short::Digits;
 use crate::short::NONE;
 use crate::short::parse_short;
+use crate::steps::pass;
 use crate::years::parse_fixed_year;
 use crate::years::parse_years;
 use meaning::Carried;
-use meaning::Choices;
 use meaning::NameList;
 use meaning::ParseUnit;
 use meaning::Role;
+use pattern::quoted::unescaped_length;
 use rules::short::short_rule;
 use rules::short::short_unit;
 use rules::step::Step;
@@ -39,9 +36,8 @@ fn parse_year(count: usize, text: &[u8], cursor: Cursor) -> PartRead
     parse_fixed_year(count, text, cursor)
 }
 
-// By the kind of the step.
+// "Literals are skipped unseen": one byte of text for each that the part stands for.
 fn parse_other(
-    choices: Choices,
     step: Step,
     pattern: &[u8],
     current_year: u32,
@@ -50,14 +46,18 @@ fn parse_other(
 ) -> PartRead
     requires { ⌜ Held (now pattern) step ⌝ }
     requires { ⌜ cursor .at ≤ length (now text) ⌝ }
-    ensures { λ r. ⌜ r ≡ partAt (cursor .at) (readStep choices english «current_year» (means (now (pattern .entry)) step) (drop (cursor .at) (now (text .entry)))) ⌝ }
+    ensures { λ r. ⌜ r ≡ partAt (cursor .at) (plainRead «current_year» (means (now (pattern .entry)) step) (drop (cursor .at) (now (text .entry)))) ⌝ }
 {
     match step {
-        Step::Times { byte, count } => parse_times(choices.strict, byte, count, text, cursor),
+        Step::Times { byte: _, count } => pass(count, text, cursor),
         Step::Quoted { from, to } => {
-            parse_inside(choices.strict, &pattern[from..to], text, cursor)
+            let k = unescaped_length(&pattern[from..to]);
+            pass(k, text, cursor)
         }
-        Step::Open { from } => parse_inside(choices.strict, &pattern[from..], text, cursor),
+        Step::Open { from } => {
+            let k = unescaped_length(&pattern[from..]);
+            pass(k, text, cursor)
+        }
         Step::Short { number, count } => {
             parse_rule(short_rule(number, count), current_year, text, cursor)
         }
@@ -65,8 +65,12 @@ fn parse_other(
         Step::MonthAbbreviated => parse_name(NameList::MonthAbbreviated, text, cursor),
         Step::MonthWide => parse_name(NameList::MonthWide, text, cursor),
         Step::WdayWide => parse_name(NameList::WdayWide, text, cursor),
-        Step::Run { role, byte, count } => match role {
-            Role::Literal => parse_times(choices.strict, byte, count, text, cursor),
+        Step::Run {
+            role,
+            byte: _,
+            count,
+        } => match role {
+            Role::Literal => pass(count, text, cursor),
             Role::Symbol(rule) => parse_rule(rule, current_year, text, cursor),
         },
     }
@@ -103,7 +107,6 @@ fn quick_unit(step: Step) -> ParseUnit
 
 // What patterns have most is read at once: a byte that stands for itself, and short numbers where their digits are there.
 pub fn parse_step(
-    choices: Choices,
     step: Step,
     pattern: &[u8],
     current_year: u32,
@@ -112,10 +115,10 @@ pub fn parse_step(
 ) -> PartRead
     requires { ⌜ Held (now pattern) step ⌝ }
     requires { ⌜ cursor .at ≤ length (now text) ⌝ }
-    ensures { λ r. ⌜ r ≡ partAt (cursor .at) (readStep choices english «current_year» (means (now (pattern .entry)) step) (drop (cursor .at) (now (text .entry)))) ⌝ }
+    ensures { λ r. ⌜ r ≡ partAt (cursor .at) (plainRead «current_year» (means (now (pattern .entry)) step) (drop (cursor .at) (now (text .entry)))) ⌝ }
 {
-    if let Step::Times { byte, count } = step {
-        return parse_times(choices.strict, byte, count, text, cursor);
+    if let Step::Times { byte: _, count } = step {
+        return pass(count, text, cursor);
     }
     let read = quick_digits(step, text, cursor.at);
     if read.size < 100 {
@@ -127,5 +130,5 @@ pub fn parse_step(
             },
         };
     }
-    moved_on(parse_other(choices, step, pattern, current_year, text, cursor))
+    moved_on(parse_other(step, pattern, current_year, text, cursor))
 }

@@ -1,19 +1,26 @@
 // Reading: the walk over the parts of a pattern. The cursor moves on through the text, and the values are kept by unit.
 ghost use mathlib.Core.List.{[]};
 ghost use mathlib.Core.Path.{_≡_};
+ghost use Prim.Native.Nat.{_<_};
+ghost use lib.ListN.{length};
 ghost use Rattle.meaning.specs.Names.{english};
 ghost use Rattle.meaning.specs.Whole.{readingOf, walk, walkReading};
 ghost use Rattle.meaning.specs.Writing.{steps};
+ghost use Rattle.parse.specs.Literals.{Ended, compared};
+ghost use Rattle.reader.specs.Steps.{stepAt};
 use crate::record::no_reading;
 use crate::record::unit_number;
 use meaning::Carried;
 use meaning::Checked;
 use meaning::Choices;
+use meaning::Pair;
 use meaning::Reading;
 use meaning::Refusal;
 use meaning::Trouble;
 use parse::cursor::Cursor;
 use parse::cursor::PartRead;
+use parse::literals::Compared;
+use parse::literals::compare;
 use parse::step::parse_step;
 use pattern::parts::next_part;
 use rules::step::step_of;
@@ -26,6 +33,16 @@ fn refused_in(part: usize, trouble: Trouble, place: usize) -> Reading
         part,
         place,
     }))
+}
+
+// The part at a place of the pattern, found again, with the text before the place where it ended.
+fn compare_part(pair: Pair, pattern: &[u8], place: usize, text: &[u8], end: usize) -> Compared
+    requires { ⌜ place < length (now pattern) ⌝ }
+    requires { ⌜ Ended (stepAt pair (now pattern) place) (length (now text)) end ⌝ }
+    ensures { λ r. ⌜ r ≡ compared (stepAt pair (now (pattern .entry)) place) (now (text .entry)) end ⌝ }
+{
+    let part = next_part(pattern, place);
+    compare(step_of(pair, pattern, part), pattern, text, end)
 }
 
 // All parts in order; the first that can't be read refuses the whole, and so does what a strict reading leaves.
@@ -41,7 +58,7 @@ pub fn parse_parts(choices: Choices, pattern: &[u8], text: &[u8], current_year: 
     while place < pattern.len() {
         let part = next_part(pattern, place);
         let step = step_of(pair, pattern, part);
-        match parse_step(choices, step, pattern, current_year, text, Cursor { at }) {
+        match parse_step(step, pattern, current_year, text, Cursor { at }) {
             PartRead::Stopped {
                 trouble,
                 place: stop,
@@ -49,12 +66,16 @@ pub fn parse_parts(choices: Choices, pattern: &[u8], text: &[u8], current_year: 
                 return refused_in(i, trouble, stop);
             }
             PartRead::Got { carried, next } => {
+                at = next.at;
                 if let Carried::Value(unit, value) = carried {
                     let k = unit_number(unit);
                     values[k] = value;
                     mask = mask | (1u16 << k);
+                } else if choices.strict {
+                    if let Compared::Differs(found) = compare_part(pair, pattern, place, text, at) {
+                        return refused_in(i, Trouble::LiteralDiffers, found);
+                    }
                 }
-                at = next.at;
             }
         }
         place += part.length;

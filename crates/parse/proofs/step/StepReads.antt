@@ -14,12 +14,12 @@ use Rattle.meaning.specs.Readers.{got}
 use Rattle.meaning.specs.Reading.{readRule, readStep}
 use Rattle.meaning.specs.Whole.{plain}
 use Rattle.meaning.specs.declared.Carried.the-variants.{Value}
-use Rattle.meaning.specs.declared.Choices.{Choices}
 use Rattle.meaning.specs.declared.Pair.the-variants.{Full}
 use Rattle.meaning.specs.declared.ParseUnit.the-variants.{DayOfMonth}
 use Rattle.parse.proofs.rule.Within.{within-step}
 use Rattle.parse.proofs.short.Taken.{digits-read}
 use Rattle.parse.specs.ShortReads.{found, quickDigits, quickUnit}
+use Rattle.parse.specs.Steps.{plainRead}
 use Rattle.parse.specs.Years.{longYearRead}
 use Rattle.parse.specs.declared.short.Digits.{Digits}
 use Rattle.rules.proofs.step.Step.{the-type}
@@ -62,22 +62,22 @@ none-there told small = let none : 100 < 100 = rw told at small in absurd (omega
 
 -- where the digits are there, they are what the step reads
 module _ (p s : List ℕ) where
-  pub quick-read : (choices : Choices) (current : ℕ) (k : Step) {d : Digits} → Held p k → d ≡ quickDigits k s → d .size < 100
-      → readStep choices english current (means p k) s ≡ got (d .taken) (Value (quickUnit k) (pos (d .size)))
+  pub quick-read : (current : ℕ) (k : Step) {d : Digits} → Held p k → d ≡ quickDigits k s → d .size < 100
+      → plainRead current (means p k) s ≡ got (d .taken) (Value (quickUnit k) (pos (d .size)))
   unfolding readStep
-  quick-read choices current (step.Times b n) held told small = none-there told small
-  quick-read choices current (step.Quoted from to) held told small = none-there told small
-  quick-read choices current (step.Open from) held told small = none-there told small
-  quick-read choices current (step.Short number c) held told small =
+  quick-read current (step.Times b n) held told small = none-there told small
+  quick-read current (step.Quoted from to) held told small = none-there told small
+  quick-read current (step.Open from) held told small = none-there told small
+  quick-read current (step.Short number c) held told small =
       let most = most-bounds number c (held .2) in
       let digits = rw (held .0) at told in
       rw digits
       (digits-read current (shortQuantity number) (shortUnit number) c (shortMost number c) (held .1) (most .0) (most .1) s (rw digits at small))
-  quick-read choices current (step.Year c) held told small = none-there told small
-  quick-read choices current step.MonthAbbreviated held told small = none-there told small
-  quick-read choices current step.MonthWide held told small = none-there told small
-  quick-read choices current step.WdayWide held told small = none-there told small
-  quick-read choices current (step.Run role b n) held told small = none-there told small
+  quick-read current (step.Year c) held told small = none-there told small
+  quick-read current step.MonthAbbreviated held told small = none-there told small
+  quick-read current step.MonthWide held told small = none-there told small
+  quick-read current step.WdayWide held told small = none-there told small
+  quick-read current (step.Run role b n) held told small = none-there told small
 
   pub quick-within : (k : Step) {d : Digits} → Held p k → d ≡ quickDigits k s → d .size < 100 → d .taken ≤ length s
-  quick-within k held told small = rw (quick-read (plain Full) 0 k held told small) at (within-step (plain Full) english 0 (means p k) s)
+  quick-within k held told small = rw (quick-read 0 k held told small) at (within-step (plain Full) english 0 (means p k) s)

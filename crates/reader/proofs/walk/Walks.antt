@@ -11,7 +11,8 @@ use lib.Seq.{drop-drop}
 use borrow.Author.Tests.{lt-ltb}
 use Rattle.laws.proofs.Readers.{none-left}
 use Rattle.meaning.specs.Answers.{restCheck}
-use Rattle.meaning.specs.Names.{Book}
+use Rattle.meaning.specs.Bytes.{when}
+use Rattle.meaning.specs.Names.{english}
 use Rattle.meaning.specs.Readers.{Got, got, stopped}
 use Rattle.meaning.specs.Reading.{readStep}
 use Rattle.meaning.specs.Whole.{Walk, walked, refusedAt, walkedBy, walk}
@@ -19,25 +20,38 @@ use Rattle.meaning.specs.Writing.{Step, steps}
 use Rattle.meaning.specs.declared.Carried.{Carried}
 use Rattle.meaning.specs.declared.Checked.the-variants.{Refused}
 use Rattle.meaning.specs.declared.Choices.{Choices}
+use Rattle.meaning.specs.declared.Pair.{Pair}
 use Rattle.meaning.specs.declared.Part.{Part}
 use Rattle.meaning.specs.declared.Refusal.the-variants.{InPart, TextLeft}
-use Rattle.parse.specs.Steps.{partAt}
+use Rattle.meaning.specs.declared.Trouble.{Trouble}
+use Rattle.meaning.specs.declared.Trouble.the-variants.{LiteralDiffers}
+use Rattle.parse.proofs.literals.Strict.{strictBy, compared-read}
+use Rattle.parse.specs.Literals.{compared}
+use Rattle.parse.specs.Steps.{partAt, plainRead}
+use Rattle.parse.specs.declared.cursor.Cursor.{Cursor}
 use Rattle.parse.specs.declared.cursor.PartRead.{PartRead}
-use Rattle.parse.specs.declared.cursor.PartRead.the-variants as part
+use Rattle.parse.specs.declared.cursor.PartRead.the-variants as read
+use Rattle.parse.specs.declared.literals.Compared.the-variants.{Same, Differs}
 use Rattle.pattern.specs.Next.{Next}
 use Rattle.pattern.proofs.parts.Walks.{steps-next, steps-done}
+use Rattle.reader.specs.Steps.{stepAt}
 use Rattle.rules.specs.Steps.{means, Chosen}
 use Rattle.rules.specs.declared.step.Step as rules
 
-module _ (choices : Choices) (book : Book) (current i : ℕ) (text : List ℕ) (gave : List Carried) where
+-- the step of a part that was found and whose step was chosen
+pub step-here : {pair : Pair} {p : List ℕ} {place : ℕ} {part : Part} {k : rules.Step} → Next p place part → Chosen pair p part k
+    → stepAt pair p place ≡ means p k
+step-here {pair} {p} {place} {part} n chosen = rw (steps-next pair p place part n, chosen .meant)
+
+module _ (choices : Choices) (current i : ℕ) (text : List ℕ) (gave : List Carried) where
   -- what follows a part, by what it gave
-  abbrev pub walkBy : List Step → PartRead → Walk
-  walkBy ss (part.Stopped why place) = refusedAt (Refused (InPart why i place))
-  walkBy ss (part.Got c next) = walk choices book current (i + 1) (next .at) ss (drop (next .at) text) (c ∷ gave)
+  abbrev walkBy : List Step → PartRead → Walk
+  walkBy ss (read.Stopped why place) = refusedAt (Refused (InPart why i place))
+  walkBy ss (read.Got c next) = walk choices english current (i + 1) (next .at) ss (drop (next .at) text) (c ∷ gave)
 
   by-part : (at : ℕ) (ss : List Step) (g : Got Carried)
       → (elim g as (λ x. Walk) [
-        | got n c ↦ walk choices book current (suc i) (at + n) ss (drop n (drop at text)) (c ∷ gave)
+        | got n c ↦ walk choices english current (suc i) (at + n) ss (drop n (drop at text)) (c ∷ gave)
         | stopped why place ↦ refusedAt (Refused (InPart why i (at + place)))
       ])
       ≡ walkBy ss (partAt at g)
@@ -45,29 +59,50 @@ module _ (choices : Choices) (book : Book) (current i : ℕ) (text : List ℕ) (
   by-part at ss (stopped why place) = refl
 
   walk-on : (at : ℕ) (step : Step) (ss : List Step)
-      → walk choices book current i at (step ∷ ss) (drop at text) gave ≡ walkBy ss (partAt at (readStep choices book current step (drop at text)))
+      → walk choices english current i at (step ∷ ss) (drop at text) gave
+      ≡ walkBy ss (partAt at (readStep choices english current step (drop at text)))
   unfolding walk
-  walk-on at step ss = by-part at ss (readStep choices book current step (drop at text))
+  walk-on at step ss = by-part at ss (readStep choices english current step (drop at text))
 
-  pub walk-step : (at place : ℕ) {p : List ℕ} {part : Part} {k : rules.Step} → Next p place part → Chosen (choices .pair) p part k
-      → walk choices book current i at (steps (choices .pair) (drop place p)) (drop at text) gave
-      ≡ walkBy (steps (choices .pair) (drop (place + part .length) p)) (partAt at (readStep choices book current (means p k) (drop at text)))
-  walk-step at place {p} {part} {k} n chosen =
-      let pair = choices .pair in
-      rw (steps-next pair p place part n, ← chosen .meant) (walk-on at (means p k) (steps pair (drop (place + part .length) p)))
+  -- a part, from what it gave where nothing is compared
+  module _ (at place : ℕ) {p : List ℕ} {part : Part} {k : rules.Step} (n : Next p place part) (chosen : Chosen (choices .pair) p part k) where
+    abbrev Walked : Walk → Type 0
+    Walked w = walk choices english current i at (steps (choices .pair) (drop place p)) (drop at text) gave ≡ w
+
+    abbrev Gave : PartRead → Type 0
+    Gave g = partAt at (plainRead current (means p k) (drop at text)) ≡ g
+
+    walk-step : {g : PartRead} → Gave g
+        → Walked (walkBy (steps (choices .pair) (drop (place + part .length) p)) (strictBy (choices .strict) (means p k) text g))
+    walk-step e =
+        let pair = choices .pair in
+        rw (← e, steps-next pair p place part n, ← chosen .meant, ← compared-read text at choices current (means p k))
+        (walk-on at (means p k) (steps pair (drop (place + part .length) p)))
+
+    pub walk-stops : {why : Trouble} {stop : ℕ} → Gave (read.Stopped why stop) → Walked (refusedAt (Refused (InPart why i stop)))
+    walk-stops e = walk-step e
+
+    pub walk-differs : {c : Carried} {next : Cursor} {found : ℕ} → Gave (read.Got c next) → choices .strict ≡ true
+        → compared (means p k) text (next .at) ≡ Differs found → Walked (refusedAt (Refused (InPart LiteralDiffers i found)))
+    walk-differs e strict differs = walk-step e ∙ rw (strict, differs)
+
+    pub walk-goes-on : {c : Carried} {next : Cursor} → Gave (read.Got c next)
+        → when (choices .strict) (compared (means p k) text (next .at)) Same ≡ Same
+        → Walked (walk choices english current (i + 1) (next .at) (steps (choices .pair) (drop (place + part .length) p)) (drop (next .at) text) (c ∷ gave))
+    walk-goes-on e same = walk-step e ∙ rw same
 
   -- behind the last part, where text is left over and where none is
   module _ (at place : ℕ) (p : List ℕ) (end : length p ≤ place) where
-    walk-ends : walk choices book current i at (steps (choices .pair) (drop place p)) (drop at text) gave
+    walk-ends : walk choices english current i at (steps (choices .pair) (drop place p)) (drop at text) gave
         ≡ walkedBy (restCheck (choices .strict) at (drop at text)) at gave
     unfolding walk
     walk-ends = rw (steps-done (choices .pair) p place end)
 
     pub walk-left : choices .strict ≡ true → at < length text
-        → walk choices book current i at (steps (choices .pair) (drop place p)) (drop at text) gave ≡ refusedAt (Refused (TextLeft at))
+        → walk choices english current i at (steps (choices .pair) (drop place p)) (drop at text) gave ≡ refusedAt (Refused (TextLeft at))
     walk-left strict h = walk-ends ∙ rw (strict, lt-ltb 0 (length (drop at text)) (rw length-drop (omega arith)))
 
     pub walk-done : (choices .strict ≡ false) ⊎ (length text ≤ at)
-        → walk choices book current i at (steps (choices .pair) (drop place p)) (drop at text) gave ≡ walked at gave
+        → walk choices english current i at (steps (choices .pair) (drop place p)) (drop at text) gave ≡ walked at gave
     walk-done (inl strict) = walk-ends ∙ rw strict
     walk-done (inr h) = walk-ends ∙ rw (none-left (choices .strict) at (drop at text) (rw length-drop (omega arith)))

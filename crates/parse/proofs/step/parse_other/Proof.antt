@@ -1,7 +1,7 @@
 -- Each kind of step.
 use borrow.Author.Needs.{needs}
 use denote.Ref.{now}
-use lib.ListN.{drop}
+use lib.ListN.{drop, length-replicate}
 use native.Mathlib.Omega.{arith}
 use Rattle.meaning.specs.Reading.{readRule, readStep}
 use Rattle.parse.proofs.step.StepReads.{year-read}
@@ -12,38 +12,44 @@ use Rattle.parse.proofs.step.parse_other.Tie as tie
 enum-known-step : tie.Need-enum-known-step
 enum-known-step c = search needs
 
-parse-times-requires : tie.Need-parse-times-requires
-parse-times-requires c κs = search needs
+pass-requires : tie.Need-pass-requires
+pass-requires c κs = search needs
 
 enum-known-step-2 : tie.Need-enum-known-step-2
 enum-known-step-2 c = search needs
 
-sub-parse-inside : tie.Need-sub-parse-inside
-sub-parse-inside c = omega (arith, rw (c .before .step2 .given .1) at (c .before .before .before .before .before .pre .0))
+sub-unescaped-length : tie.Need-sub-unescaped-length
+sub-unescaped-length c = omega (arith, rw (c .before .step2 .given .1) at (c .before .before .before .before .before .pre .0))
 
-part-parse-inside-start : tie.Need-part-parse-inside-start
-part-parse-inside-start c = omega (arith, rw (c .before .step2 .given .1) at (c .before .before .before .before .before .pre .0))
+part-unescaped-length-start : tie.Need-part-unescaped-length-start
+part-unescaped-length-start c = omega (arith, rw (c .before .step2 .given .1) at (c .before .before .before .before .before .pre .0))
 
-part-parse-inside-end : tie.Need-part-parse-inside-end
-part-parse-inside-end c = omega (arith, rw (c .before .step2 .given .1) at (c .before .before .before .before .before .pre .0))
+part-unescaped-length-end : tie.Need-part-unescaped-length-end
+part-unescaped-length-end c = omega (arith, rw (c .before .step2 .given .1) at (c .before .before .before .before .before .pre .0))
 
-parse-inside-requires : tie.Need-parse-inside-requires
-parse-inside-requires c κs = search needs
+unescaped-length-requires : tie.Need-unescaped-length-requires
+unescaped-length-requires c κs = search needs
+
+pass-requires-2 : tie.Need-pass-requires-2
+pass-requires-2 c κs = search needs
 
 enum-known-step-3 : tie.Need-enum-known-step-3
 enum-known-step-3 c = search needs
 
-sub-parse-inside-2 : tie.Need-sub-parse-inside-2
-sub-parse-inside-2 c = omega (arith, rw (c .before .step3 .given .1) at (c .before .before .before .before .before .pre .0))
+sub-unescaped-length-2 : tie.Need-sub-unescaped-length-2
+sub-unescaped-length-2 c = omega (arith, rw (c .before .step3 .given .1) at (c .before .before .before .before .before .pre .0))
 
-part-parse-inside-start-2 : tie.Need-part-parse-inside-start-2
-part-parse-inside-start-2 c = omega (arith, rw (c .before .step3 .given .1) at (c .before .before .before .before .before .pre .0))
+part-unescaped-length-start-2 : tie.Need-part-unescaped-length-start-2
+part-unescaped-length-start-2 c = omega (arith, rw (c .before .step3 .given .1) at (c .before .before .before .before .before .pre .0))
 
-part-parse-inside-end-2 : tie.Need-part-parse-inside-end-2
-part-parse-inside-end-2 c = search needs
+part-unescaped-length-end-2 : tie.Need-part-unescaped-length-end-2
+part-unescaped-length-end-2 c = search needs
 
-parse-inside-requires-2 : tie.Need-parse-inside-requires-2
-parse-inside-requires-2 c κs = search needs
+unescaped-length-requires-2 : tie.Need-unescaped-length-requires-2
+unescaped-length-requires-2 c κs = search needs
+
+pass-requires-3 : tie.Need-pass-requires-3
+pass-requires-3 c κs = search needs
 
 enum-known-step-4 : tie.Need-enum-known-step-4
 enum-known-step-4 c = search needs
@@ -84,8 +90,8 @@ enum-known-step-6 c = search needs
 enum-told-4 : tie.Need-enum-told-4
 enum-told-4 c = search needs
 
-parse-times-requires-2 : tie.Need-parse-times-requires-2
-parse-times-requires-2 c κs = search needs
+pass-requires-4 : tie.Need-pass-requires-4
+pass-requires-4 c κs = search needs
 
 enum-known-role : tie.Need-enum-known-role
 enum-known-role c = search needs
@@ -95,18 +101,18 @@ parse-rule-requires-2 c κs = search needs
 
 returns : tie.Need-returns
 unfolding readStep
-returns c = rw (c .before .before .step .given .1) (c .parse-times .ensures)
+returns c = rw (c .before .before .step .given .1, length-replicate) (c .pass .ensures)
 
 returns-2 : tie.Need-returns-2
 unfolding readStep
-returns-2 c = rw (c .before .before .before .step2 .given .1) (c .parse-inside .ensures)
+returns-2 c = rw (c .before .before .before .before .step2 .given .1, ← c .before .unescaped-length .ensures) (c .pass2 .ensures)
 
 returns-3 : tie.Need-returns-3
 unfolding readStep
 returns-3 c =
-    let p = now (c .before .before .before .before .before .before .before .args .pattern) in
-    let m = c .before .before .before .step3 .given in
-    rw (m .1, ← rest-all (m .0 .0) p) (c .parse-inside2 .ensures)
+    let p = now (c .before .before .before .before .before .before .before .before .args .pattern) in
+    let m = c .before .before .before .before .step3 .given in
+    rw (m .1, ← rest-all (m .0 .0) p, ← c .before .unescaped-length2 .ensures) (c .pass3 .ensures)
 
 returns-4 : tie.Need-returns-4
 unfolding readStep
@@ -133,7 +139,7 @@ returns-8 c = rw (c .before .enum-told3 .given .1) (c .parse-name3 .ensures)
 
 returns-9 : tie.Need-returns-9
 unfolding readStep
-returns-9 c = rw (c .before .before .before .before .step6 .given .1, c .before .enum-told4 .given .1) (c .parse-times2 .ensures)
+returns-9 c = rw (c .before .before .before .before .step6 .given .1, c .before .enum-told4 .given .1, length-replicate) (c .pass4 .ensures)
 
 returns-10 : tie.Need-returns-10
 unfolding readStep
@@ -144,17 +150,19 @@ parse-other-spec =
     tie.close
     (tie.spec
     enum-known-step
-    parse-times-requires
+    pass-requires
     enum-known-step-2
-    sub-parse-inside
-    part-parse-inside-start
-    part-parse-inside-end
-    parse-inside-requires
+    sub-unescaped-length
+    part-unescaped-length-start
+    part-unescaped-length-end
+    unescaped-length-requires
+    pass-requires-2
     enum-known-step-3
-    sub-parse-inside-2
-    part-parse-inside-start-2
-    part-parse-inside-end-2
-    parse-inside-requires-2
+    sub-unescaped-length-2
+    part-unescaped-length-start-2
+    part-unescaped-length-end-2
+    unescaped-length-requires-2
+    pass-requires-3
     enum-known-step-4
     short-rule-requires
     parse-rule-requires
@@ -168,7 +176,7 @@ parse-other-spec =
     parse-name-requires-3
     enum-known-step-6
     enum-told-4
-    parse-times-requires-2
+    pass-requires-4
     enum-known-role
     parse-rule-requires-2
     returns

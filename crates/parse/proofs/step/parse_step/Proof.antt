@@ -1,7 +1,7 @@
 -- At once, from the digits, or by its kind.
 use borrow.Author.Needs.{needs}
 use denote.Ref.{now}
-use lib.ListN.{drop, length-drop}
+use lib.ListN.{drop, length-drop, length-replicate}
 use mathlib.Core.Path.{_∙_}
 use native.Mathlib.Omega.{arith}
 use Rattle.meaning.specs.Reading.{readStep}
@@ -13,12 +13,12 @@ use Rattle.parse.proofs.step.parse_step.Tie as tie
 enum-known-step : tie.Need-enum-known-step
 enum-known-step c = search needs
 
-parse-times-requires : tie.Need-parse-times-requires
-parse-times-requires c κs = search needs
+pass-requires : tie.Need-pass-requires
+pass-requires c κs = search needs
 
 returns : tie.Need-returns
 unfolding readStep
-returns c = rw (c .before .before .step .given .1) (c .parse-times .ensures)
+returns c = rw (c .before .before .step .given .1, length-replicate) (c .pass .ensures)
 
 quick-digits-requires : tie.Need-quick-digits-requires
 quick-digits-requires c κs = search needs
@@ -26,11 +26,11 @@ quick-digits-requires c κs = search needs
 quick-unit-requires : tie.Need-quick-unit-requires
 quick-unit-requires c κs = search needs
 
-cast-t12 : tie.Need-cast-t12
-cast-t12 c = search needs
+cast-t10 : tie.Need-cast-t10
+cast-t10 c = search needs
 
-add-t14 : tie.Need-add-t14
-add-t14 c =
+add-t12 : tie.Need-add-t12
+add-t12 c =
     let m = c .before .before .before .before in
     let read = m .before .before .quick-digits in
     let s = m .before .before .before .before .before .before in
@@ -43,8 +43,8 @@ returns-2 c =
     let m = c .before .before .before .before in
     let read = m .before .before .quick-digits in
     let s = m .before .before .before .before .before .before in
-    let a = s .args in
-    let law = quick-read (now (a .pattern)) (drop (a .cursor .at) (now (a .text))) (a .choices) (a .current-year) (a .step) (s .pre .0) (read .ensures) (m .if1 .taken) in
+    let text = drop (s .args .cursor .at) (now (s .args .text)) in
+    let law = quick-read (now (s .args .pattern)) text (s .args .current-year) (s .args .step) (s .pre .0) (read .ensures) (m .if1 .taken) in
     rw (law, widened (read .result .size) (omega (arith, m .if1 .taken)), c .before .before .before .quick-unit .ensures)
 
 parse-other-requires : tie.Need-parse-other-requires
@@ -61,12 +61,12 @@ parse-step-spec =
     tie.close
     (tie.spec
     enum-known-step
-    parse-times-requires
+    pass-requires
     returns
     quick-digits-requires
     quick-unit-requires
-    cast-t12
-    add-t14
+    cast-t10
+    add-t12
     returns-2
     parse-other-requires
     moved-on-requires

@@ -11,16 +11,18 @@ use mir.Syntax.{w64}
 use mir.ValLaws.{toZ-ofZ}
 use native.Mathlib.Omega.{arith}
 use Rattle.meaning.specs.Names.{english}
-use Rattle.meaning.specs.Reading.{readStep}
-use Rattle.meaning.specs.Whole.{walk}
+use Rattle.meaning.specs.Whole.{plain, walk}
 use Rattle.meaning.specs.Writing.{steps}
 use Rattle.meaning.specs.declared.Carried.the-variants.{Nothing, Value}
 use Rattle.meaning.specs.declared.Carried.{Carried}
+use Rattle.meaning.specs.declared.Pair.the-variants.{Full}
+use Rattle.parse.proofs.literals.Strict.{same-either, value-same, ended}
 use Rattle.parse.proofs.steps.Within.{part-stays}
 use Rattle.parse.proofs.rule.Within.{within-step}
+use Rattle.parse.specs.Steps.{plainRead}
 use Rattle.pattern.proofs.parts.Next.{next, starts-here}
 use Rattle.rules.specs.Steps.{means}
-use Rattle.reader.proofs.walk.Walks.{walk-step, walk-left, walk-done}
+use Rattle.reader.proofs.walk.Walks.{step-here, walk-stops, walk-differs, walk-goes-on, walk-left, walk-done}
 use Rattle.reader.proofs.walk.parse_parts.Statement.{statement}
 use Rattle.reader.proofs.walk.parse_parts.Tie as tie
 use Rattle.reader.proofs.record.Units.{Holds, holds-none, unit-below, holds-nothing, holds-value, holds-reading}
@@ -64,9 +66,9 @@ returns c =
     let L = m .before .before .before .loop in
     let a = m .before .before .before .before .before .before .args in
     let n = next (now (a .pattern)) (L .place) (m .before .next-part .result) (m .before .before .loop-test .taken) (m .before .next-part .ensures) in
-    let step = walk-step (a .choices) english (a .current-year) (L .i) (now (a .text)) (L .inv .0) (L .at) (L .place) n (m .step-of .ensures) in
-    let stops = rw (step, ← c .before .before .before .before .parse-step .ensures, c .before .before .trouble .given .1) at (L .inv .2) in
-    rw (← stops) (c .refused-in .ensures)
+    let gave = sym (c .before .before .before .before .parse-step .ensures) ∙ c .before .before .trouble .given .1 in
+    let stops = walk-stops (a .choices) (a .current-year) (L .i) (now (a .text)) (L .inv .0) (L .at) (L .place) n (m .step-of .ensures) gave in
+    rw (← rw stops at (L .inv .2)) (c .refused-in .ensures)
 
 enum-known-carried : tie.Need-enum-known-carried Inv-loop μ-loop
 enum-known-carried c = search needs
@@ -91,6 +93,41 @@ shl-mask c = omega (arith, c .unit-number .ensures, unit-below (c .before .befor
 
 enum-told : tie.Need-enum-told Inv-loop μ-loop
 enum-told c = search needs
+
+compare-part-requires : tie.Need-compare-part-requires Inv-loop μ-loop
+compare-part-requires c κs =
+    let m = c .before .before .before .before .before .before .before in
+    let L = m .before .before .before .loop in
+    let a = m .before .before .before .before .before .before .args in
+    let p = now (a .pattern) in
+    let n = next p (L .place) (m .before .next-part .result) (m .before .before .loop-test .taken) (m .before .next-part .ensures) in
+    let gave = sym (c .before .before .before .before .before .before .parse-step .ensures) ∙ c .before .before .before .before .carried .given .1 in
+    let end = ended (now (a .text)) (L .at) (a .current-year) (means p (m .step-of .result)) gave (L .inv .3) in
+    (m .before .before .loop-test .taken, rw (step-here n (m .step-of .ensures)) end)
+
+enum-known-found : tie.Need-enum-known-found Inv-loop μ-loop
+enum-known-found c = search needs
+
+refused-in-requires-2 : tie.Need-refused-in-requires-2 Inv-loop μ-loop
+refused-in-requires-2 c κs = search needs
+
+returns-2 : tie.Need-returns-2 Inv-loop μ-loop
+returns-2 c =
+    let m = c .before .before .before .before .before .before .before .before .before .before .before .before in
+    let L = m .before .before .before .loop in
+    let a = m .before .before .before .before .before .before .args in
+    let p = now (a .pattern) in
+    let text = now (a .text) in
+    let n = next p (L .place) (m .before .next-part .result) (m .before .before .loop-test .taken) (m .before .next-part .ensures) in
+    let g = c .before .before .before .before .before in
+    let gave = sym (g .before .before .before .before .before .before .parse-step .ensures) ∙ g .before .before .before .before .carried .given .1 in
+    let seen = rw (step-here n (m .step-of .ensures)) at (c .before .before .before .before .compare-part .ensures) in
+    let differs = sym seen ∙ c .before .before .found .given .1 in
+    let stops = walk-differs (a .choices) (a .current-year) (L .i) text (L .inv .0) (L .at) (L .place) n (m .step-of .ensures) gave (g .if1 .taken) differs in
+    rw (← rw stops at (L .inv .2)) (c .refused-in2 .ensures)
+
+enum-told-2 : tie.Need-enum-told-2 Inv-loop μ-loop
+enum-told-2 c = search needs
 
 add-place : tie.Need-add-place Inv-loop μ-loop
 add-place c =
@@ -119,36 +156,59 @@ loop-again c =
     let p = now (a .pattern) in
     let text = now (a .text) in
     let n = next p (L .place) (m .before .next-part .result) (m .before .before .loop-test .taken) (m .before .next-part .ensures) in
-    let read = c .before .before .before .before .before .parse-step .ensures in
-    let carried = c .before .before .before .carried .given .1 in
-    let step = walk-step (a .choices) english (a .current-year) (L .i) text (L .inv .0) (L .at) (L .place) n (m .step-of .ensures) in
-    let moved = rw (step, ← read, carried) at (L .inv .2) in
     let k = means p (m .step-of .result) in
     let rest = drop (L .at) text in
-    let inside = part-stays (L .at) text (readStep (a .choices) english (a .current-year) k rest) (L .inv .3) (within-step (a .choices) english (a .current-year) k rest) (sym read ∙ carried) in
+    let gave = sym (c .before .before .before .before .before .parse-step .ensures) ∙ c .before .before .before .carried .given .1 in
+    let moved = walk-goes-on (a .choices) (a .current-year) (L .i) text (L .inv .0) (L .at) (L .place) n (m .step-of .ensures) gave in
+    let inside = part-stays (L .at) text (plainRead (a .current-year) k rest) (L .inv .3) (within-step (plain Full) english (a .current-year) k rest) gave in
     ⊎-elim
-    (λ l. (Value (l .1 .given .0 .0) (l .1 .given .0 .1 .0) ∷ L .inv .0, rw (l .4, l .5, l .3 .ensures, toZ-ofZ w64 (l .1 .given .0 .1 .0) (search needs)) (holds-value (L .inv .1) (l .1 .given .0 .0) (l .1 .given .0 .1 .0)), rw (l .6) (rw (l .1 .given .1) at moved), rw (l .6) inside, omega (arith, n .some)))
-    (λ r. (Nothing ∷ L .inv .0, rw (r .2, r .3) (holds-nothing (L .inv .1)), rw (r .4) (rw (r .1 .given .1) at moved), rw (r .4) inside, omega (arith, n .some)))
+    (λ l.
+    let u = l .1 .given .0 .0 in
+    let z = l .1 .given .0 .1 .0 in
+    let same = value-same text (L .at) (a .current-year) k (rw (l .1 .given .1) at gave) in (
+      Value u z ∷ L .inv .0,
+      rw (l .4, l .5, l .3 .ensures, toZ-ofZ w64 z (search needs)) (holds-value (L .inv .1) u z),
+      rw (l .1 .given .1) at (sym (moved (rw same (same-either (a .choices .strict)))) ∙ L .inv .2),
+      inside,
+      omega (arith, n .some),
+    ))
+    (λ r. ⊎-elim
+    (λ t.
+    let seen = rw (step-here n (m .step-of .ensures)) at (t .3 .ensures) in (
+      Nothing ∷ L .inv .0,
+      rw (t .6, t .7) (holds-nothing (L .inv .1)),
+      rw (t .1 .given .1) at (sym (moved (rw (t .2 .taken) (sym seen ∙ t .5 .given .1))) ∙ L .inv .2),
+      inside,
+      omega (arith, n .some),
+    ))
+    (λ e. (
+      Nothing ∷ L .inv .0,
+      rw (e .3, e .4) (holds-nothing (L .inv .1)),
+      rw (e .1 .given .1) at (sym (moved (rw (e .2 .left))) ∙ L .inv .2),
+      inside,
+      omega (arith, n .some),
+    ))
+    r)
     (c .before .match2 .came)
 
 no-reading-requires : tie.Need-no-reading-requires Inv-loop μ-loop
 no-reading-requires c κs = search needs
 
-returns-2 : tie.Need-returns-2 Inv-loop μ-loop
-returns-2 c =
+returns-3 : tie.Need-returns-3 Inv-loop μ-loop
+returns-3 c =
     let m = c .before .before .before in
     let a = m .before .before .before .before .args in
     let L = m .before .loop in
-    let ends = walk-left (a .choices) english (a .current-year) (L .i) (now (a .text)) (L .inv .0) (L .at) (L .place) (now (a .pattern)) (m .loop-test .left) in
-    rw (← rw (ends (c .before .before .if1 .taken) (ltb-true (L .at) (length (now (a .text))) (c .before .if2 .taken))) at (L .inv .2)) (c .no-reading .ensures)
+    let ends = walk-left (a .choices) (a .current-year) (L .i) (now (a .text)) (L .inv .0) (L .at) (L .place) (now (a .pattern)) (m .loop-test .left) in
+    rw (← rw (ends (c .before .before .if2 .taken) (ltb-true (L .at) (length (now (a .text))) (c .before .if3 .taken))) at (L .inv .2)) (c .no-reading .ensures)
 
-returns-3 : tie.Need-returns-3 Inv-loop μ-loop
-returns-3 c =
+returns-4 : tie.Need-returns-4 Inv-loop μ-loop
+returns-4 c =
     let m = c .before in
     let a = m .before .before .before .before .args in
     let L = m .before .loop in
-    let ends = walk-done (a .choices) english (a .current-year) (L .i) (now (a .text)) (L .inv .0) (L .at) (L .place) (now (a .pattern)) (m .loop-test .left) in
-    let none-left = ⊎-elim (λ t. inr (ltb-false (L .at) (length (now (a .text))) (t .1 .left))) (λ e. inl (e .left)) (c .if1 .came) in
+    let ends = walk-done (a .choices) (a .current-year) (L .i) (now (a .text)) (L .inv .0) (L .at) (L .place) (now (a .pattern)) (m .loop-test .left) in
+    let none-left = ⊎-elim (λ t. inr (ltb-false (L .at) (length (now (a .text))) (t .1 .left))) (λ e. inl (e .left)) (c .if2 .came) in
     rw (← rw (ends none-left) at (L .inv .2)) (holds-reading (L .inv .1) (L .at))
 
 pub parse-parts-spec : {M : Type 1} → statement M
@@ -172,10 +232,15 @@ parse-parts-spec =
     cast-mask
     shl-mask
     enum-told
+    compare-part-requires
+    enum-known-found
+    refused-in-requires-2
+    returns-2
+    enum-told-2
     add-place
     add-i
     loop-less
     loop-again
     no-reading-requires
-    returns-2
-    returns-3)
+    returns-3
+    returns-4)
