@@ -43,7 +43,7 @@ extern "C" {
 /* A writer needs no more than so many bytes of output for each byte of the pattern, so SHEET_LONGEST_TEXT are always enough. */
 #define SHEET_BYTES_A_PATTERN_BYTE 8
 
-/* No call takes more bytes of the stack. As measured on x86-64, a write takes 1,000 at most, with names, a read 980, and the
+/* No call takes more bytes of the stack. As measured on x86-64, a write takes 1,016 at most, with names, a read 1,152, and the
  * other functions under 200. */
 #define SHEET_MOST_STACK 2048
 
