@@ -1,11 +1,13 @@
 //! The comparison rule: the one line that the specification and the Rust together allow for a request.
 //!
-//! First come the specification's limits in its order. Then the one exception: a number that begins with a plus is
-//! refused 19. Beyond these the Rust decides: where it answers, its answer is the line; where it doesn't, the line is the
-//! specification's number for the way it stopped, read off its wording, with the part and the place that it had come to.
+//! First come the specification's limits in its order. Then the exceptions: a number that begins with a plus is refused 19,
+//! and a zone whose digits are all zero is written with a plus. Beyond these the Rust decides: where it answers, its answer is
+//! the line; where it doesn't, the line is the specification's number for the way it stopped, read off its wording, with the
+//! part and the place that it had come to.
 
 use crate::answer::{self, as_pattern, as_text};
 use crate::limits::{field_limit, pattern_limit, refused, room_limit, text_limit, year_limit};
+use crate::minus::with_plus;
 use crate::pluses::{plus_in, IN_AN_OFFSET};
 use crate::request::Request;
 use crate::walk::{self, Cause, Kind, Pair, Stopped, Walked};
@@ -19,7 +21,7 @@ pub enum Expected {
     Refused(String),
     /// The Rust answers.
     Accepted(String),
-    /// The Rust came to a number that begins with a plus, whatever it answered.
+    /// The Rust came to a number that begins with a plus, whatever it answered, or it wrote a minus before zeros alone.
     Excepted(String),
 }
 
@@ -84,11 +86,18 @@ fn from_the_rust(request: &Request) -> Expected {
             pattern,
             fields,
             room,
-        } => match walk::write(*pair, as_pattern(pattern).expect(ASCII), fields) {
-            Ok(text) => limit(room_limit(&text, *room))
-                .unwrap_or_else(|| Expected::Accepted(answer::wrote(&text))),
-            Err(_) => Expected::Refused(UNEXPLAINED.to_string()),
-        },
+        } => {
+            let pattern = as_pattern(pattern).expect(ASCII);
+            let Ok(text) = walk::write(*pair, pattern, fields) else {
+                return Expected::Refused(UNEXPLAINED.to_string());
+            };
+            limit(room_limit(&text, *room)).unwrap_or_else(|| {
+                match with_plus(*pair, pattern, fields) {
+                    Some(ours) => Expected::Excepted(answer::wrote(&ours)),
+                    None => Expected::Accepted(answer::wrote(&text)),
+                }
+            })
+        }
         Request::Read {
             pair,
             pattern,

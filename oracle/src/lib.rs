@@ -12,6 +12,7 @@ pub mod differences;
 pub mod expected;
 pub mod generator;
 pub mod limits;
+mod minus;
 pub mod options;
 mod pluses;
 pub mod printing;

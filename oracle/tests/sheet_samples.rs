@@ -180,7 +180,36 @@ fn zones_are_read_and_written() {
     let mut values = [0; 15];
     values[14] = 19_800;
     reads(&read("X", "+0530", 2025), "5 16384 1", &values);
-    writes("X", with_offset(-30), "-00");
+}
+
+/// The Rust writes a minus for any offset below zero; ours a plus where every digit written is zero.
+#[test]
+fn minus_nothing_is_written_with_a_plus() {
+    let excepted = |pattern: &str, offset: i32, text: &str| {
+        assert_eq!(
+            expected(&write(pattern, with_offset(offset))),
+            Expected::Excepted(format!("wrote {} {}", text.len(), hex(text.as_bytes())))
+        );
+    };
+    excepted("X", -30, "+00");
+    excepted("XX", -1, "+0000");
+    excepted("xxx", -59, "+00:00");
+    excepted("XXXXXX", -59, "+00:00");
+    excepted("X'-'x", -30, "+00-+00");
+    writes("XXXX", with_offset(-30), "-000030");
+    writes("xxxxx", with_offset(-59), "-00:00:59");
+    writes("X", with_offset(-60), "-0001");
+    writes("XX", with_offset(-3600), "-0100");
+    writes("X", with_offset(0), "Z");
+    writes("x", with_offset(0), "+00");
+    writes("XXX", with_offset(30), "+00:00");
+    let by_date = Request::Write {
+        pair: Pair::Date,
+        pattern: "X".into(),
+        fields: with_offset(-30),
+        room: 4096,
+    };
+    accepted(&by_date, "wrote 1 58");
 }
 
 #[test]

@@ -1,13 +1,13 @@
 // Zones out: the sign, two digits of hours, and the groups of two digits that the rule has.
-ghost use mathlib.Core.List.{_++_, _∷_};
+ghost use mathlib.Core.Bool.{Bool};
+ghost use mathlib.Core.List.{_∷_};
 ghost use mathlib.Core.Path.{_≡_};
-ghost use Prim.Native.Nat.{_+_, _/_, _%_, _≤_};
+ghost use Prim.Native.Nat.{_+_, _≤_};
 ghost use lib.Dec.{eqb};
 ghost use lib.ListN.{length};
 ghost use Rattle.laws.specs.Laid.{Laid};
-ghost use Rattle.meaning.specs.Bytes.{when, both, num, minus, plus};
-ghost use Rattle.meaning.specs.UnitSizes.{secondsPerHour, secondsPerMinute};
-ghost use Rattle.meaning.specs.Writing.{isThere, groupText, zoneText};
+ghost use Rattle.meaning.specs.Bytes.{when, both, minus, plus};
+ghost use Rattle.meaning.specs.Writing.{isThere, groupText, offsetDigits, allZero, isMinus, zoneText};
 use digits::laying::put_byte;
 use digits::numbers::put_marked;
 use digits::numbers::zero_padded;
@@ -46,12 +46,45 @@ fn put_offset(
     out: &mut [u8],
     at: usize,
 ) -> usize
-    requires { ⌜ at + length (num 2 (n / secondsPerHour) ++ groupText colon minutes (n % secondsPerHour / secondsPerMinute) ++ groupText colon seconds (n % secondsPerMinute)) ≤ length (now out) ⌝ }
-    ensures { λ r. ⌜ Laid (now (out .entry)) (now (out .exit)) at r (num 2 (n / secondsPerHour) ++ groupText colon minutes (n % secondsPerHour / secondsPerMinute) ++ groupText colon seconds (n % secondsPerMinute)) ⌝ }
+    requires { ⌜ at + length (offsetDigits colon minutes seconds n) ≤ length (now out) ⌝ }
+    ensures { λ r. ⌜ Laid (now (out .entry)) (now (out .exit)) at r (offsetDigits colon minutes seconds n) ⌝ }
 {
     let a = zero_padded(n / SECS_PER_HOUR, 2, out, at);
     let b = put_group(colon, minutes, n % SECS_PER_HOUR / SECS_PER_MINUTE, out, a);
     put_group(colon, seconds, n % SECS_PER_MINUTE, out, b)
+}
+
+// Whether every digit of a group is zero, where it is there.
+fn is_zero(group: Group, n: u32) -> bool
+    ensures { λ r. ⌜ ((c : Bool) → r ≡ allZero (groupText c group n)) ⌝ }
+{
+    match group {
+        Group::Never => true,
+        Group::NotZero => n == 0,
+        Group::Always => n == 0,
+    }
+}
+
+// Whether every digit behind the sign is zero.
+fn is_nothing(minutes: Group, seconds: Group, n: u32) -> bool
+    ensures { λ r. ⌜ ((c : Bool) → r ≡ allZero (offsetDigits c minutes seconds n)) ⌝ }
+{
+    if n / SECS_PER_HOUR == 0 {
+        if is_zero(minutes, n % SECS_PER_HOUR / SECS_PER_MINUTE) {
+            return is_zero(seconds, n % SECS_PER_MINUTE);
+        }
+    }
+    false
+}
+
+// A plus where every digit is zero.
+fn is_minus(z: i32, minutes: Group, seconds: Group) -> bool
+    ensures { λ r. ⌜ ((c : Bool) → r ≡ isMinus c minutes seconds z) ⌝ }
+{
+    if is_nothing(minutes, seconds, size(z)) {
+        return false;
+    }
+    is_negative(z)
 }
 
 fn sign_of(negative: bool) -> u8
@@ -69,8 +102,8 @@ fn put_zone(
     out: &mut [u8],
     at: usize,
 ) -> usize
-    requires { ⌜ at + length (when negative minus plus ∷ num 2 (n / secondsPerHour) ++ groupText colon minutes (n % secondsPerHour / secondsPerMinute) ++ groupText colon seconds (n % secondsPerMinute)) ≤ length (now out) ⌝ }
-    ensures { λ r. ⌜ Laid (now (out .entry)) (now (out .exit)) at r (when negative minus plus ∷ num 2 (n / secondsPerHour) ++ groupText colon minutes (n % secondsPerHour / secondsPerMinute) ++ groupText colon seconds (n % secondsPerMinute)) ⌝ }
+    requires { ⌜ at + length (when negative minus plus ∷ offsetDigits colon minutes seconds n) ≤ length (now out) ⌝ }
+    ensures { λ r. ⌜ Laid (now (out .entry)) (now (out .exit)) at r (when negative minus plus ∷ offsetDigits colon minutes seconds n) ⌝ }
 {
     let next = put_byte(sign_of(negative), out, at);
     put_offset(colon, minutes, seconds, n, out, next)
@@ -95,13 +128,17 @@ pub fn format_zone(
     requires { ⌜ at + length (zoneText utc colon minutes seconds z) ≤ length (now out) ⌝ }
     ensures { λ r. ⌜ Laid (now (out .entry)) (now (out .exit)) at r (zoneText utc colon minutes seconds z) ⌝ }
 {
-    let negative = is_negative(z);
     let n = size(z);
     if is_z(utc, n) {
         return put_byte(b'Z', out, at);
     }
-    if negative {
-        return put_zone(true, n, colon, minutes, seconds, out, at);
-    }
-    put_zone(false, n, colon, minutes, seconds, out, at)
+    put_zone(
+        is_minus(z, minutes, seconds),
+        n,
+        colon,
+        minutes,
+        seconds,
+        out,
+        at,
+    )
 }

@@ -1,5 +1,5 @@
--- Laws of decimal text: how many digits there are, that they are digits, and what number they stand for; and the turns of
--- the loops that count and lay them. Reading a written number back is in Numbers.
+-- Laws of decimal text: how many digits there are, that they are digits, what number they stand for and when all are zero; and
+-- the turns of the loops that count and lay them. Reading a written number back is in Numbers.
 use mathlib.Core.Bool.{true, false}
 use mathlib.Core.List.{List, [], _∷_, _++_}
 use mathlib.Core.Logic.{_⊎_, ⊎-elim}
@@ -7,12 +7,13 @@ use mathlib.Core.Path.{_≡_, refl, sym, ap, _∙_}
 use Prim.Native.Nat.{ℕ, zero, suc, _+_, _-_, _*_, _/_, _%_, _^_, _≤_, _<_, max}
 use native.Mathlib.Nat.{pow-suc, pow-le-pow-right, lt-of-lt-of-le, div-lt-iff-lt-mul}
 use native.Mathlib.Omega.{arith}
-use lib.Dec.{leb, ltb}
+use lib.Dec.{eqb, leb, ltb}
 use lib.ListN.{length, set, length-append, List·getD-append}
 use lib.Seq.{sets}
-use borrow.Author.Tests.{lt-ltb, le-ltb, ltb-true, ltb-false, le-leb, lt-leb, leb-true}
-use Rattle.meaning.specs.Bytes.{isDigit, digitAt, digits, widthIn, width, num}
+use borrow.Author.Tests.{eqb-true, eqb-false, ne-eqb, lt-ltb, le-ltb, ltb-true, ltb-false, le-leb, lt-leb, leb-true}
+use Rattle.meaning.specs.Bytes.{when, both, isDigit, digitAt, digits, widthIn, width, num}
 use Rattle.meaning.specs.Numerals.{allDigits, decimal}
+use Rattle.meaning.specs.Writing.{allZero}
 use Rattle.laws.proofs.Laid.{sets-append, set-sets}
 use Rattle.laws.proofs.Tests.{by-test, both-true, both-are}
 
@@ -139,10 +140,43 @@ pub below-width : (n : ℕ) → n < 10 ^ width n
 unfolding width
 below-width n = below-widthIn n n (omega arith)
 
+num-below : (k n : ℕ) → n < 10 ^ max k (width n)
+num-below k n = lt-of-lt-of-le (below-width n) (pow-le-pow-right (omega arith) (omega arith))
+
 pub decimal-num : (k n : ℕ) → decimal 0 (num k n) ≡ n
 unfolding num
-decimal-num k n =
-    decimal-digits (max k (width n)) n (lt-of-lt-of-le (below-width n) (pow-le-pow-right (omega arith) (omega arith)))
+decimal-num k n = decimal-digits (max k (width n)) n (num-below k n)
+
+-- whether every digit is zero
+
+pub all-zero-append : (s t : List ℕ) → allZero (s ++ t) ≡ both (allZero s) (allZero t)
+unfolding allZero
+all-zero-append [] t = refl
+all-zero-append (b ∷ s) t =
+    by-test (when (isDigit b) (eqb b 48) true) (λ e. rw e (all-zero-append s t)) (λ e. rw e)
+
+-- a digit behind others, all of them those of n
+zero-snoc : (n : ℕ) → both (eqb (n / 10) 0) (allZero ((48 + n % 10) ∷ [])) ≡ eqb n 0
+unfolding allZero
+zero-snoc n =
+    let digit : isDigit (48 + n % 10) ≡ true = digit-yes (48 + n % 10) (omega arith) (omega arith) in
+    rw digit
+    (by-test (eqb n 0)
+    (λ e. let none : n ≡ 0 = eqb-true n 0 e in rw none)
+    (λ e.
+    by-test (eqb (n / 10) 0)
+    (λ d. rw (e, d, ne-eqb (48 + n % 10) 48 (λ last. eqb-false n 0 e (omega (arith, eqb-true (n / 10) 0 d)))))
+    (λ d. rw (e, d))))
+
+zero-digits : (w n : ℕ) → n < 10 ^ w → allZero (digits w n) ≡ eqb n 0
+unfolding digits allZero
+zero-digits zero n h = let none : n ≡ 0 = omega arith in rw none
+zero-digits (suc w) n h =
+    all-zero-append (digits w (n / 10)) ((48 + n % 10) ∷ []) ∙ rw (zero-digits w (n / 10) (tenth w n h)) (zero-snoc n)
+
+pub zero-num : (k n : ℕ) → allZero (num k n) ≡ eqb n 0
+unfolding num
+zero-num k n = zero-digits (max k (width n)) n (num-below k n)
 
 -- loops: a turn that lays a digit from the right, its end, and the number that is then there
 

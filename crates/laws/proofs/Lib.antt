@@ -4,6 +4,7 @@ pub mod Determined
 pub mod Digits
 pub mod Fields
 pub mod Laid
+pub mod Minus
 pub mod Names
 pub mod Numbers
 pub mod Places

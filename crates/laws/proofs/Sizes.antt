@@ -16,7 +16,7 @@ use Rattle.meaning.specs.Reading.{colonLength}
 use Rattle.meaning.specs.Rules.{Counts, just, upTo, among, Row, _is_, Otherwise, always, fixedYear, otherwiseRule, pick, Symbol, ruleOf, roleAmong, dateSymbols, timeSymbols, dateRole, timeRole, roleOf, orElse}
 use Rattle.meaning.specs.Splitting.{Content, run, quotes, quoted, unclosed, contents, lengthOf, insideLength}
 use Rattle.meaning.specs.Whole.{text}
-use Rattle.meaning.specs.Writing.{quantityOf, signedText, twoDigitText, offsetText, groupText, isThere, colonText, zoneText, nameText, placeOf, ruleText, isNegative, literal, runStep, stepOf, endsInQuote, steps, stepText, texts}
+use Rattle.meaning.specs.Writing.{quantityOf, signedText, twoDigitText, offsetDigits, offsetText, groupText, isThere, colonText, zoneText, nameText, placeOf, ruleText, isNegative, literal, runStep, stepOf, endsInQuote, steps, stepText, texts}
 use Rattle.meaning.specs.declared.Checked.the-variants.{Fine}
 use Rattle.meaning.specs.declared.Fields.{Fields}
 use Rattle.meaning.specs.declared.Group.{Group}
@@ -82,7 +82,7 @@ group-length c Always n h = two-digits-length c n h
 
 offset-length : (c : Bool) (minutes seconds : Group) (z : ℤ) → natAbs z ≤ 86399
     → length (offsetText c minutes seconds z) ≤ 3 + groupMost c minutes + groupMost c seconds
-unfolding offsetText
+unfolding offsetDigits offsetText
 offset-length c minutes seconds z h =
     rw (length-append, length-append)
     (omega (arith, num-length 2 2 (natAbs z / 3600) (omega arith), group-length c minutes (natAbs z % 3600 / 60) (omega arith), group-length c seconds (natAbs z % 60) (omega arith)))

@@ -2,7 +2,7 @@
 -- the set by which `search` goes through a definition's tests as the code went through its own.
 use mathlib.Core.Bool.{Bool, true, false}
 use mathlib.Core.List.{List, [], _∷_}
-use mathlib.Core.Path.{_≡_, refl, ap, _∙_}
+use mathlib.Core.Path.{_≡_, refl, sym, ap, _∙_}
 use Prim.Native.Nat.{ℕ, zero, suc, _+_, _<_}
 use native.Mathlib.Omega.{arith}
 use borrow.Author.Tests.{eq-eqb, ne-eqb, le-leb, lt-leb, lt-ltb, le-ltb}
@@ -26,6 +26,16 @@ both-true false b h = absurd (let z : _≡_ {A = ℕ} 0 1 = cc in omega arith)
 
 pub both-are : (a b : Bool) → a ≡ true → b ≡ true → both a b ≡ true
 both-are a b e d = rw (e, d)
+
+pub both-no : (b : Bool) → both b false ≡ false
+both-no true = refl
+both-no false = refl
+
+-- two tests that each follow from the other
+pub same-test : (a b : Bool) → (a ≡ true → b ≡ true) → (b ≡ true → a ≡ true) → a ≡ b
+same-test true b h k = sym (h refl)
+same-test false true h k = k refl
+same-test false false h k = refl
 
 pub when-true : {A : Type 0} {t : Bool} (a b : A) → t ≡ true → when t a b ≡ a
 when-true a b e = rw e

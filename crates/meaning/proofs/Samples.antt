@@ -108,5 +108,5 @@ table =
     ∷ []
 
 pub samples : map (λ s. asked (s .question)) table ≡ map (λ s. s .answer) table
-unfolding table asked gives loneQuote gives′ plusAt blank english names bytes write output read writeCheck readCheck text walk valueOf wasRead bits howMany A.bytesCheck A.byteCheck A.patternCheck A.fieldsCheck A.textCheck A.currentYearCheck A.endsInLoneQuote B.num B.digits B.width B.widthIn B.digitAt N.allDigits N.decimal N.signOf N.sized N.numberOf R.skip R.takeNumber R.reach D.readStep D.readRule S.contents S.elements S.outside U.ruleOf U.roleAmong U.dateRole U.timeRole U.roleOf U.pick U.otherwiseRule W.quantityOf W.signedText W.twoDigitText W.offsetText W.ruleText W.stepOf W.endsInQuote W.steps W.stepText W.texts
+unfolding table asked gives loneQuote gives′ plusAt blank english names bytes write output read writeCheck readCheck text walk valueOf wasRead bits howMany A.bytesCheck A.byteCheck A.patternCheck A.fieldsCheck A.textCheck A.currentYearCheck A.endsInLoneQuote B.num B.digits B.width B.widthIn B.digitAt N.allDigits N.decimal N.signOf N.sized N.numberOf R.skip R.takeNumber R.reach D.readStep D.readRule S.contents S.elements S.outside U.ruleOf U.roleAmong U.dateRole U.timeRole U.roleOf U.pick U.otherwiseRule W.quantityOf W.signedText W.twoDigitText W.offsetDigits W.allZero W.isMinus W.offsetText W.ruleText W.stepOf W.endsInQuote W.steps W.stepText W.texts
 samples = refl

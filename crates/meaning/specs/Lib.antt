@@ -10,5 +10,6 @@ pub mod Reading
 pub mod Answers
 pub mod Whole
 pub mod Pluses
+pub mod Minus
 pub mod Trust
 pub mod Promises

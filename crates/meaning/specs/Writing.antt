@@ -7,7 +7,7 @@ use Prim.Native.Nat.{ℕ, zero, suc, _+_, _-_, _/_, _%_, _^_}
 use lib.Dec.{eqb, ltb}
 use lib.IntN.{ℤ, pos, negsuc, natAbs}
 use lib.ListN.{length, getD, replicate, take}
-use Rattle.meaning.specs.Bytes.{when, both, num, minus, plus, colon, quote}
+use Rattle.meaning.specs.Bytes.{when, both, isDigit, num, minus, plus, colon, quote}
 use Rattle.meaning.specs.Names.{Book, names}
 use Rattle.meaning.specs.Rules.{roleOf}
 use Rattle.meaning.specs.Splitting.{Content, run, quotes, quoted, unclosed, contents}
@@ -116,13 +116,25 @@ isThere Always n = true
 abbrev pub groupText : Bool → Group → ℕ → List ℕ
 groupText c g n = when (isThere g n) (colonText c ++ num 2 n) []
 
--- "the sign is minus exactly when the offset is below zero, then hh", then the groups
-unfoldable pub offsetText : Bool → Group → Group → ℤ → List ℕ
-offsetText c minutes seconds z =
-    when (isNegative z) minus plus ∷ num 2 (natAbs z / secondsPerHour) ++ groupText c minutes (natAbs z % secondsPerHour / secondsPerMinute)
-    ++ groupText c seconds (natAbs z % secondsPerMinute)
+-- behind the sign: hh, then the groups
+unfoldable pub offsetDigits : Bool → Group → Group → ℕ → List ℕ
+offsetDigits c minutes seconds n =
+    num 2 (n / secondsPerHour) ++ groupText c minutes (n % secondsPerHour / secondsPerMinute) ++ groupText c seconds (n % secondsPerMinute)
 
--- "X with offset 0 writes Z at any count"
+-- whether every digit among these bytes is zero; a colon is none
+unfoldable pub allZero : List ℕ → Bool
+allZero [] = true
+allZero (b ∷ s) = both (when (isDigit b) (eqb b (code "0")) true) (allZero s)
+
+-- "`-` just where the offset is below zero and a digit that is written is not zero: where every digit written for the offset is
+-- zero, it is `+`"
+unfoldable pub isMinus : Bool → Group → Group → ℤ → Bool
+isMinus c minutes seconds z = when (allZero (offsetDigits c minutes seconds (natAbs z))) false (isNegative z)
+
+unfoldable pub offsetText : Bool → Group → Group → ℤ → List ℕ
+offsetText c minutes seconds z = when (isMinus c minutes seconds z) minus plus ∷ offsetDigits c minutes seconds (natAbs z)
+
+-- "X with offset 0 writes Z at any count", for exactly 0 alone
 abbrev pub zoneText : Bool → Bool → Group → Group → ℤ → List ℕ
 zoneText utc c minutes seconds z =
     when (both utc (eqb (natAbs z) 0)) (code "Z" ∷ []) (offsetText c minutes seconds z)

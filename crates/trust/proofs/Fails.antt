@@ -9,12 +9,12 @@ use lib.Dec.{eqb, leb, ltb}
 use lib.IntN.{ℤ, pos, natAbs}
 use lib.ListN.{length, drop, length-append}
 use borrow.Author.Tests.{leb-false, ltb-true, ltb-false, ne-eqb}
-use Rattle.meaning.specs.Bytes.{when, both, isDigit, digitAt, num, plus, minus}
+use Rattle.meaning.specs.Bytes.{when, isDigit, digitAt, num, plus, minus}
 use Rattle.meaning.specs.Names.{english}
 use Rattle.meaning.specs.Numerals.{Signed, allDigits, numberOf}
 use Rattle.meaning.specs.Readers.{Reader, got, _>>=_, done, skip, takeCount, takeYear, takeNumber, reach, ahead, behindUtc, zoneSign}
 use Rattle.meaning.specs.Reading.{colonLength, millennium, takenYear, zoneBehind, zoneGroup, zoneSizeWith, zoneSize, takenZone, yearLength, digitRun, minusFirst, readRule, carriedRule}
-use Rattle.meaning.specs.Writing.{isNegative, quantityOf, groupText, offsetText, ruleText, twoDigitText, zoneText}
+use Rattle.meaning.specs.Writing.{quantityOf, groupText, offsetDigits, isMinus, offsetText, ruleText, twoDigitText, zoneText}
 use Rattle.meaning.specs.declared.Carried.{Carried}
 use Rattle.meaning.specs.declared.Carried.the-variants as carried
 use Rattle.meaning.specs.declared.Group.{Group}
@@ -27,9 +27,9 @@ use Rattle.meaning.specs.declared.Rule.{Rule}
 use Rattle.meaning.specs.declared.Rule.the-variants.{Number, SkippedNumber, LetterQuarter, SkippedName, MatchedName, Letters, Years, FixedYear, TwoDigitYear, Zone}
 use Rattle.laws.proofs.Digits.{all-num, digit-behind, digit-in, length-num, num-some}
 use Rattle.laws.proofs.Readers.{take-goes-on}
-use Rattle.laws.proofs.Tests.{both-true, by-test, when-is, true-is-not-false}
+use Rattle.laws.proofs.Tests.{both-no, both-true, by-test, when-is, true-is-not-false}
 use Rattle.laws.proofs.Years.{no-minus}
-use Rattle.laws.proofs.Zones.{group-comes-back, two-digits}
+use Rattle.laws.proofs.Zones.{group-comes-back, sign-read, two-digits}
 use Rattle.laws.specs.Widths.{mostDigits}
 use Rattle.trust.proofs.RulesAhead.{seven-digits}
 use Rattle.trust.proofs.Sound.{Back}
@@ -160,17 +160,6 @@ takes-group colon r digit =
     (takes-both (colonLength colon) 2 (skip (colonLength colon)) (λ _. takeCount 2) r (takes-skip (colonLength colon) r)
     (λ n a _. takes-done 2 (takeNumber Count 2) _ (drop n r) (takes-number Count 2 (drop n r))))
 
-both-no : (b : Bool) → both b false ≡ false
-both-no true = refl
-both-no false = refl
-
-sign-read : (utc negative : Bool) (s : List ℕ) → zoneSign utc (when negative minus plus ∷ s) ≡ got 1 (when negative behindUtc ahead)
-unfolding zoneSign
-sign-read true true s = refl
-sign-read true false s = refl
-sign-read false true s = refl
-sign-read false false s = refl
-
 takes-behind-sign : (negative : Bool) (k : ℕ) (size : Reader ℕ) (s : List ℕ) → Takes k (size s)
     → Takes k (zoneBehind size (when negative behindUtc ahead) s)
 takes-behind-sign true k size s h = takes-done k size _ s h
@@ -204,29 +193,30 @@ record WholeHours (z : ℤ) : Type 0 where
 
 module _ (current : ℕ) (utc colon : Bool) (minutes seconds : Group) (no-seconds : groupText colon seconds 0 ≡ []) {z : ℤ} (whole : WholeHours z) (r : List ℕ) (missing : MissingTaken colon minutes seconds r) where
   hours-text : zoneText utc colon minutes seconds z
-      ≡ when (isNegative z) minus plus ∷ num 2 (whole .hours) ++ groupText colon minutes 0
-  unfolding offsetText
+      ≡ when (isMinus colon minutes seconds z) minus plus ∷ num 2 (whole .hours) ++ groupText colon minutes 0
+  unfolding offsetDigits offsetText
   hours-text =
       let h = whole .hours in
       let not-none : eqb (h * 3600) 0 ≡ false = ne-eqb (h * 3600) 0 (λ e. omega (arith, whole .some)) in
       let hh : h * 3600 / 3600 ≡ h = omega arith in
       let mm : h * 3600 % 3600 / 60 ≡ 0 = omega arith in
       let ss : h * 3600 % 60 ≡ 0 = omega arith in
-      rw (whole .size, not-none, both-no utc, hh, mm, ss, no-seconds) (append-nil (when (isNegative z) minus plus ∷ num 2 h ++ groupText colon minutes 0))
+      rw (whole .size, not-none, both-no utc, hh, mm, ss, no-seconds) (append-nil (when (isMinus colon minutes seconds z) minus plus ∷ num 2 h ++ groupText colon minutes 0))
 
   takes-hours : Takes (1 + (length (num 2 (whole .hours)) + (length (groupText colon minutes 0) + (colonLength colon + 2))))
-      (takenZone utc colon minutes seconds (when (isNegative z) minus plus ∷ num 2 (whole .hours) ++ (groupText colon minutes 0 ++ r)))
+      (takenZone utc colon minutes seconds (when (isMinus colon minutes seconds z) minus plus ∷ num 2 (whole .hours) ++ (groupText colon minutes 0 ++ r)))
   unfolding zoneSizeWith MissingTaken
   takes-hours =
       let hh = num 2 (whole .hours) in
       let m = groupText colon minutes 0 in
       let k = length hh + (length m + (colonLength colon + 2)) in
       let s = hh ++ (m ++ r) in
-      let sign = when (isNegative z) minus plus in
+      let negative = isMinus colon minutes seconds z in
+      let sign = when negative minus plus in
       let size = zoneSize colon minutes seconds in
       takes-done (1 + k) (zoneSign utc >>= zoneBehind size) _ (sign ∷ s)
-      (takes-then k (zoneSign utc) (zoneBehind size) (sign ∷ []) s (sign-read utc (isNegative z) s)
-      (takes-behind-sign (isNegative z) k size s
+      (takes-then k (zoneSign utc) (zoneBehind size) (sign ∷ []) s (sign-read utc negative s)
+      (takes-behind-sign negative k size s
       (takes-then (length m + (colonLength colon + 2)) (takeCount 2) _ hh (m ++ r) (two-digits (whole .hours) (m ++ r) (whole .few)) (missing (whole .hours)))))
 
   missing-group-fails : (c : Carried) → readRule english current (Zone utc colon minutes seconds) (zoneText utc colon minutes seconds z ++ r)
@@ -235,7 +225,7 @@ module _ (current : ℕ) (utc colon : Bool) (minutes seconds : Group) (no-second
   missing-group-fails c e =
       let hh = num 2 (whole .hours) in
       let m = groupText colon minutes 0 in
-      let taken : length (when (isNegative z) minus plus ∷ hh ++ m) ≡ 1 + (length hh + (length m + (colonLength colon + 2)))
+      let taken : length (when (isMinus colon minutes seconds z) minus plus ∷ hh ++ m) ≡ 1 + (length hh + (length m + (colonLength colon + 2)))
       = takes-got _ takes-hours (rw (hours-text, append-assoc) at e) in
       omega (arith, length-append hh m)
 

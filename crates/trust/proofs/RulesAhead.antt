@@ -12,7 +12,7 @@ use lib.ListN.{length, List·getD-append}
 use borrow.Author.Tests.{eqb-true, leb-true, ltb-true, ltb-false, not-true}
 use Rattle.meaning.specs.Bytes.{when, both, digitAt, num, width, widthIn, digits}
 use Rattle.meaning.specs.Names.{english, names}
-use Rattle.meaning.specs.Writing.{isNegative, nameText, placeOf, offsetText, quantityOf, ruleText, signedText, twoDigitText, zoneText}
+use Rattle.meaning.specs.Writing.{isNegative, nameText, placeOf, offsetDigits, isMinus, offsetText, quantityOf, ruleText, signedText, twoDigitText, zoneText}
 use Rattle.meaning.specs.declared.Fields.{Fields}
 use Rattle.meaning.specs.declared.Group.{Group}
 use Rattle.meaning.specs.declared.NameList.{NameList}
@@ -162,10 +162,10 @@ zone-first : (utc colon : Bool) (minutes seconds : Group) (z : ℤ) (t : List �
 unfolding digitAt offsetText
 zone-first utc colon minutes seconds z t =
     when-is (λ (s : List ℕ). digitAt 0 (s ++ t) ≡ false) (both utc (eqb (natAbs z) 0)) (λ _. refl)
-    (λ _. by-test (isNegative z) (λ e. rw e) (λ e. rw e))
+    (λ _. by-test (isMinus colon minutes seconds z) (λ e. rw e) (λ e. rw e))
 
 zone-second-shown : (utc colon : Bool) (minutes seconds : Group) (t : List ℕ) → digitAt 1 (zoneText utc colon minutes seconds (longNumbers .offset) ++ t) ≡ true
-unfolding digitAt offsetText num
+unfolding digitAt offsetDigits offsetText num
 zone-second-shown true colon minutes seconds t = refl
 zone-second-shown false colon minutes seconds t = refl
 

@@ -13,7 +13,7 @@ use Rattle.laws.proofs.Digits.{num-fits}
 use Rattle.laws.proofs.Tests.{by-test, true-is-not-false, when-is}
 use Rattle.laws.proofs.Years.{two-digit-whole, two-digit-cut}
 use Rattle.meaning.specs.Bytes.{when, both, num, quote}
-use Rattle.meaning.specs.Writing.{isNegative, signedText, twoDigitText, isThere, colonText, groupText, offsetText, endsInQuote}
+use Rattle.meaning.specs.Writing.{isNegative, signedText, twoDigitText, isThere, colonText, groupText, offsetDigits, offsetText, endsInQuote}
 use Rattle.meaning.specs.declared.Group.{Group}
 use Rattle.pattern.specs.First.{unescaped}
 use Rattle.pattern.specs.Next.{Lost}
@@ -52,7 +52,7 @@ group-most c g n h =
 pub offset-length : (c : Bool) (minutes seconds : Group) (z : ℤ) → natAbs z ≤ 86399
     → length (offsetText c minutes seconds z)
     ≡ 3 + length (groupText c minutes (natAbs z % 3600 / 60)) + length (groupText c seconds (natAbs z % 60))
-unfolding offsetText
+unfolding offsetDigits offsetText
 offset-length c minutes seconds z h =
     rw (length-append, length-append) (omega (arith, num-fits 2 (natAbs z / 3600) (omega arith) (omega arith)))
 

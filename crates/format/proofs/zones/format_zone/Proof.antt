@@ -7,9 +7,6 @@ use Rattle.meaning.specs.Writing.{offsetText}
 use mir.Syntax.{w32}
 use mir.ValLaws.{toZ-ofZ}
 
-is-negative-requires : tie.Need-is-negative-requires
-is-negative-requires c κs = search needs
-
 size-requires : tie.Need-size-requires
 size-requires c κs = search needs
 
@@ -18,7 +15,7 @@ is-z-requires c κs = search needs
 
 put-byte-requires : tie.Need-put-byte-requires
 put-byte-requires c κs =
-    let a = c .before .before .before .before .before .before in
+    let a = c .before .before .before .before .before in
     let e = toZ-ofZ w32 (a .args .z) (a .fits .z) in
     let n = rw e at (c .before .before .before .size .ensures) in
     let test = rw n at (c .before .before .is-z .ensures) in
@@ -30,17 +27,20 @@ same-length c = search needs
 
 returns : tie.Need-returns
 returns c =
-    let a = c .before .before .before .before .before .before .before .before .before in
+    let a = c .before .before .before .before .before .before .before .before in
     let e = toZ-ofZ w32 (a .args .z) (a .fits .z) in
     let n = rw e at (c .before .before .before .before .before .before .size .ensures) in
     let test = rw n at (c .before .before .before .before .before .is-z .ensures) in
     let taken = c .before .before .before .before .if1 .taken in
     rw (← test, taken) (c .before .before .put-byte .ensures)
 
+is-minus-requires : tie.Need-is-minus-requires
+is-minus-requires c κs = search needs
+
 put-zone-requires : tie.Need-put-zone-requires
 unfolding offsetText
 put-zone-requires c κs =
-    let a = c .before .before .before .before .before .before .before in
+    let a = c .before .before .before .before .before .before in
     let e = toZ-ofZ w32 (a .args .z) (a .fits .z) in
     let n = rw e at (c .before .before .before .before .size .ensures) in
     let test = rw n at (c .before .before .before .is-z .ensures) in
@@ -53,49 +53,23 @@ returns-2 : tie.Need-returns-2
 unfolding offsetText
 returns-2 c =
     let b = c .before .before .before in
-    let a = b .before .before .before .before .before .before .before in
+    let a = b .before .before .before .before .before .before in
     let e = toZ-ofZ w32 (a .args .z) (a .fits .z) in
-    let negative = rw e at (b .before .before .before .before .before .is-negative .ensures) in
     let n = rw e at (b .before .before .before .before .size .ensures) in
     let test = rw n at (b .before .before .before .is-z .ensures) in
-    rw (← test, b .before .before .if1 .left, ← negative, b .before .if2 .taken, ← n) (c .before .before .put-zone .ensures)
-
-put-zone-requires-2 : tie.Need-put-zone-requires-2
-unfolding offsetText
-put-zone-requires-2 c κs =
-    let a = c .before .before .before .before .before .before .before in
-    let e = toZ-ofZ w32 (a .args .z) (a .fits .z) in
-    let n = rw e at (c .before .before .before .before .size .ensures) in
-    let test = rw n at (c .before .before .before .is-z .ensures) in
-    rw n (rw (← test, c .before .before .if1 .left) at (a .pre))
-
-same-length-3 : tie.Need-same-length-3
-same-length-3 c = search needs
-
-returns-3 : tie.Need-returns-3
-unfolding offsetText
-returns-3 c =
-    let b = c .before .before .before in
-    let a = b .before .before .before .before .before .before .before in
-    let e = toZ-ofZ w32 (a .args .z) (a .fits .z) in
-    let negative = rw e at (b .before .before .before .before .before .is-negative .ensures) in
-    let n = rw e at (b .before .before .before .before .size .ensures) in
-    let test = rw n at (b .before .before .before .is-z .ensures) in
-    rw (← test, b .before .before .if1 .left, ← negative, b .before .if2 .left, ← n) (c .before .before .put-zone2 .ensures)
+    let sign = rw e at (b .before .is-minus .ensures (a .args .colon)) in
+    rw (← test, b .before .before .if1 .left, ← sign, ← n) (c .before .before .put-zone .ensures)
 
 pub format-zone-spec : {M : Type 1} → statement M
 format-zone-spec =
     tie.close
     (tie.spec
-    is-negative-requires
     size-requires
     is-z-requires
     put-byte-requires
     same-length
     returns
+    is-minus-requires
     put-zone-requires
     same-length-2
-    returns-2
-    put-zone-requires-2
-    same-length-3
-    returns-3)
+    returns-2)

@@ -5,15 +5,19 @@ use native.Mathlib.Omega.{arith}
 use Rattle.format.proofs.zones.put_offset.Statement.{statement}
 use Rattle.format.proofs.zones.put_offset.Tie as tie
 use Rattle.laws.proofs.Laid.{laid-then}
+use Rattle.meaning.specs.Writing.{offsetDigits}
 
 zero-padded-requires : tie.Need-zero-padded-requires
+unfolding offsetDigits
 zero-padded-requires c κs = omega (arith, simp length-append at (c .before .before .pre))
 
 put-group-requires : tie.Need-put-group-requires
+unfolding offsetDigits
 put-group-requires c κs =
     omega (arith, simp length-append at (c .before .before .before .before .before .before .pre), c .before .before .before .zero-padded .ensures .end, c .before .before .before .zero-padded .kept .1 .1 .0)
 
 put-group-requires-2 : tie.Need-put-group-requires-2
+unfolding offsetDigits
 put-group-requires-2 c κs =
     omega (
       arith,
@@ -28,6 +32,7 @@ same-length : tie.Need-same-length
 same-length c = search needs
 
 returns : tie.Need-returns
+unfolding offsetDigits
 returns c =
     laid-then (laid-then (c .before .before .before .before .before .before .before .before .before .before .zero-padded .ensures) (c .before .before .before .before .before .before .put-group .ensures))
     (c .before .before .put-group2 .ensures)
