@@ -9,7 +9,7 @@ use lib.Dec.{eqb, leb, ltb}
 use lib.IntN.{ℤ, pos, negsuc, natAbs}
 use lib.ListN.{length, getD, replicate, length-append, length-take, length-replicate}
 use borrow.Author.Tests.{leb-true, leb-false, eqb-true, eqb-false, ltb-true}
-use Rattle.meaning.specs.Answers.{_else_, fieldsCheck, patternCheck, bytesCheck, refuseUnless, byteCheck}
+use Rattle.meaning.specs.Answers.{fieldsCheck, patternCheck}
 use Rattle.meaning.specs.Bytes.{when, both, bytes, num, quote}
 use Rattle.meaning.specs.Names.{Book, english, names}
 use Rattle.meaning.specs.Reading.{colonLength}
@@ -24,13 +24,12 @@ use Rattle.meaning.specs.declared.Group.the-variants.{Never, NotZero, Always}
 use Rattle.meaning.specs.declared.Pair.{Pair}
 use Rattle.meaning.specs.declared.Pair.the-variants.{Full, Date}
 use Rattle.meaning.specs.declared.Quantity.the-variants.{Quarter}
-use Rattle.meaning.specs.declared.Refusal.the-variants.{PatternTooLong, PatternByte}
 use Rattle.meaning.specs.declared.Role.{Role}
 use Rattle.meaning.specs.declared.Role.the-variants as role
 use Rattle.meaning.specs.declared.Rule.{Rule}
 use Rattle.meaning.specs.declared.Rule.the-variants.{Number, SkippedNumber, LetterQuarter, SkippedName, MatchedName, Letters, Years, FixedYear, TwoDigitYear, Zone}
 use Rattle.laws.specs.Widths.{mostDigits, longest, groupMost, mostBytes}
-use Rattle.laws.proofs.Checks.{else-fine, fine-unless}
+use Rattle.laws.proofs.Checks.{pattern-fine}
 use Rattle.laws.proofs.Digits.{length-num, width-at-most}
 use Rattle.laws.proofs.Fields.{Allowed, allowed, quantity-below}
 use Rattle.laws.proofs.Splitting.{total, parts-fill, isSome, runs-are-some}
@@ -233,13 +232,6 @@ unfolding text steps
 eight-bytes pair p f h =
     omega (arith, texts-length english english-fits pair f (allowed f h) (contents p) (runs-are-some p), parts-fill p)
 
-pattern-short : (p : List ℕ) → patternCheck p ≡ Fine → length p ≤ 256
-unfolding patternCheck bytesCheck
-pattern-short p h =
-    let short = refuseUnless (leb (length p) 256) (PatternTooLong (length p)) in
-    let t = else-fine (short else byteCheck PatternByte 1 127 0 p) _ h in
-    leb-true (length p) 256 (fine-unless (leb (length p) 256) _ (else-fine short _ (t .0) .0))
-
 -- "Written text is at most 8 bytes per pattern byte, so it always fits the text limit."
 pub text-fits : (pair : Pair) (p : List ℕ) (f : Fields) → patternCheck p ≡ Fine → fieldsCheck f ≡ Fine → length (text pair english p f) ≤ 2048
-text-fits pair p f h k = omega (arith, eight-bytes pair p f k, pattern-short p h)
+text-fits pair p f h k = omega (arith, eight-bytes pair p f k, pattern-fine p h .short)

@@ -67,7 +67,7 @@ escaped-total (quoted s ∷ cs) = refl
 escaped-total (unclosed s ∷ cs) = refl
 
 -- the first part is a quoted one
-abbrev opens : List Content → Bool
+abbrev pub opens : List Content → Bool
 opens [] = false
 opens (run a n ∷ cs) = false
 opens (quotes n ∷ cs) = false
@@ -81,7 +81,7 @@ stays-open b (quotes n ∷ cs) h = h
 stays-open b (quoted s ∷ cs) h = refl
 stays-open b (unclosed s ∷ cs) h = refl
 
-inside-opens : (es : List Element) → opens (inside es) ≡ true
+pub inside-opens : (es : List Element) → opens (inside es) ≡ true
 unfolding inside
 inside-opens [] = refl
 inside-opens (byte b ∷ es) = stays-open b (inside es) (inside-opens es)

@@ -97,6 +97,9 @@ found (OffsetLength n) = record { again = refl; not-0 = refl }
 found (OffsetRange which) = record { again = refl; not-0 = refl }
 found (CurrentYear year) = record { again = refl; not-0 = refl }
 
+pub refusal-number : (why : Refusal) → eqb (number why) 0 ≡ false
+refusal-number why = found why .not-0
+
 pub refusals-told-apart : (a b : Refusal) → number a ≡ number b → details a ≡ details b → a ≡ b
 refusals-told-apart a b n d = sym (found a .again) ∙ rw (n, d) (found b .again)
 

@@ -1,5 +1,4 @@
 pub mod Answers
-pub mod Elements
 pub mod Few
 pub mod First
 pub mod Inside

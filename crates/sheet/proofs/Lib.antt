@@ -1,4 +1,5 @@
 mod Determined
 pub mod Fits
+mod Halves
 pub mod Laying
 pub mod Rooms

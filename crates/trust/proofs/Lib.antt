@@ -1,8 +1,10 @@
 pub mod Agreement
 pub mod Ahead
+pub mod Before
 pub mod CurrentYear
 pub mod Fails
 pub mod Fitting
+pub mod Halves
 pub mod NameRules
 pub mod RealDays
 pub mod RulesAhead
@@ -13,4 +15,5 @@ pub mod Table
 pub mod Takes
 pub mod Turns
 pub mod Verdicts
+pub mod Walks
 pub mod Witness

@@ -1,3 +1,4 @@
 pub mod Needs
 pub mod Ahead
 pub mod Check
+pub mod Halves

@@ -4,11 +4,8 @@ use mathlib.Core.List.{List}
 use mathlib.Core.Path.{_≡_}
 use Prim.Native.Nat.{ℕ, _+_, _≤_, _<_}
 use native.Mathlib.Numerals.{add-one}
-use native.Mathlib.Omega.{arith}
-use lib.Dec.{leb}
 use lib.ListN.{length, getD, drop, drop-of-length-le}
-use borrow.Author.Tests.{le-leb, lt-leb, leb-true, leb-false}
-use Rattle.laws.proofs.Tests.{by-test}
+use borrow.Author.Tests.{le-leb, lt-leb}
 use Rattle.meaning.specs.Answers.{within, byteCheck, bytesCheck}
 use Rattle.meaning.specs.declared.Checked.the-variants.{Fine, Refused}
 use Rattle.meaning.specs.declared.Refusal.{Refusal}
@@ -45,8 +42,3 @@ long-pattern p h = rw (lt-leb (length p) 256 h)
 pub short-pattern : (p : List ℕ) → length p ≤ 256 → bytesCheck p ≡ byteCheck PatternByte 1 127 0 p
 unfolding bytesCheck
 short-pattern p h = rw (le-leb (length p) 256 h)
-
-pub fine-short : (p : List ℕ) → bytesCheck p ≡ Fine → length p ≤ 256
-fine-short p e =
-    by-test (leb (length p) 256) (λ h. leb-true (length p) 256 h)
-    (λ h. let f = long-pattern p (leb-false (length p) 256 h) in let z : _≡_ {A = ℕ} 0 1 = cc in absurd (omega arith))

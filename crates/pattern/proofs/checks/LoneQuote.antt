@@ -19,7 +19,7 @@ use Rattle.meaning.specs.declared.Part.{Part}
 use Rattle.meaning.specs.declared.Refusal.{Refusal}
 use Rattle.meaning.specs.declared.Refusal.the-variants.{LoneQuote}
 use Rattle.pattern.specs.First.{insideOf, firstContent, partOf}
-use Rattle.pattern.proofs.checks.Checks.{fine-short}
+use Rattle.laws.proofs.Checks.{fine-short}
 use Rattle.pattern.proofs.parts.First.{inside-length, by-first, contents-first}
 use Rattle.pattern.proofs.parts.Next.{next}
 use Rattle.pattern.proofs.parts.Scans.{from-here}

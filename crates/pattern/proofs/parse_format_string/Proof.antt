@@ -3,7 +3,7 @@ use mathlib.Core.Path.{sym, _∙_}
 use borrow.Author.Needs.{needs}
 use denote.Ref.{now}
 use Rattle.laws.proofs.Told.{by-whole}
-use Rattle.pattern.proofs.checks.Checks.{fine-short}
+use Rattle.laws.proofs.Checks.{fine-short}
 use Rattle.pattern.proofs.Splits.{split-fine, split-refused}
 use Rattle.pattern.proofs.parse_format_string.Statement.{statement}
 use Rattle.pattern.proofs.parse_format_string.Tie as tie

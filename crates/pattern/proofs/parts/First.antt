@@ -7,11 +7,11 @@ use native.Mathlib.Omega.{arith}
 use lib.Dec.{eqb, ltb, leb·suc-suc}
 use lib.ListN.{length, getD, take, drop, drop-of-length-le}
 use borrow.Author.Tests.{eq-eqb, eqb-true, ltb-true, ltb-false, lt-ltb}
+use Rattle.laws.proofs.Elements.{by-elements, contents-byte, contents-escaped, contents-single, inside-byte, inside-escaped, inside-single, byte-apart, byte-escaped, escaped-byte, byte-quoted, escaped-quoted}
 use Rattle.laws.proofs.Tests.{by-test, when-is}
 use Rattle.meaning.specs.Bytes.{when, quote}
 use Rattle.meaning.specs.Splitting.{elements, Content, run, quotes, quoted, unclosed, joinByte, joinEscaped, joinInside, inside, contents, insideLength, lengthOf}
 use Rattle.pattern.specs.First.{runLength, escapedCount, insideSize, unescaped, insideOf, openedContent, firstContent}
-use Rattle.pattern.proofs.parts.Elements.{by-elements, contents-byte, contents-escaped, contents-single, inside-byte, inside-escaped, inside-single}
 
 -- the scan of a quoted part, by the first element
 
@@ -72,39 +72,6 @@ opened-first =
     (λ s h. rw (opened-escaped s, size-escaped s) (inside-escaped s ∙ ap (joinInside quote) h ∙ opened-joins quote s _))
     (λ s e h. rw (opened-single s e, size-single s e) (inside-single s e))
 
--- a byte or an escaped quote does not join a part of another kind
-
-byte-apart : (b a : ℕ) (cs : List Content) → eqb b a ≡ false → joinByte b (joinByte a cs) ≡ run b 1 ∷ joinByte a cs
-byte-apart b a [] e = rw e
-byte-apart b a (run c n ∷ cs) e = by-test (eqb a c) (λ f. rw (f, e)) (λ f. rw (f, e))
-byte-apart b a (quotes n ∷ cs) e = rw e
-byte-apart b a (quoted w ∷ cs) e = rw e
-byte-apart b a (unclosed w ∷ cs) e = rw e
-
-byte-escaped : (b : ℕ) (cs : List Content) → joinByte b (joinEscaped cs) ≡ run b 1 ∷ joinEscaped cs
-byte-escaped b [] = refl
-byte-escaped b (run c n ∷ cs) = refl
-byte-escaped b (quotes n ∷ cs) = refl
-byte-escaped b (quoted w ∷ cs) = refl
-byte-escaped b (unclosed w ∷ cs) = refl
-
-escaped-byte : (b : ℕ) (cs : List Content) → joinEscaped (joinByte b cs) ≡ quotes 1 ∷ joinByte b cs
-escaped-byte b [] = refl
-escaped-byte b (run c n ∷ cs) = by-test (eqb b c) (λ f. rw f) (λ f. rw f)
-escaped-byte b (quotes n ∷ cs) = refl
-escaped-byte b (quoted w ∷ cs) = refl
-escaped-byte b (unclosed w ∷ cs) = refl
-
-byte-opened : (b : ℕ) (t : Bool) (w : List ℕ) (cs : List Content)
-    → joinByte b (when t quoted unclosed w ∷ cs) ≡ run b 1 ∷ when t quoted unclosed w ∷ cs
-byte-opened b true w cs = refl
-byte-opened b false w cs = refl
-
-escaped-opened : (t : Bool) (w : List ℕ) (cs : List Content)
-    → joinEscaped (when t quoted unclosed w ∷ cs) ≡ quotes 1 ∷ when t quoted unclosed w ∷ cs
-escaped-opened true w cs = refl
-escaped-opened false w cs = refl
-
 -- equal bytes join
 pub run-same : (b : ℕ) (s : List ℕ) → runLength b (b ∷ s) ≡ suc (runLength b s)
 unfolding runLength
@@ -136,7 +103,7 @@ run-joins b e =
     rw (← eqb-true b a g, run-same b s) (ap (joinByte b) (contents-byte b s e ∙ h) ∙ byte-same b (suc (runLength b s)) _))
     (λ g. rw (run-apart b a s g, contents-byte a s f) (byte-apart b a (contents s) g)))
     (λ s h. rw (run-apart b quote (quote ∷ s) e, contents-escaped s) (byte-escaped b (contents s)))
-    (λ s f h. rw (run-apart b quote s e, contents-opened s f) (byte-opened b (ltb (insideSize s) (length s)) _ _))
+    (λ s f h. rw (run-apart b quote s e) (byte-quoted b s f))
 
 -- escaped quotes join
 
@@ -167,7 +134,7 @@ escaped-joins =
     by-elements (λ s. joinEscaped (contents s) ≡ quotes (suc (escapedCount s)) ∷ contents (drop (2 * escapedCount s) s)) escaped-none
     (λ b s e h. rw (count-byte b s e, contents-byte b s e) (escaped-byte b (contents s)))
     (λ s h. rw (count-escaped s, twice-suc (escapedCount s)) (ap joinEscaped (contents-escaped s ∙ h)))
-    (λ s e h. rw (count-single s e, contents-opened s e) (escaped-opened (ltb (insideSize s) (length s)) _ _))
+    (λ s e h. rw (count-single s e) (escaped-quoted s e))
 
 -- sizes
 

@@ -8,11 +8,11 @@ use lib.Dec.{eqb}
 use lib.ListN.{length, getD, take, drop}
 use lib.Seq.{drop-drop}
 use borrow.Author.Tests.{eqb-false}
+use Rattle.laws.proofs.Elements.{by-elements}
 use Rattle.laws.proofs.Tests.{by-test, when-is}
 use Rattle.meaning.specs.Bytes.{when, quote}
 use Rattle.meaning.specs.Writing.{endsInQuote}
 use Rattle.pattern.specs.First.{insideSize, unescaped}
-use Rattle.pattern.proofs.parts.Elements.{by-elements}
 use Rattle.pattern.proofs.parts.First.{unescaped-byte, size-byte, size-escaped, size-single}
 use Rattle.pattern.proofs.parts.Scans.{from-here}
 use Rattle.pattern.specs.Next.{Lost}

@@ -3,7 +3,7 @@ use mathlib.Core.Path.{sym, _∙_}
 use native.Mathlib.Omega.{arith}
 use borrow.Author.Needs.{needs}
 use denote.Ref.{now}
-use Rattle.pattern.proofs.checks.Checks.{fine-short}
+use Rattle.laws.proofs.Checks.{fine-short}
 use Rattle.sheet.proofs.entries.Fits.{bytes-fit}
 use Rattle.sheet.proofs.splits.Parts.{split-fine, split-refused}
 use Rattle.sheet.proofs.splits.give_split.Statement.{statement}

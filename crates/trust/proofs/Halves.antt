@@ -1,0 +1,152 @@
+-- Two half patterns and the check. The answer for the join is that for the first, before two bytes that begin as the second can,
+-- and then that for the second. Where the check says yes to the join, the two texts side by side are read part by part as each
+-- half reads its own.
+use mathlib.Core.Bool.{false}
+use mathlib.Core.List.{List, [], _++_, map, reverse, append-nil, map-append, reverse-append}
+use mathlib.Core.Path.{_≡_, refl, sym, ap, _∙_}
+use Prim.Native.Nat.{ℕ, _+_}
+use native.Mathlib.Omega.{arith}
+use lib.IntN.{ℤ, natAbs}
+use lib.ListN.{length, length-append}
+use Rattle.meaning.specs.Answers.{currentYearCheck, patternCheck, fieldsCheck}
+use Rattle.meaning.specs.Names.{english}
+use Rattle.meaning.specs.Reading.{carriedStep}
+use Rattle.meaning.specs.Trust.{trustCheck, Says}
+use Rattle.meaning.specs.Whole.{Walk, walked, walk, text}
+use Rattle.meaning.specs.Writing.{Step, steps}
+use Rattle.meaning.specs.declared.Checked.{Checked}
+use Rattle.meaning.specs.declared.Checked.the-variants as checked
+use Rattle.meaning.specs.declared.Fields.{Fields}
+use Rattle.meaning.specs.declared.Pair.the-variants.{Full}
+use Rattle.meaning.specs.declared.Verdict.{Verdict}
+use Rattle.meaning.specs.declared.Verdict.the-variants.{Yes, No, Refused}
+use Rattle.laws.proofs.Halves.{check-join, steps-join, text-join}
+use Rattle.laws.specs.Halves.{Beside}
+use Rattle.trust.proofs.Agreement.{told, answers-coincide}
+use Rattle.trust.proofs.Before.{BeginAlike, failing-join, failing-later, stand-in-alike, stand-in-holds, nothing-alike, nothing-holds, holds-alone, not-yes}
+use Rattle.trust.proofs.Verdicts.{verdict-says}
+use Rattle.trust.proofs.Walks.{carried, walk-yes}
+use Rattle.trust.specs.Ahead.{digitFirst, digitSecond}
+use Rattle.trust.specs.Check.{firstFailing, verdictBy, verdictOf}
+use Rattle.trust.specs.Halves.{standIn, verdictBefore, later, andThen}
+
+-- a yes of two answers
+
+both-yes : (v w : Verdict) → andThen v w ≡ Yes → (v ≡ Yes) × (w ≡ Yes)
+both-yes Yes w h = (refl, h)
+both-yes (No part f) w h = absurd (not-yes h)
+both-yes (Refused why) w h = absurd (let z : _≡_ {A = ℕ} 0 1 = cc in omega arith)
+
+later-yes : (k : ℕ) (v : Verdict) → later k v ≡ Yes → v ≡ Yes
+later-yes k Yes h = refl
+later-yes k (No part f) h = absurd (not-yes h)
+later-yes k (Refused why) h = h
+
+yes-by : (c : Checked) (v w : Verdict) → (v ≡ Yes → w ≡ Yes) → verdictBy c v ≡ Yes → verdictBy c w ≡ Yes
+yes-by checked.Fine v w h k = h k
+yes-by (checked.Refused why) v w h k = k
+
+yes-alone : (p : List ℕ) (ts : List Step) (current : ℤ) → verdictBefore ts p current ≡ Yes → verdictOf p current ≡ Yes
+unfolding verdictBefore verdictOf
+yes-alone p ts current =
+    let ss = steps Full p in
+    yes-by (trustCheck p current) (firstFailing 0 (ss ++ ts)) (firstFailing 0 ss) (holds-alone 0 ss ts)
+
+-- `Says` and the check's own answer
+
+told-yes : (v : Verdict) → told Yes ≡ told v → v ≡ Yes
+told-yes Yes h = refl
+told-yes (No part f) h = absurd (let z : _≡_ {A = ℕ} 0 1 = cc in omega arith)
+told-yes (Refused why) h = absurd (let z : _≡_ {A = ℕ} 0 1 = cc in omega arith)
+
+says-yes : (p : List ℕ) (current : ℤ) → Says english p current Yes → verdictOf p current ≡ Yes
+says-yes p current h =
+    told-yes (verdictOf p current) (answers-coincide english p current Yes (verdictOf p current) h (verdict-says p current))
+
+yes-says : (p : List ℕ) (current : ℤ) → verdictOf p current ≡ Yes → Says english p current Yes
+yes-says p current e = rw e at (verdict-says p current)
+
+-- the answer for the join
+
+year-left : (p : List ℕ) (current : ℤ) → patternCheck p ≡ checked.Fine → trustCheck p current ≡ currentYearCheck current
+unfolding trustCheck
+year-left p current h = rw h
+
+before-nothing : (p : List ℕ) (current : ℤ) → verdictBefore [] p current ≡ verdictOf p current
+unfolding verdictBefore verdictOf
+before-nothing p current = rw (append-nil (steps Full p))
+
+module _ {p q : List ℕ} (beside : Beside p q) (current : ℤ) where
+  module _ {us : List Step} (same : BeginAlike (steps Full q) us) (hold : (j : ℕ) → firstFailing j us ≡ Yes) where
+    answers-join : (c : Checked)
+        → verdictBy c (firstFailing 0 (steps Full (p ++ q)))
+        ≡ andThen (verdictBy c (firstFailing 0 (steps Full p ++ us)))
+        (later (length (steps Full p)) (verdictBy c (firstFailing 0 (steps Full q))))
+    answers-join checked.Fine =
+        let n = length (steps Full p) in
+        let e : 0 + n ≡ n + 0 = omega arith in
+        rw (steps-join beside Full) (failing-join 0 (steps Full p) same hold ∙ rw (e, failing-later n 0 (steps Full q)))
+    answers-join (checked.Refused why) = refl
+
+    verdict-by : verdictOf (p ++ q) current ≡ andThen (verdictBefore us p current) (later (length (steps Full p)) (verdictOf q current))
+    unfolding verdictOf verdictBefore
+    verdict-by =
+        rw (year-left (p ++ q) current (check-join beside), year-left p current (beside .first), year-left q current (beside .second))
+        (answers-join (currentYearCheck current))
+
+  -- All that the check of the join needs of the second, beside its own check, is what it begins with.
+  pub verdict-join : verdictOf (p ++ q) current
+      ≡ andThen (verdictBefore (standIn (steps Full q)) p current) (later (length (steps Full p)) (verdictOf q current))
+  verdict-join = verdict-by (stand-in-alike (steps Full q)) (stand-in-holds (steps Full q))
+
+  -- and nothing, where its first two bytes can be no digit
+  pub verdict-no-digit : digitFirst (steps Full q) ≡ false → digitSecond (steps Full q) ≡ false
+      → verdictOf (p ++ q) current ≡ andThen (verdictOf p current) (later (length (steps Full p)) (verdictOf q current))
+  verdict-no-digit first second =
+      verdict-by (nothing-alike (steps Full q) first second) nothing-holds ∙ rw (before-nothing p current)
+
+  -- Where the check says yes to the join, it says yes to both.
+  pub yes-halves : verdictOf (p ++ q) current ≡ Yes → (verdictOf p current ≡ Yes) × (verdictOf q current ≡ Yes)
+  yes-halves h =
+      let us = standIn (steps Full q) in
+      let k = length (steps Full p) in
+      let t = both-yes (verdictBefore us p current) (later k (verdictOf q current)) (sym verdict-join ∙ h) in
+      (yes-alone p us current (t .0), later-yes k (verdictOf q current) (t .1))
+
+  -- The same of what `Says` asks.
+
+  pub says-halves : Says english (p ++ q) current Yes → Says english p current Yes × Says english q current Yes
+  says-halves h =
+      let t = yes-halves (says-yes (p ++ q) current h) in
+      (yes-says p current (t .0), yes-says q current (t .1))
+
+  pub says-join : digitFirst (steps Full q) ≡ false → digitSecond (steps Full q) ≡ false
+      → Says english p current Yes → Says english q current Yes → Says english (p ++ q) current Yes
+  says-join first second a b =
+      yes-says (p ++ q) current (verdict-no-digit first second ∙ rw (says-yes p current a, says-yes q current b))
+
+  -- Where the check says yes to the join, each half is read from its own text, and the join as the one and then the other.
+  module _ (says : Says english (p ++ q) current Yes) (f : Fields) (fine : fieldsCheck f ≡ checked.Fine) where
+    abbrev reading : List ℕ → List ℕ → Walk
+    reading pattern s = walk english (natAbs current) 0 0 (steps Full pattern) s []
+
+    abbrev one : List ℕ
+    one = text Full english p f
+
+    abbrev other : List ℕ
+    other = text Full english q f
+
+    carried-join : carried f (steps Full (p ++ q)) ≡ carried f (steps Full q) ++ carried f (steps Full p)
+    carried-join =
+        ap (carried f) (steps-join beside Full) ∙ ap reverse (map-append (λ s. carriedStep s f) (steps Full p) (steps Full q))
+        ∙ reverse-append (map (λ s. carriedStep s f) (steps Full p)) (map (λ s. carriedStep s f) (steps Full q))
+
+    pub walk-join : (reading p one ≡ walked (length one) (carried f (steps Full p)))
+        × (reading q other ≡ walked (length other) (carried f (steps Full q)))
+        × (reading (p ++ q) (one ++ other) ≡ walked (length one + length other) (carried f (steps Full q) ++ carried f (steps Full p)))
+    walk-join =
+        let halves = says-halves says in (
+          walk-yes english p current (halves .0) f fine,
+          walk-yes english q current (halves .1) f fine,
+          rw (text-join beside Full english f, length-append one other, carried-join) at (walk-yes english (p ++ q) current says f fine),
+        )

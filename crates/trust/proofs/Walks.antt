@@ -1,0 +1,83 @@
+-- Where every part comes back, a read of what was written goes through all parts, takes the whole text, and gives what each
+-- part carries.
+use mathlib.Core.List.{List, [], _∷_, _++_, map, reverse, append-nil, reverse-cons}
+use mathlib.Core.Path.{_≡_, ap, _∙_}
+use Prim.Native.Nat.{ℕ, suc, _+_, _<_}
+use native.Mathlib.Nat.{zero-add, add-zero}
+use native.Mathlib.Omega.{arith}
+use lib.IntN.{ℤ, natAbs}
+use lib.ListN.{length, drop, length-append}
+use lib.Seq.{append-snoc, drop-append-seam}
+use Rattle.meaning.specs.Answers.{fieldsCheck}
+use Rattle.meaning.specs.Names.{Book}
+use Rattle.meaning.specs.Readers.{Got, got, stopped}
+use Rattle.meaning.specs.Reading.{readStep, carriedStep}
+use Rattle.meaning.specs.Trust.{ComesBack, AllComeBack, Says}
+use Rattle.meaning.specs.Whole.{Walk, walked, refusedAt, walk, text}
+use Rattle.meaning.specs.Writing.{Step, steps, stepText, texts}
+use Rattle.meaning.specs.declared.Carried.{Carried}
+use Rattle.meaning.specs.declared.Checked.the-variants.{Fine, Refused}
+use Rattle.meaning.specs.declared.Fields.{Fields}
+use Rattle.meaning.specs.declared.Pair.the-variants.{Full}
+use Rattle.meaning.specs.declared.Refusal.the-variants.{InPart}
+use Rattle.meaning.specs.declared.Verdict.the-variants.{Yes}
+use Rattle.laws.proofs.Texts.{text-from}
+
+-- what parts carry, the newest first
+abbrev pub carried : Fields → List Step → List Carried
+carried f ss = reverse (map (λ s. carriedStep s f) ss)
+
+newest-last : {A : Type 0} (c : A) (cs gave : List A) → reverse (c ∷ cs) ++ gave ≡ reverse cs ++ c ∷ gave
+newest-last c cs gave = ap (λ (l : List _). l ++ gave) (reverse-cons c cs) ∙ append-snoc (reverse cs) c gave
+
+module _ (book : Book) (current : ℕ) where
+  -- a part that is read
+  walk-on : (i at : ℕ) (step : Step) (ss : List Step) (s : List ℕ) (gave : List Carried) {n : ℕ} {c : Carried}
+      → readStep book current step s ≡ got n c
+      → walk book current i at (step ∷ ss) s gave ≡ walk book current (suc i) (at + n) ss (drop n s) (c ∷ gave)
+  unfolding walk
+  walk-on i at step ss s gave e =
+      ap
+      (λ (r : Got Carried).
+      elim r as (λ x. Walk) [
+        | got n c ↦ walk book current (suc i) (at + n) ss (drop n s) (c ∷ gave)
+        | stopped why place ↦ refusedAt (Refused (InPart why i (at + place)))
+      ])
+      e
+
+  module _ (f : Fields) where
+    -- all parts come back
+    abbrev pub AllBack : List Step → Type 0
+    AllBack ss = (i : ℕ) → i < length ss → ComesBack book current ss f i
+
+    first-back : (s : Step) (ss : List Step) → AllBack (s ∷ ss)
+        → readStep book current s (texts book f (s ∷ ss)) ≡ got (length (stepText book f s)) (carriedStep s f)
+    unfolding ComesBack
+    first-back s ss back = back 0 (omega arith)
+
+    others-back : (s : Step) (ss : List Step) → AllBack (s ∷ ss) → AllBack ss
+    unfolding ComesBack
+    others-back s ss back i h =
+        rw (text-from book f ss i h) (rw (text-from book f (s ∷ ss) (suc i) (omega arith)) at (back (suc i) (omega arith)))
+
+    pub walk-comes-back : (i at : ℕ) (ss : List Step) (gave : List Carried) → AllBack ss
+        → walk book current i at ss (texts book f ss) gave ≡ walked (at + length (texts book f ss)) (carried f ss ++ gave)
+    unfolding texts
+    walk-comes-back i at [] gave back = unfold walk in rw add-zero
+    walk-comes-back i at (s ∷ ss) gave back =
+        let own = stepText book f s in
+        let rest = texts book f ss in
+        let end : at + length own + length rest ≡ at + length (own ++ rest) = omega (arith, length-append own rest) in
+        walk-on i at s ss (own ++ rest) gave (first-back s ss back)
+        ∙ rw (drop-append-seam own rest)
+        (walk-comes-back (suc i) (at + length own) ss (carriedStep s f ∷ gave) (others-back s ss back)
+        ∙ rw (end, newest-last (carriedStep s f) (map (λ s. carriedStep s f) ss) gave))
+
+-- Where the check says yes, a pattern reads the whole of what it wrote, and gives what its parts carry.
+pub walk-yes : (book : Book) (p : List ℕ) (current : ℤ) → Says book p current Yes → (f : Fields) → fieldsCheck f ≡ Fine
+    → walk book (natAbs current) 0 0 (steps Full p) (text Full book p f) []
+    ≡ walked (length (text Full book p f)) (carried f (steps Full p))
+unfolding Says AllComeBack text
+walk-yes book p current says f fine =
+    walk-comes-back book (natAbs current) f 0 0 (steps Full p) [] (says .1 f fine)
+    ∙ rw (zero-add (length (text Full book p f)), append-nil (carried f (steps Full p)))
