@@ -1,4 +1,4 @@
-/* Writes a record by a pattern, reads it back, shows what its parts are, checks a pattern and shows a refusal. */
+/* Writes a record by a pattern, reads it back, shows what its parts are, checks a pattern, reads strictly and shows a refusal. */
 #include "sheet.h"
 
 #include <inttypes.h>
@@ -69,6 +69,16 @@ static void check(const char *pattern) {
                answer[3]);
 }
 
+static void read_strictly(const char *pattern, const char *text) {
+    int64_t answer[SHEET_READ_ANSWER];
+    uint32_t number = sheet_read_with(SHEET_STRICT, bytes(pattern), strlen(pattern), bytes(text), strlen(text), CURRENT_YEAR,
+                                      answer, SHEET_READ_ANSWER);
+    if (number == SHEET_ACCEPTED)
+        printf("%s strictly reads %s\n", pattern, text);
+    else if (number == SHEET_LITERAL_DIFFERS)
+        printf("%s does not read %s strictly: at place %" PRId64 " %s\n", pattern, text, answer[1], sheet_refusal_text(number));
+}
+
 static void show_a_refusal(const char *pattern) {
     char text[4];
     int64_t answer[SHEET_WRITE_ANSWER];
@@ -82,6 +92,8 @@ int main(void) {
     check("d/M");
     check("d/MM");
     check("d'");
+    read_strictly("d/MM", "3/12");
+    read_strictly("d/MM", "3-12");
     show_a_refusal("yyyy/MM/dd");
     return 0;
 }

@@ -11,8 +11,8 @@
  * Threads and stack. The functions have no state: any thread may call any of them at any time, with rows and an `out` that no
  * other thread uses meanwhile. A call takes no more than SHEET_MOST_STACK bytes of the stack.
  *
- * What is returned. SHEET_ACCEPTED; or the number of a refusal, 1 to 14 or 19; or SHEET_ROW_TOO_SMALL where a row has fewer
- * entries than the function asks for: then nothing is altered.
+ * What is returned. SHEET_ACCEPTED; or the number of a refusal, 1 to 16 or 19; or SHEET_ROW_TOO_SMALL where a row has fewer
+ * entries than the function asks for, or SHEET_NO_SUCH_CHOICE where a number stands for no choices: then nothing is altered.
  *
  * What is altered. Accepted, the first entries of `answer`, as many as the function asks for, are what its comment says, and a
  * writer alters so many bytes of `out` as it answers. Refused, these entries are the refusal's details, then zeros, and none of
@@ -73,8 +73,15 @@ extern "C" {
 #define SHEET_OFFSET_LENGTH 12   /* an offset of another length than 6: its length */
 #define SHEET_OFFSET_RANGE 13    /* an offset's hour or minute is too large: 1 or 2 */
 #define SHEET_CURRENT_YEAR 14    /* a current year that is not 1 to 9999: that year */
+#define SHEET_LITERAL_DIFFERS 15 /* a literal that differs, in a strict reading: part, place of the first such byte */
+#define SHEET_TEXT_LEFT 16       /* text that is left over, in a strict reading: place of its first byte */
 #define SHEET_PLUS_SIGN 19       /* a plus as the first byte of a number: part, place */
 #define SHEET_ROW_TOO_SMALL 100  /* a row is too small: nothing is altered, and there are no details */
+#define SHEET_NO_SUCH_CHOICE 101 /* a number that stands for no choices: likewise */
+
+/* The choices of a reading, which are added: dates alone; a strict reading. */
+#define SHEET_DATE_PAIR 1
+#define SHEET_STRICT 2
 
 /* The units of a reading: each one's bit in the mask and its place among the values. */
 #define SHEET_YEAR 0
@@ -132,6 +139,14 @@ uint32_t sheet_read(const uint8_t *pattern, size_t pattern_len, const uint8_t *t
 uint32_t sheet_read_date(const uint8_t *pattern, size_t pattern_len, const uint8_t *text, size_t text_len, int32_t year,
                          int64_t *answer, size_t answer_len);
 
+/* Reads with choices: 0 as sheet_read, SHEET_DATE_PAIR as sheet_read_date. With SHEET_STRICT each byte of a literal has to be the
+ * one that it stands for, and nothing may be left over behind the last part; symbols that pass over bytes do so all the same.
+ * For a number that is no sum of these SHEET_NO_SUCH_CHOICE is returned, whatever the size of the row.
+ * Answers: as sheet_read.
+ * Refuses: as sheet_read; with SHEET_STRICT also 15 at a literal, behind 8 for the whole of it, and 16 behind all parts. */
+uint32_t sheet_read_with(uint32_t choices, const uint8_t *pattern, size_t pattern_len, const uint8_t *text, size_t text_len,
+                         int32_t year, int64_t *answer, size_t answer_len);
+
 /* Whether a unit was read: 1 or 0, by the mask of a reading, the second entry of its `answer`. For a number that is no unit 0. */
 uint32_t sheet_was_read(int64_t mask, uint32_t unit);
 
@@ -178,8 +193,11 @@ static inline const char *sheet_refusal_text(uint32_t number) {
     case SHEET_OFFSET_LENGTH: return "the offset has another length than +05:30, and does not begin with Z";
     case SHEET_OFFSET_RANGE: return "the hour or the minute of the offset is too large";
     case SHEET_CURRENT_YEAR: return "the current year is not from 1 to 9999";
+    case SHEET_LITERAL_DIFFERS: return "the text differs from the literal that should stand there";
+    case SHEET_TEXT_LEFT: return "the text goes on where the pattern ends";
     case SHEET_PLUS_SIGN: return "the text has a plus in front of a number";
     case SHEET_ROW_TOO_SMALL: return "a row for the answer is too small";
+    case SHEET_NO_SUCH_CHOICE: return "there is no such choice";
     default: return "no such number";
     }
 }

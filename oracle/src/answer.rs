@@ -6,7 +6,7 @@ use crate::walk::{self, Kind, Pair, Part, Reading};
 
 pub const BAD_REQUEST: &str = "bad request";
 
-/// The Rust's answer to a line; `refused` where it errs, panics or can't be asked.
+/// The Rust's answer to a line; `refused` where it errs, panics or can't be asked. It knows no strict reading.
 pub fn answer(line: &str) -> String {
     let Some(request) = Request::from_line(line) else {
         return BAD_REQUEST.to_string();
@@ -31,6 +31,7 @@ fn accepted(request: &Request) -> Option<String> {
             pattern,
             text,
             now,
+            ..
         } => {
             let reading = walk::read(*pair, as_pattern(pattern)?, as_text(text)?, *now).ok()?;
             Some(read(&reading))

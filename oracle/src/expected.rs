@@ -1,16 +1,18 @@
 //! The comparison rule: the one line that the specification and the Rust together allow for a request.
 //!
 //! First come the specification's limits in its order. Then the exceptions: a number that begins with a plus is refused 19,
-//! and a zone whose digits are all zero is written with a plus. Beyond these the Rust decides: where it answers, its answer is
-//! the line; where it doesn't, the line is the specification's number for the way it stopped, read off its wording, with the
-//! part and the place that it had come to.
+//! and a zone whose digits are all zero is written with a plus. A strict reading, which the Rust does not have, is refused 15 at
+//! a literal that differs, and 16 where text is left over. Beyond these the Rust decides: where it answers, its answer is the
+//! line; where it doesn't, the line is the specification's number for the way it stopped, read off its wording, with the part
+//! and the place that it had come to.
 
 use crate::answer::{self, as_pattern, as_text};
 use crate::limits::{field_limit, pattern_limit, refused, room_limit, text_limit, year_limit};
 use crate::minus::with_plus;
 use crate::pluses::{plus_in, IN_AN_OFFSET};
 use crate::request::Request;
-use crate::walk::{self, Cause, Kind, Pair, Stopped, Walked};
+use crate::strict;
+use crate::walk::{self, Cause, Kind, Pair, Reading, Stopped, Walked};
 
 /// The expected line, by who decides it.
 #[derive(Debug, PartialEq, Eq)]
@@ -23,6 +25,8 @@ pub enum Expected {
     Accepted(String),
     /// The Rust came to a number that begins with a plus, whatever it answered, or it wrote a minus before zeros alone.
     Excepted(String),
+    /// The Rust reads on where a strict reading is refused.
+    Strict(String),
 }
 
 impl Expected {
@@ -31,7 +35,8 @@ impl Expected {
             Expected::Limit(line)
             | Expected::Refused(line)
             | Expected::Accepted(line)
-            | Expected::Excepted(line) => line,
+            | Expected::Excepted(line)
+            | Expected::Strict(line) => line,
         }
     }
 }
@@ -100,22 +105,16 @@ fn from_the_rust(request: &Request) -> Expected {
         }
         Request::Read {
             pair,
+            strict,
             pattern,
             text,
             now,
         } => {
-            let (pattern, text) = (
-                as_pattern(pattern).expect(ASCII),
-                as_text(text).expect(ASCII),
-            );
+            let pattern = as_pattern(pattern).expect(ASCII);
+            let text = as_text(text).expect(ASCII);
             let walked = walk::walked(*pair, pattern, text, *now);
-            if let Some(line) = plus_read(*pair, pattern, text, &walked) {
-                return Expected::Excepted(line);
-            }
-            match walked.outcome {
-                Ok(reading) => Expected::Accepted(answer::read(&reading)),
-                Err(stopped) => Expected::Refused(refused_read(pattern, &stopped)),
-            }
+            not_as_the_rust(*pair, *strict, pattern, text, &walked)
+                .unwrap_or_else(|| read_as_the_rust(pattern, walked.outcome))
         }
         Request::ParseOffset { text } => {
             let text = as_text(text).expect(ASCII);
@@ -128,8 +127,42 @@ fn from_the_rust(request: &Request) -> Expected {
     }
 }
 
-/// Refusal 19, where a part that the Rust came to has a number that begins with a plus, and it stopped at no place before.
-fn plus_read(pair: Pair, pattern: &str, text: &str, walked: &Walked) -> Option<String> {
+fn read_as_the_rust(pattern: &str, outcome: Result<Reading, Stopped>) -> Expected {
+    match outcome {
+        Ok(reading) => Expected::Accepted(answer::read(&reading)),
+        Err(stopped) => Expected::Refused(refused_read(pattern, &stopped)),
+    }
+}
+
+/// Refusals 19 and 15 by the order of their parts, then 16.
+fn not_as_the_rust(
+    pair: Pair,
+    strict: bool,
+    pattern: &str,
+    text: &str,
+    walked: &Walked,
+) -> Option<Expected> {
+    let plus = plus_read(pair, pattern, text, walked);
+    let literal = strict.then(|| strict::differing(pair, pattern, text, walked));
+    let of_a_part = |number, (part, place)| refused(number, &[part as i64, place as i64]);
+    let both = [(plus, 19), (literal.flatten(), 15)];
+    let first = both
+        .into_iter()
+        .filter_map(|(at, number)| Some((at?, number)))
+        .min();
+    match (first, &walked.outcome) {
+        (Some((at, 19)), _) => Some(Expected::Excepted(of_a_part(19, at))),
+        (Some((at, number)), _) => Some(Expected::Strict(of_a_part(number, at))),
+        (None, Ok(reading)) if strict && reading.taken < text.len() => {
+            Some(Expected::Strict(refused(16, &[reading.taken as i64])))
+        }
+        _ => None,
+    }
+}
+
+/// The part and the place of refusal 19, where a part that the Rust came to has a number that begins with a plus, and it
+/// stopped at no place before.
+fn plus_read(pair: Pair, pattern: &str, text: &str, walked: &Walked) -> Option<(usize, usize)> {
     let parts = walk::split(pattern);
     let (number, place) = walked
         .places
@@ -141,7 +174,7 @@ fn plus_read(pair: Pair, pattern: &str, text: &str, walked: &Walked) -> Option<S
         })?;
     match &walked.outcome {
         Err(stopped) if stopped.part == number && stopped.reached < place => None,
-        _ => Some(refused(19, &[number as i64, place as i64])),
+        _ => Some((number, place)),
     }
 }
 

@@ -18,6 +18,7 @@ mod pluses;
 pub mod printing;
 pub mod request;
 pub mod running;
+mod strict;
 pub mod tally;
 pub mod walk;
 

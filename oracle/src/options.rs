@@ -20,7 +20,7 @@ pub struct Options {
 
 impl Options {
     pub fn from_args(args: impl Iterator<Item = String>) -> Result<Options, String> {
-        Options::with_count(1_000_000, args)
+        Options::with_count(1_200_000, args)
     }
 
     /// With the given count where the arguments name none.

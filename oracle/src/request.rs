@@ -3,6 +3,7 @@
 use crate::calendar::Fields;
 use crate::walk::Pair;
 use std::fmt;
+use std::iter::Peekable;
 use std::str::FromStr;
 
 pub const MOST_ROOM: usize = 4096;
@@ -14,6 +15,8 @@ pub enum Op {
     WriteDate,
     Read,
     ReadDate,
+    ReadStrict,
+    ReadDateStrict,
     ParseOffset,
 }
 
@@ -30,6 +33,7 @@ pub enum Request {
     },
     Read {
         pair: Pair,
+        strict: bool,
         pattern: Vec<u8>,
         text: Vec<u8>,
         now: i32,
@@ -40,12 +44,14 @@ pub enum Request {
 }
 
 impl Op {
-    pub const ALL: [Op; 6] = [
+    pub const ALL: [Op; 8] = [
         Op::Split,
         Op::Write,
         Op::WriteDate,
         Op::Read,
         Op::ReadDate,
+        Op::ReadStrict,
+        Op::ReadDateStrict,
         Op::ParseOffset,
     ];
 
@@ -56,7 +62,18 @@ impl Op {
             Op::WriteDate => "write_date",
             Op::Read => "read",
             Op::ReadDate => "read_date",
+            Op::ReadStrict => "read_strict",
+            Op::ReadDateStrict => "read_date_strict",
             Op::ParseOffset => "parse_offset",
+        }
+    }
+
+    /// The first word of its requests.
+    fn word(self) -> &'static str {
+        match self {
+            Op::ReadStrict => Op::Read.name(),
+            Op::ReadDateStrict => Op::ReadDate.name(),
+            _ => self.name(),
         }
     }
 
@@ -68,16 +85,16 @@ impl Op {
 impl Request {
     /// None where the line is no request.
     pub fn from_line(line: &str) -> Option<Request> {
-        let mut words = line.split(' ');
-        let op = Op::named(words.next()?)?;
-        let request = match op {
+        let mut words = line.split(' ').peekable();
+        let word = words.next()?;
+        let request = match Op::ALL.into_iter().find(|op| op.word() == word)? {
             Op::Split => Request::Split {
                 pattern: bytes(&mut words)?,
             },
             Op::Write => write_request(Pair::Full, &mut words)?,
             Op::WriteDate => write_request(Pair::Date, &mut words)?,
-            Op::Read => read_request(Pair::Full, &mut words)?,
-            Op::ReadDate => read_request(Pair::Date, &mut words)?,
+            Op::Read | Op::ReadStrict => read_request(Pair::Full, &mut words)?,
+            Op::ReadDate | Op::ReadDateStrict => read_request(Pair::Date, &mut words)?,
             Op::ParseOffset => Request::ParseOffset {
                 text: bytes(&mut words)?,
             },
@@ -92,9 +109,11 @@ impl Request {
                 Pair::Full => Op::Write,
                 Pair::Date => Op::WriteDate,
             },
-            Request::Read { pair, .. } => match pair {
-                Pair::Full => Op::Read,
-                Pair::Date => Op::ReadDate,
+            Request::Read { pair, strict, .. } => match (pair, strict) {
+                (Pair::Full, false) => Op::Read,
+                (Pair::Date, false) => Op::ReadDate,
+                (Pair::Full, true) => Op::ReadStrict,
+                (Pair::Date, true) => Op::ReadDateStrict,
             },
             Request::ParseOffset { .. } => Op::ParseOffset,
         }
@@ -103,7 +122,7 @@ impl Request {
 
 impl fmt::Display for Request {
     fn fmt(&self, f: &mut fmt::Formatter<'_>) -> fmt::Result {
-        write!(f, "{} ", self.op().name())?;
+        write!(f, "{} ", self.op().word())?;
         match self {
             Request::Split { pattern } => f.write_str(&hex(pattern)),
             Request::Write {
@@ -113,8 +132,15 @@ impl fmt::Display for Request {
                 ..
             } => write!(f, "{} {} {room}", hex(pattern), field_words(fields)),
             Request::Read {
-                pattern, text, now, ..
-            } => write!(f, "{} {} {now}", hex(pattern), hex(text)),
+                strict,
+                pattern,
+                text,
+                now,
+                ..
+            } => {
+                let word = if *strict { " strict" } else { "" };
+                write!(f, "{} {} {now}{word}", hex(pattern), hex(text))
+            }
             Request::ParseOffset { text } => f.write_str(&hex(text)),
         }
     }
@@ -143,12 +169,17 @@ fn write_request<'a>(pair: Pair, words: &mut impl Iterator<Item = &'a str>) -> O
     })
 }
 
-fn read_request<'a>(pair: Pair, words: &mut impl Iterator<Item = &'a str>) -> Option<Request> {
+/// With the one word that may stand behind it; what stands behind that is left.
+fn read_request<'a>(
+    pair: Pair,
+    words: &mut Peekable<impl Iterator<Item = &'a str>>,
+) -> Option<Request> {
     Some(Request::Read {
         pair,
         pattern: bytes(words)?,
         text: bytes(words)?,
         now: number(words)?,
+        strict: words.next_if_eq(&"strict").is_some(),
     })
 }
 

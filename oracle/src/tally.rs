@@ -29,6 +29,7 @@ struct Row {
     refused: usize,
     limits: usize,
     excepted: usize,
+    strict: usize,
     differences: usize,
 }
 
@@ -62,6 +63,7 @@ impl Row {
             Expected::Refused(_) => self.refused += 1,
             Expected::Accepted(_) => self.accepted += 1,
             Expected::Excepted(_) => self.excepted += 1,
+            Expected::Strict(_) => self.strict += 1,
         }
     }
 
@@ -72,6 +74,7 @@ impl Row {
             refused: self.refused + other.refused,
             limits: self.limits + other.limits,
             excepted: self.excepted + other.excepted,
+            strict: self.strict + other.strict,
             differences: self.differences + other.differences,
         }
     }
@@ -79,12 +82,13 @@ impl Row {
     fn print(&self, name: &str, f: &mut fmt::Formatter<'_>) -> fmt::Result {
         writeln!(
             f,
-            "{name:<14}{:>10}{:>10}{:>10}{:>10}{:>10}{:>13}",
+            "{name:<18}{:>10}{:>10}{:>10}{:>10}{:>10}{:>10}{:>13}",
             self.requests,
             self.accepted,
             self.refused,
             self.limits,
             self.excepted,
+            self.strict,
             self.differences
         )
     }
@@ -95,8 +99,8 @@ impl fmt::Display for Tally {
         self.differences.print_first(f)?;
         writeln!(
             f,
-            "{:<14}{:>10}{:>10}{:>10}{:>10}{:>10}{:>13}",
-            "", "requests", "accepted", "refused", "limits", "excepted", "differences"
+            "{:<18}{:>10}{:>10}{:>10}{:>10}{:>10}{:>10}{:>13}",
+            "", "requests", "accepted", "refused", "limits", "excepted", "strict", "differences"
         )?;
         for op in Op::ALL {
             self.by_op[op as usize].print(op.name(), f)?;

@@ -26,6 +26,15 @@ fn other_lines_are_bad_requests() {
         "write 79 2025 -1 3 337 49 3 0 19800 9".to_string(),
         "write 79 2025 12 3 337 49 3 18446744073709551616 19800 9".to_string(),
         "read 79 39 +2025".to_string(),
+        "read 79 39 2025 Strict".to_string(),
+        "read 79 39 2025 strict strict".to_string(),
+        "read 79 39 2025 strict ".to_string(),
+        "read 79 39 strict".to_string(),
+        "read_strict 79 39 2025".to_string(),
+        "read_date_strict 79 39 2025".to_string(),
+        "split 79 strict".to_string(),
+        format!("write 79 {FIELDS} 9 strict"),
+        "parse_offset 5a strict".to_string(),
         "check 79 2025".to_string(),
     ];
     for line in lines {
@@ -49,12 +58,28 @@ fn the_same_seed_gives_the_same_requests() {
 
 #[test]
 fn over_a_third_of_the_reads_are_accepted() {
-    for op in [Op::Read, Op::ReadDate] {
+    for op in [Op::Read, Op::ReadDate, Op::ReadStrict, Op::ReadDateStrict] {
         let accepted = Generator::new(1, vec![op])
             .take(10_000)
             .filter(|request| matches!(expected(request), Expected::Accepted(_)))
             .count();
         assert!(accepted > 3334, "{accepted} of 10000");
+    }
+}
+
+#[test]
+fn a_tenth_of_the_strict_reads_differ_in_a_literal_and_a_twentieth_leaves_text() {
+    for op in [Op::ReadStrict, Op::ReadDateStrict] {
+        let answers: Vec<Expected> = Generator::new(1, vec![op])
+            .take(10_000)
+            .map(|request| expected(&request))
+            .collect();
+        let refused = |number: &str| {
+            let strict = |answer: &&Expected| matches!(answer, Expected::Strict(line) if line.starts_with(number));
+            answers.iter().filter(strict).count()
+        };
+        assert!(refused("refused 15 ") > 1000, "{op:?}");
+        assert!(refused("refused 16 ") > 500, "{op:?}");
     }
 }
 
@@ -73,7 +98,7 @@ fn a_spread_out_sample_has_every_symbol_at_every_usual_count() {
 #[test]
 fn a_spread_out_sample_has_every_refusal() {
     let answers: Vec<Expected> = spread_out_sample().iter().map(expected).collect();
-    for number in 1..=14 {
+    for number in (1..=16).chain([19]) {
         let start = format!("refused {number} ");
         let is_in = answers
             .iter()
@@ -84,7 +109,7 @@ fn a_spread_out_sample_has_every_refusal() {
 
 /// The sample that hold-definitions takes.
 fn spread_out_sample() -> Vec<Request> {
-    let words = ["--count", "4608", "--every", "5"].map(String::from);
+    let words = ["--count", "6144", "--every", "5"].map(String::from);
     let options = Options::from_args(words.into_iter()).expect("these are options");
     options.generated().collect()
 }

@@ -36,9 +36,20 @@ fn write(pattern: &str, fields: Fields) -> Request {
 fn read(pattern: &str, text: &str, now: i32) -> Request {
     Request::Read {
         pair: Pair::Full,
+        strict: false,
         pattern: pattern.into(),
         text: text.into(),
         now,
+    }
+}
+
+fn read_strictly(pair: Pair, pattern: &str, text: &str) -> Request {
+    Request::Read {
+        pair,
+        strict: true,
+        pattern: pattern.into(),
+        text: text.into(),
+        now: 2025,
     }
 }
 
@@ -172,6 +183,60 @@ fn no_number_takes_a_plus() {
         offset("+24:+3"),
         Expected::Excepted("refused 19 0 4".to_string())
     );
+}
+
+#[test]
+fn a_strict_read_compares_literals() {
+    for pair in [Pair::Full, Pair::Date] {
+        let strict = |pattern: &str, text: &str| read_strictly(pair, pattern, text);
+        reads(&strict("d/MM", "3/12"), "4 6 2", &[0, 12, 3]);
+        limited(&strict("d/MM", "3-12"), "refused 15 1 1");
+        limited(&strict("''", "x"), "refused 15 0 0");
+        reads(&strict("'a''b'", "a'b"), "3 0 0", &[]);
+        limited(&strict("'a''b'", "a''b"), "refused 15 0 2");
+        reads(&strict("'abc''", "abc'"), "4 0 0", &[]);
+        limited(&strict("'abc''", "abcd"), "refused 15 0 3");
+        // The whole literal has to be there first, and symbols are no literals.
+        refused(&strict("'ab'd", "x"), "refused 8 0 0");
+        reads(&strict("qw", "/-"), "2 0 0", &[]);
+    }
+    limited(&read_strictly(Pair::Date, "d/H", "3/7"), "refused 15 2 2");
+    reads(
+        &read_strictly(Pair::Date, "d/H", "3/H"),
+        "3 4 1",
+        &[0, 0, 3],
+    );
+}
+
+#[test]
+fn a_strict_read_leaves_no_text() {
+    for pair in [Pair::Full, Pair::Date] {
+        let strict = |pattern: &str, text: &str| read_strictly(pair, pattern, text);
+        reads(&strict("", ""), "0 0 0", &[]);
+        limited(&strict("", "x"), "refused 16 0");
+        limited(&strict("d", "3/"), "refused 16 1");
+        limited(&strict("M", "12"), "refused 16 1");
+    }
+}
+
+/// By the order of the parts, whatever the Rust stops at.
+#[test]
+fn the_first_part_of_a_strict_read_that_is_refused_decides() {
+    let strict = |pattern: &str, text: &str| expected(&read_strictly(Pair::Full, pattern, text));
+    let line = |number: &str| format!("refused {number}");
+    assert_eq!(strict("/dd", "-+5"), Expected::Strict(line("15 0 0")));
+    assert_eq!(strict("dd/", "+5-"), Expected::Excepted(line("19 0 0")));
+    assert_eq!(strict("dd/dd/", "03-+5-"), Expected::Strict(line("15 1 2")));
+    assert_eq!(
+        strict("dd/dd/", "03/+5-"),
+        Expected::Excepted(line("19 2 3"))
+    );
+    assert_eq!(strict("/dd", "-x5"), Expected::Strict(line("15 0 0")));
+    assert_eq!(strict("dd/", "x5-"), Expected::Refused(line("9 0 0")));
+    assert_eq!(strict("d/'ab'", "3-a"), Expected::Strict(line("15 1 1")));
+    assert_eq!(strict("d/'ab'", "3/x"), Expected::Refused(line("8 2 2")));
+    assert_eq!(strict("d/", "3-x"), Expected::Strict(line("15 1 1")));
+    assert_eq!(strict("dd", "+5x"), Expected::Excepted(line("19 0 0")));
 }
 
 #[test]

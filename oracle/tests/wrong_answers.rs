@@ -3,7 +3,7 @@
 use harness::check::verdict;
 use harness::expected::expected;
 use harness::generator::{CheckGenerator, Generator, Random};
-use harness::request::Op;
+use harness::request::{Op, Request};
 use std::fs;
 use std::path::Path;
 use std::process::Command;
@@ -104,7 +104,7 @@ fn right_answers_pass() {
 #[test]
 fn one_wrong_answer_is_found_and_shown() {
     for comparer in [compare(), compare_check()] {
-        for place in [0, 1, 2, 3, 4, 5, COUNT / 2, COUNT - 1] {
+        for place in [0, 1, 2, 3, 4, 5, 6, 7, COUNT / 2, COUNT - 1] {
             let right = &comparer.answers[place];
             for wrong in [format!("{right} 0"), right[1..].to_string(), String::new()] {
                 let mut answers = comparer.answers.clone();
@@ -117,6 +117,42 @@ fn one_wrong_answer_is_found_and_shown() {
             }
         }
     }
+}
+
+/// The answer to a request that is not strict.
+fn plain(request: Request) -> String {
+    let plain = match request {
+        Request::Read {
+            pair,
+            pattern,
+            text,
+            now,
+            ..
+        } => Request::Read {
+            pair,
+            strict: false,
+            pattern,
+            text,
+            now,
+        },
+        other => other,
+    };
+    expected(&plain).line().to_string()
+}
+
+#[test]
+fn a_program_that_is_never_strict_is_found_out() {
+    let comparer = compare();
+    let answers: Vec<String> = Generator::new(1, Op::ALL.to_vec())
+        .take(COUNT)
+        .map(plain)
+        .collect();
+    let both = answers.iter().zip(&comparer.answers);
+    let wrong = both.filter(|(plain, right)| plain != right).count();
+    assert!(wrong > 10, "{wrong}");
+    comparer
+        .with_answers("never_strict", &answers, "")
+        .is_a_failure(wrong);
 }
 
 #[test]

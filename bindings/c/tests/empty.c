@@ -51,6 +51,26 @@ static void by_reader(reader *reader) {
     GIVES(reader(NULL, 0, NULL, 0, 2025, NULL, 0), SHEET_ROW_TOO_SMALL, MARK, MARK);
 }
 
+static uint32_t read_with(uint32_t choices, const uint8_t *pattern, size_t pattern_len, const uint8_t *text, size_t text_len,
+                          int64_t *row, size_t row_len) {
+    return sheet_read_with(choices, pattern, pattern_len, text, text_len, 2025, row, row_len);
+}
+
+static void with_choices(uint32_t choices) {
+    GIVES(read_with(choices, NULL, 0, NULL, 0, answer, SHEET_READ_ANSWER), SHEET_ACCEPTED, 0, 0);
+    GIVES(read_with(choices, PATTERN, 2, NULL, 0, answer, SHEET_READ_ANSWER), SHEET_TOO_FEW, 0, 0);
+    GIVES(read_with(choices, PATTERN, 2, TEXT, 2, NULL, 0), SHEET_ROW_TOO_SMALL, MARK, MARK);
+    GIVES(read_with(choices, NULL, 0, NULL, 0, NULL, 0), SHEET_ROW_TOO_SMALL, MARK, MARK);
+}
+
+static void by_choices(void) {
+    for (uint32_t choices = 0; choices <= SHEET_DATE_PAIR + SHEET_STRICT; choices++)
+        with_choices(choices);
+    GIVES(read_with(SHEET_DATE_PAIR, NULL, 0, TEXT, 2, answer, SHEET_READ_ANSWER), SHEET_ACCEPTED, 0, 0);
+    GIVES(read_with(SHEET_STRICT, NULL, 0, TEXT, 2, answer, SHEET_READ_ANSWER), SHEET_TEXT_LEFT, 0, 0);
+    GIVES(read_with(4, NULL, 0, NULL, 0, NULL, 0), SHEET_NO_SUCH_CHOICE, MARK, MARK);
+}
+
 static void by_others(void) {
     GIVES(sheet_parse_offset(NULL, 0, answer, 2), SHEET_OFFSET_LENGTH, 0, 0);
     GIVES(sheet_parse_offset(TEXT, 2, NULL, 0), SHEET_ROW_TOO_SMALL, MARK, MARK);
@@ -70,6 +90,7 @@ int main(void) {
     by_writer(sheet_write_date);
     by_reader(sheet_read);
     by_reader(sheet_read_date);
+    by_choices();
     by_others();
     return all ? 0 : 1;
 }

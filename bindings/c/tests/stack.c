@@ -44,6 +44,15 @@ static void write_and_read(size_t length) {
         sheet_read(pattern, length, text, (size_t)answer[0], 2025, answer, SHEET_READ_ANSWER);
 }
 
+/* With all choices. */
+static void write_and_read_with(size_t length) {
+    if (write_into(length, SHEET_LONGEST_TEXT) != SHEET_ACCEPTED)
+        return;
+    size_t written = (size_t)answer[0];
+    for (uint32_t choices = 0; choices <= SHEET_DATE_PAIR + SHEET_STRICT; choices++)
+        sheet_read_with(choices, pattern, length, text, written, 2025, answer, SHEET_READ_ANSWER);
+}
+
 static void split(size_t length) {
     sheet_split(pattern, length, answer, SHEET_SPLIT_ANSWER, parts, SHEET_SPLIT_PARTS);
 }
@@ -110,6 +119,7 @@ int main(void) {
     bool all = holds("write, enough room", write_with_room);
     all &= holds("write, too little room", write_without_room);
     all &= holds("write and read", write_and_read);
+    all &= holds("write and read with", write_and_read_with);
     all &= holds("split", split);
     all &= holds("units", tell_units);
     all &= holds("check", check);

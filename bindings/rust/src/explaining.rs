@@ -1,4 +1,4 @@
-use crate::{raw, read, read_date, split, Kind, Part, Reading, Refusal};
+use crate::{raw, read_with, split, Choices, Kind, Part, Refusal};
 
 const DATE_SYMBOLS: &[u8] = b"GyqMwdDe";
 const SYMBOLS: &[u8] = b"GyqMwdDeabhKHkmsnXx";
@@ -6,8 +6,11 @@ const SYMBOLS: &[u8] = b"GyqMwdDeabhKHkmsnXx";
 /// How far a part reads does not depend on the current year.
 const ANY_YEAR: i32 = 2025;
 
-/// Says of a text that [`read`] refused by a pattern what stood there and what was wanted, in one sentence. A refusal that is not
-/// of a part of the pattern, or of another pattern, is said as it prints.
+/// Of a pattern or a text no more bytes are shown at once.
+const MOST_SHOWN: usize = 24;
+
+/// Says of a text that [`read`](crate::read) refused by a pattern what stood there and what was wanted, in one sentence. A refusal
+/// that is not of a part of the pattern, or of another pattern, is said as it prints.
 ///
 /// ```
 /// let (pattern, text) = ("dd/MM", "3/12");
@@ -15,44 +18,71 @@ const ANY_YEAR: i32 = 2025;
 /// assert_eq!(sheet::explain(pattern, text, &refusal), "`dd` needs two digits, found `3/`");
 /// ```
 pub fn explain(pattern: impl AsRef<[u8]>, text: impl AsRef<[u8]>, refusal: &Refusal) -> String {
-    let before = |pattern: &[u8], text: &[u8]| read(pattern, text, ANY_YEAR);
-    explained(SYMBOLS, before, pattern.as_ref(), text.as_ref(), refusal).unwrap_or_else(|| refusal.to_string())
+    explain_with(Choices::new(), pattern, text, refusal)
 }
 
-/// Says the same of a text that [`read_date`] refused.
+/// Says the same of a text that [`read_date`](crate::read_date) refused.
 ///
 /// ```
 /// let refusal = sheet::read_date("dd HH", "03 ", 2025).unwrap_err();
 /// assert_eq!(sheet::explain_date("dd HH", "03 ", &refusal), "`HH` needs two bytes, found the end of the text");
 /// ```
 pub fn explain_date(pattern: impl AsRef<[u8]>, text: impl AsRef<[u8]>, refusal: &Refusal) -> String {
-    let before = |pattern: &[u8], text: &[u8]| read_date(pattern, text, ANY_YEAR);
-    explained(DATE_SYMBOLS, before, pattern.as_ref(), text.as_ref(), refusal).unwrap_or_else(|| refusal.to_string())
+    explain_with(Choices::new().date(), pattern, text, refusal)
 }
 
-/// The sentence, where the refusal is of a part that the pattern has. What is found is shown from where the part begins, which
-/// is behind what the parts before it read.
-fn explained(
-    symbols: &[u8],
-    read: impl Fn(&[u8], &[u8]) -> Result<Reading, Refusal>,
-    pattern: &[u8],
-    text: &[u8],
-    refusal: &Refusal,
-) -> Option<String> {
-    let (raw::TOO_FEW..=raw::NO_SIGN | raw::PLUS_SIGN, &[number, place]) = (refusal.number(), refusal.details()) else {
-        return None;
+/// Says the same of a text that [`read_with`] refused with the same choices, and of what it left over.
+///
+/// ```
+/// use sheet::{explain_with, read_with, Choices};
+///
+/// let strict = Choices::new().strict();
+/// let explained = |text: &str| explain_with(strict, "d/MM", text, &read_with(strict, "d/MM", text, 2025).unwrap_err());
+/// assert_eq!(explained("3-12"), "`/` needs `/`, found `-`");
+/// assert_eq!(explained("3/12, berth 4"), "the text goes on where the pattern ends, with `, berth 4`");
+/// ```
+pub fn explain_with(choices: Choices, pattern: impl AsRef<[u8]>, text: impl AsRef<[u8]>, refusal: &Refusal) -> String {
+    let sentence = match (refusal.number(), refusal.details()) {
+        (raw::LITERAL_DIFFERS | raw::TEXT_LEFT, _) if !choices.strict => None,
+        (raw::TEXT_LEFT, &[place]) => of_a_rest(text.as_ref(), place as usize),
+        (_, &[part, place]) => of_a_part(choices, pattern.as_ref(), text.as_ref(), part as usize, place as usize),
+        _ => None,
     };
-    let part = *split(pattern).ok()?.get(number as usize)?;
-    let want = wanted(symbols, &part, pattern);
-    let start = read(&pattern[..part.start], text).map_or(place as usize, |reading| reading.taken);
+    sentence.unwrap_or_else(|| refusal.to_string())
+}
+
+/// The sentence, where the text has a rest there.
+fn of_a_rest(text: &[u8], place: usize) -> Option<String> {
+    let rest = text.get(place..).filter(|rest| !rest.is_empty())?;
+    Some(format!(
+        "{}, with {}",
+        raw::refusal_text(raw::TEXT_LEFT),
+        shown(rest, 0)
+    ))
+}
+
+/// The sentence, where the pattern has that part. What is found is shown from where the part begins, which is behind what the
+/// parts before it read; of a literal that is too long for that, from where it differs.
+fn of_a_part(choices: Choices, pattern: &[u8], text: &[u8], number: usize, place: usize) -> Option<String> {
+    let part = *split(pattern).ok()?.get(number)?;
+    let before = Choices {
+        strict: false,
+        ..choices
+    };
+    let start = read_with(before, &pattern[..part.start], text, ANY_YEAR).map_or(place, |reading| reading.taken);
+    let from = match place.saturating_sub(start) {
+        far @ MOST_SHOWN.. => far,
+        _ => 0,
+    };
+    let want = wanted(choices, &part, pattern, from);
     let rest = text.get(start..).unwrap_or_default();
     let found = match rest {
         [] => "the end of the text".to_string(),
-        _ => shown(&rest[..want.most.min(rest.len())]),
+        _ => shown(&rest[..want.most.min(rest.len())], from),
     };
     Some(format!(
         "{} needs {}, found {found}",
-        shown(&pattern[part.range()]),
+        shown(&pattern[part.range()], 0),
         want.words
     ))
 }
@@ -63,12 +93,18 @@ struct Want {
     most: usize,
 }
 
-fn wanted(symbols: &[u8], part: &Part, pattern: &[u8]) -> Want {
+/// A literal wants the bytes that it stands for, of which those from a place on are shown, or as many of any.
+fn wanted(choices: Choices, part: &Part, pattern: &[u8], from: usize) -> Want {
+    let symbols = if choices.date { DATE_SYMBOLS } else { SYMBOLS };
     match (part.kind, pattern[part.start]) {
         (Kind::Run, symbol) if symbols.contains(&symbol) => wanted_by(symbol, part.length),
         _ => {
-            let most = stands_for(part.kind, &pattern[part.range()]);
-            bytes(most, most)
+            let literal = stands_for(part.kind, &pattern[part.range()]);
+            if choices.strict {
+                words(&shown(&literal, from), literal.len())
+            } else {
+                bytes(literal.len(), literal.len())
+            }
         }
     }
 }
@@ -143,15 +179,22 @@ fn zone(symbol: u8, forms: &str, most: usize) -> Want {
     words(&format!("{zero}an offset such as {forms}"), most)
 }
 
-/// How many bytes a literal stands for: an escaped quote is one, and those around a quoted part are none.
-fn stands_for(kind: Kind, bytes: &[u8]) -> usize {
-    let around = match kind {
-        Kind::Run | Kind::Quotes => 0,
-        Kind::Open => 1,
-        Kind::Quoted => 2,
+/// The bytes that a literal stands for: an escaped quote is one, and those around a quoted part are none.
+fn stands_for(kind: Kind, bytes: &[u8]) -> Vec<u8> {
+    let inside = match kind {
+        Kind::Run | Kind::Quotes => bytes,
+        Kind::Open => &bytes[1..],
+        Kind::Quoted => &bytes[1..bytes.len() - 1],
     };
-    let quotes = bytes.iter().filter(|byte| **byte == b'\'').count();
-    bytes.len() - around - (quotes - around) / 2
+    let mut literal = Vec::new();
+    let mut bytes = inside.iter();
+    while let Some(byte) = bytes.next() {
+        literal.push(*byte);
+        if *byte == b'\'' {
+            bytes.next();
+        }
+    }
+    literal
 }
 
 /// As in `one digit`, `one or two digits`, `one to three digits`.
@@ -172,22 +215,21 @@ fn spelled(number: usize) -> String {
     WORDS.get(number).map_or(number.to_string(), |word| word.to_string())
 }
 
-/// Bytes as they are shown: what can't be printed is escaped, and what is long is cut.
-fn shown(bytes: &[u8]) -> String {
-    const MOST: usize = 24;
+/// Bytes as they are shown from a place on: what can't be printed is escaped, and what is long is cut.
+fn shown(bytes: &[u8], from: usize) -> String {
     let escaped = |byte: &u8| match byte {
         b' '..=b'~' => char::from(*byte).to_string(),
         _ => byte.escape_ascii().to_string(),
     };
-    let start: String = bytes.iter().take(MOST).map(escaped).collect();
-    let cut = if bytes.len() > MOST { ".." } else { "" };
-    format!("`{start}{cut}`")
+    let some: String = bytes.iter().skip(from).take(MOST_SHOWN).map(escaped).collect();
+    let dots = |cut: bool| if cut { ".." } else { "" };
+    format!("`{}{some}{}`", dots(from > 0), dots(bytes.len() > from + MOST_SHOWN))
 }
 
 #[cfg(test)]
 mod tests {
     use super::{stands_for, wanted_by, SYMBOLS};
-    use crate::{read, split, write, Fields};
+    use crate::{read, read_with, split, write, Choices, Fields};
 
     const R: Fields = Fields {
         year: -2025,
@@ -225,6 +267,7 @@ mod tests {
         }
     }
 
+    /// A strict read takes just what all literals stand for, and any read takes as many bytes.
     #[test]
     fn a_literal_stands_for_what_is_taken() {
         let mut patterns = vec![Vec::new()];
@@ -236,8 +279,11 @@ mod tests {
                     continue;
                 };
                 let parts = split(pattern).expect("it was read");
-                let most = parts.iter().map(|part| stands_for(part.kind, &pattern[part.range()]));
-                assert_eq!(reading.taken, most.sum::<usize>(), "{pattern:?}");
+                let literals = parts.iter().map(|part| stands_for(part.kind, &pattern[part.range()]));
+                let text = literals.collect::<Vec<_>>().concat();
+                assert_eq!(reading.taken, text.len(), "{pattern:?}");
+                let strict = read_with(Choices::new().strict(), pattern, &text, 2025);
+                assert_eq!(strict, read(pattern, &text, 2025), "{pattern:?}");
             }
         }
     }

@@ -1,6 +1,7 @@
 #![doc = include_str!("../README.md")]
 
 mod checking;
+mod choices;
 mod explaining;
 mod fields;
 mod reading;
@@ -12,9 +13,10 @@ mod writing;
 pub mod raw;
 
 pub use checking::{check, Verdict};
-pub use explaining::{explain, explain_date};
+pub use choices::Choices;
+pub use explaining::{explain, explain_date, explain_with};
 pub use fields::Fields;
-pub use reading::{parse_offset, read, read_date, ParseUnit, Reading};
+pub use reading::{parse_offset, read, read_date, read_with, ParseUnit, Reading};
 pub use refusal::Refusal;
 pub use splitting::{split, Kind, Part};
 pub use units::{units, PartUnit};

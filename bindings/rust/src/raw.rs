@@ -46,10 +46,19 @@ pub const NO_SIGN: u32 = 11;
 pub const OFFSET_LENGTH: u32 = 12;
 pub const OFFSET_RANGE: u32 = 13;
 pub const CURRENT_YEAR: u32 = 14;
+pub const LITERAL_DIFFERS: u32 = 15;
+pub const TEXT_LEFT: u32 = 16;
 pub const PLUS_SIGN: u32 = 19;
 
 /// What is returned where a lent row is too small; then nothing is altered.
 pub const ROW_TOO_SMALL: u32 = 100;
+/// What is returned where a number stands for no choices; then nothing is altered.
+pub const NO_SUCH_CHOICE: u32 = 101;
+
+/// Among the choices of [`sheet_read_with`], which are added: dates alone.
+pub const DATE_PAIR: u32 = 1;
+/// Among the choices of [`sheet_read_with`]: a strict reading.
+pub const STRICT: u32 = 2;
 
 /// In the place of a unit: a part that is a literal.
 pub const LITERAL: i64 = -1;
@@ -74,7 +83,7 @@ pub type Writer = unsafe extern "C" fn(
     usize,
 ) -> u32;
 
-/// Either reader.
+/// Either reader without choices.
 pub type Reader = unsafe extern "C" fn(*const u8, usize, *const u8, usize, i32, *mut i64, usize) -> u32;
 
 extern "C" {
@@ -128,6 +137,16 @@ extern "C" {
         answer: *mut i64,
         answer_len: usize,
     ) -> u32;
+    pub fn sheet_read_with(
+        choices: u32,
+        pattern: *const u8,
+        pattern_len: usize,
+        text: *const u8,
+        text_len: usize,
+        year: i32,
+        answer: *mut i64,
+        answer_len: usize,
+    ) -> u32;
     pub fn sheet_was_read(mask: i64, unit: u32) -> u32;
     pub fn sheet_parse_offset(text: *const u8, text_len: usize, answer: *mut i64, answer_len: usize) -> u32;
     pub fn sheet_split(
@@ -167,8 +186,11 @@ pub fn refusal_text(number: u32) -> &'static str {
         OFFSET_LENGTH => "the offset has another length than +05:30, and does not begin with Z",
         OFFSET_RANGE => "the hour or the minute of the offset is too large",
         CURRENT_YEAR => "the current year is not from 1 to 9999",
+        LITERAL_DIFFERS => "the text differs from the literal that should stand there",
+        TEXT_LEFT => "the text goes on where the pattern ends",
         PLUS_SIGN => "the text has a plus in front of a number",
         ROW_TOO_SMALL => "a row for the answer is too small",
+        NO_SUCH_CHOICE => "there is no such choice",
         _ => "no such number",
     }
 }

@@ -1,5 +1,5 @@
 use crate::raw::{self, Reader};
-use crate::Refusal;
+use crate::{Choices, Refusal};
 
 /// What can be read, in the order of the mask's bits and of the values.
 #[derive(Clone, Copy, Debug, PartialEq, Eq, Hash)]
@@ -111,6 +111,49 @@ pub fn read(pattern: impl AsRef<[u8]>, text: impl AsRef<[u8]>, current_year: i32
 /// ```
 pub fn read_date(pattern: impl AsRef<[u8]>, text: impl AsRef<[u8]>, current_year: i32) -> Result<Reading, Refusal> {
     read_by(raw::sheet_read_date, pattern.as_ref(), text.as_ref(), current_year)
+}
+
+/// Reads a text by a pattern, with [choices](Choices). Refuses as [`read`] does; where it is strict also with 15 at a literal that
+/// differs, and behind the last part with 16.
+///
+/// ```
+/// use sheet::{read_with, Choices};
+///
+/// # fn main() -> Result<(), sheet::Refusal> {
+/// let strict = Choices::new().strict();
+/// assert_eq!(read_with(strict, "d/MM", "3/12", 2025)?.taken, 4);
+///
+/// let swapped = read_with(strict, "d/MM", "3-12", 2025).unwrap_err();
+/// assert_eq!((swapped.number(), swapped.details()), (15, &[1, 1][..]));
+///
+/// let longer = read_with(strict, "d/MM", "3/12, berth 4", 2025).unwrap_err();
+/// assert_eq!((longer.number(), longer.details()), (16, &[4][..]));
+/// # Ok(())
+/// # }
+/// ```
+pub fn read_with(
+    choices: Choices,
+    pattern: impl AsRef<[u8]>,
+    text: impl AsRef<[u8]>,
+    current_year: i32,
+) -> Result<Reading, Refusal> {
+    let (pattern, text) = (pattern.as_ref(), text.as_ref());
+    let mut answer = [0; raw::READ_ANSWER];
+    // SAFETY: each pointer goes with the length of the slice that it comes from, and what is altered is borrowed alone.
+    let number = unsafe {
+        raw::sheet_read_with(
+            choices.number(),
+            pattern.as_ptr(),
+            pattern.len(),
+            text.as_ptr(),
+            text.len(),
+            current_year,
+            answer.as_mut_ptr(),
+            answer.len(),
+        )
+    };
+    Refusal::unless_accepted(number, &answer)?;
+    Ok(Reading::of_row(&answer))
 }
 
 /// Reads an offset by itself, such as `+05:30`, or `Z` with anything behind it, and answers its seconds. Refuses with 6, 7, 12,

@@ -20,6 +20,8 @@ use std::fmt;
 /// | 12 | an offset by itself has not 6 bytes | the length |
 /// | 13 | an offset's hour or minute is too large | 1 or 2 |
 /// | 14 | the current year is not 1 to 9999 | that year |
+/// | 15 | a literal differs, in a strict read | part, place |
+/// | 16 | text is left over, in a strict read | place of its first byte |
 /// | 19 | a number begins with a plus | part, place |
 ///
 /// ```
@@ -50,7 +52,7 @@ const FIELDS: [(&str, &str); 8] = [
 ];
 
 impl Refusal {
-    /// The number, 1 to 14 or 19.
+    /// The number, 1 to 16 or 19.
     pub fn number(&self) -> u32 {
         self.number
     }
@@ -62,10 +64,19 @@ impl Refusal {
 
     /// What is returned with the number, one or two details.
     pub fn details(&self) -> &[i64] {
-        match self.number {
-            raw::TOO_FEW..=raw::NO_SIGN | raw::PLUS_SIGN => &self.details,
-            _ => &self.details[..1],
+        if self.is_of_a_part() {
+            &self.details
+        } else {
+            &self.details[..1]
         }
+    }
+
+    /// Its details are then the part and the place.
+    fn is_of_a_part(&self) -> bool {
+        matches!(
+            self.number,
+            raw::TOO_FEW..=raw::NO_SIGN | raw::LITERAL_DIFFERS | raw::PLUS_SIGN
+        )
     }
 
     /// A refusal where the number returned is one; its details are the first entries of the row.
@@ -85,15 +96,15 @@ impl fmt::Display for Refusal {
         let [detail, place] = self.details;
         let details = match self.number {
             raw::PATTERN_TOO_LONG | raw::TEXT_TOO_LONG | raw::OFFSET_LENGTH => format!("it has {detail} bytes"),
-            raw::PATTERN_BYTE | raw::LONE_QUOTE | raw::TEXT_BYTE => format!("at place {detail}, counted from 0"),
+            raw::PATTERN_BYTE | raw::LONE_QUOTE | raw::TEXT_BYTE | raw::TEXT_LEFT => {
+                format!("at place {detail}, counted from 0")
+            }
             raw::FIELD_RANGE => {
                 let (field, range) = FIELDS[(detail - 1) as usize];
                 format!("the {field}, which is {range}")
             }
             raw::NO_ROOM => format!("it needs {detail} bytes"),
-            raw::TOO_FEW..=raw::NO_SIGN | raw::PLUS_SIGN => {
-                format!("at place {place}, for part {detail}, both counted from 0")
-            }
+            _ if self.is_of_a_part() => format!("at place {place}, for part {detail}, both counted from 0"),
             raw::OFFSET_RANGE if detail == 1 => "the hour is over 23".to_string(),
             raw::OFFSET_RANGE => "the minute is over 59".to_string(),
             _ => format!("it is {detail}"),

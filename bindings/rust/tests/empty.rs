@@ -49,6 +49,12 @@ fn read(reader: Reader, pattern: &[u8], text: &[u8], answer: &mut [i64]) -> u32 
     unsafe { reader(pattern, length, text, text_length, YEAR, answer, entries) }
 }
 
+fn read_with(choices: u32, pattern: &[u8], text: &[u8], answer: &mut [i64]) -> u32 {
+    let ((pattern, length), (text, text_length), (answer, entries)) = (lent(pattern), lent(text), row(answer));
+    // SAFETY: as for a write.
+    unsafe { raw::sheet_read_with(choices, pattern, length, text, text_length, YEAR, answer, entries) }
+}
+
 fn parse_offset(text: &[u8], answer: &mut [i64]) -> u32 {
     let ((text, length), (answer, entries)) = (lent(text), row(answer));
     // SAFETY: as for a write.
@@ -91,6 +97,21 @@ fn of_the_readers() {
         gives(|row| read(reader, b"y", b"", row), raw::NO_NUMBER, 0, 0);
         gives(|row| read(reader, b"MMM", b"", row), raw::NO_NAME, 0, 0);
     }
+}
+
+#[test]
+fn of_the_reader_with_choices() {
+    for choices in [0, raw::DATE_PAIR] {
+        let strict = choices + raw::STRICT;
+        gives(|row| read_with(choices, b"", b"03", row), raw::ACCEPTED, 0, 0);
+        gives(|row| read_with(strict, b"", b"03", row), raw::TEXT_LEFT, 0, 0);
+        for choices in [choices, strict] {
+            gives(|row| read_with(choices, b"", b"", row), raw::ACCEPTED, 0, 0);
+            gives(|row| read_with(choices, b"/", b"", row), raw::TOO_FEW, 0, 0);
+            gives(|row| read_with(choices, b"y", b"", row), raw::NO_NUMBER, 0, 0);
+        }
+    }
+    assert_eq!(read_with(4, b"", b"", &mut []), raw::NO_SUCH_CHOICE);
 }
 
 #[test]

@@ -1,6 +1,6 @@
 //! What is said of a refused read: what stood there and what was wanted.
 
-use sheet::{check, explain, explain_date, parse_offset, read, read_date, Refusal};
+use sheet::{check, explain, explain_date, explain_with, parse_offset, read, read_date, read_with, Choices, Refusal};
 
 const SENTENCES: &str = include_str!("explained.tsv");
 const SYMBOLS: &[u8] = b"GyqMwdDeabhKHkmsnXx";
@@ -11,13 +11,20 @@ fn explained(pattern: impl AsRef<[u8]>, text: impl AsRef<[u8]>) -> String {
     explain(pattern, text, &refusal)
 }
 
+fn explained_with(choices: Choices, pattern: &str, text: &str) -> String {
+    let refusal = read_with(choices, pattern, text, 2025).expect_err("this is refused");
+    explain_with(choices, pattern, text, &refusal)
+}
+
 #[test]
 fn listed_ones() {
     for line in SENTENCES.lines().skip(1) {
-        let [pattern, text, sentence] = line.split('\t').collect::<Vec<_>>()[..] else {
-            panic!("{line} has not three columns");
+        let (found, sentence) = match line.split('\t').collect::<Vec<_>>()[..] {
+            [pattern, text, sentence] => (explained(pattern, text), sentence),
+            [pattern, text, sentence, "strict"] => (explained_with(Choices::new().strict(), pattern, text), sentence),
+            _ => panic!("{line} has other columns"),
         };
-        assert_eq!(explained(pattern, text), sentence);
+        assert_eq!(found, sentence);
     }
 }
 
@@ -56,6 +63,31 @@ fn of_dates() {
         explain_date("HH dd", "07:3", &refusal),
         "`dd` needs two digits, found `3`"
     );
+}
+
+/// Where it is strict they are compared.
+#[test]
+fn of_dates_read_strictly() {
+    let strict = Choices::new().date().strict();
+    assert_eq!(explained_with(strict, "dd HH", "03 07"), "`HH` needs `HH`, found `07`");
+    assert_eq!(
+        explained_with(strict, "HH dd", "HH 3"),
+        "`dd` needs two digits, found `3`"
+    );
+}
+
+/// Of what only a strict read refuses nothing more is known to others, and of what is not left over nothing can be shown.
+#[test]
+fn refusals_of_strict_reads_are_said_to_others_as_they_print() {
+    let strict = Choices::new().strict();
+    for text in ["3-12", "3/12 "] {
+        let refusal = read_with(strict, "d/MM", text, 2025).expect_err("this is refused");
+        assert_eq!(explain("d/MM", text, &refusal), refusal.to_string());
+        assert_eq!(explain_date("d/MM", text, &refusal), refusal.to_string());
+    }
+    let refusal = read_with(strict, "d", "3/", 2025).expect_err("this is refused");
+    assert_eq!(explain_with(strict, "d", "3", &refusal), refusal.to_string());
+    assert_eq!(explain_with(strict, "d", "", &refusal), refusal.to_string());
 }
 
 #[test]
@@ -106,16 +138,19 @@ fn anything_is_explained() {
             .map(|_| alphabet[next() as usize % alphabet.len()])
             .collect()
     };
+    let strict = Choices::new().strict();
     let mut refusals: Vec<Refusal> = vec![check("'", 2025).expect_err("this is refused")];
     for _ in 0..20_000 {
         let (pattern, text) = (some_bytes(12), some_bytes(16));
         refusals.extend(read(&pattern, &text, 2025).err());
         refusals.extend(read_date(&pattern, &text, 2025).err());
-        let start = refusals.len().saturating_sub(4);
+        refusals.extend(read_with(strict, &pattern, &text, 2025).err());
+        let start = refusals.len().saturating_sub(6);
         for refusal in &refusals[start..] {
             for sentence in [
                 explain(&pattern, &text, refusal),
                 explain_date(&pattern, &text, refusal),
+                explain_with(strict, &pattern, &text, refusal),
             ] {
                 assert!(sentence.bytes().all(|byte| (b' '..=b'~').contains(&byte)), "{sentence}");
             }

@@ -1,6 +1,6 @@
 //! Each refusal, by a call that gives it: its number, its details and its sentence.
 
-use sheet::{check, parse_offset, read, split, write, write_into, Fields, Refusal};
+use sheet::{check, parse_offset, read, read_with, split, write, write_into, Choices, Fields, Refusal};
 use std::error::Error;
 use std::fmt::Debug;
 
@@ -149,6 +149,24 @@ fn of_a_plus() {
         &[0, 4],
         "the text has a plus in front of a number: at place 4, for part 0, both counted from 0",
     );
+}
+
+#[test]
+fn of_a_strict_read() {
+    for strict in [Choices::new().strict(), Choices::new().strict().date()] {
+        refused(
+            read_with(strict, "dd/MM", "03-12", 2025),
+            15,
+            &[1, 2],
+            "the text differs from the literal that should stand there: at place 2, for part 1, both counted from 0",
+        );
+        refused(
+            read_with(strict, "dd/MM", "03/12 ", 2025),
+            16,
+            &[5],
+            "the text goes on where the pattern ends: at place 5, counted from 0",
+        );
+    }
 }
 
 #[test]

@@ -112,6 +112,45 @@ fn of_the_readers() {
     }
 }
 
+fn read_with(choices: u32, text: &[u8], answer: &mut [i64]) -> u32 {
+    let (pattern, answer_len) = (b"dd", answer.len());
+    // SAFETY: each pointer goes with the length of the slice that it comes from.
+    unsafe {
+        raw::sheet_read_with(
+            choices,
+            pattern.as_ptr(),
+            pattern.len(),
+            text.as_ptr(),
+            text.len(),
+            2025,
+            answer.as_mut_ptr(),
+            answer_len,
+        )
+    }
+}
+
+#[test]
+fn of_the_reader_with_choices() {
+    for choices in 0..=raw::DATE_PAIR + raw::STRICT {
+        asks_for(raw::READ_ANSWER, raw::ACCEPTED, |row| read_with(choices, b"03", row));
+        asks_for(raw::READ_ANSWER, 8, |row| read_with(choices, b"3", row));
+        let of_a_rest = if choices & raw::STRICT == 0 { raw::ACCEPTED } else { 16 };
+        asks_for(raw::READ_ANSWER, of_a_rest, |row| read_with(choices, b"03/", row));
+    }
+}
+
+/// A number that stands for no choices is refused whatever the row's size is, and alters none of it.
+#[test]
+fn of_no_such_choice() {
+    for choices in [4, 5, 7, 8, 1 << 16, u32::MAX] {
+        for entries in [0, 1, raw::READ_ANSWER - 1, raw::READ_ANSWER, raw::READ_ANSWER + REST] {
+            let mut row = vec![MARK; entries];
+            assert_eq!(read_with(choices, b"03", &mut row), raw::NO_SUCH_CHOICE);
+            assert_eq!(row, vec![MARK; entries]);
+        }
+    }
+}
+
 #[test]
 fn of_parse_offset() {
     asks_for(raw::OFFSET_ANSWER, raw::ACCEPTED, |row| parse_offset(b"Z", row));

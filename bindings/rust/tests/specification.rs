@@ -1,6 +1,6 @@
 //! The samples in the tables of docs/SPECIFICATION.md, each put to the library.
 
-use sheet::{Fields, ParseUnit, Reading, Refusal, Verdict};
+use sheet::{Choices, Fields, ParseUnit, Reading, Refusal, Verdict};
 
 const SPECIFICATION: &str = include_str!("../../../docs/SPECIFICATION.md");
 
@@ -151,9 +151,9 @@ fn unit_read(pattern: &str, text: &str) -> String {
 }
 
 /// The bytes read, the mask, the number of units; and the values in the order of the sample's.
-fn all_read(pattern: &str, text: &str, year: i32, sample: &str) -> String {
+fn all_read(choices: Choices, pattern: &str, text: &str, year: i32, sample: &str) -> String {
     let counted = |number: usize, word: &str| format!("{number} {word}{}", if number == 1 { "" } else { "s" });
-    sheet::read(pattern, text, year).map_or_else(refused, |reading| {
+    sheet::read_with(choices, pattern, text, year).map_or_else(refused, |reading| {
         let mut read: Vec<_> = values(&reading)
             .map(|(name, value)| format!("{name} {value}"))
             .collect();
@@ -262,8 +262,8 @@ fn of_sheet(row: &[&str]) -> Sample {
     let pattern = quoted(pattern);
     let got = match (*what, given.rsplit_once(' ')) {
         ("check", _) => checked(&pattern),
-        ("read", Some((text, year))) => all_read(&pattern, &quoted(text), number(year), answer),
-        ("read", None) => all_read(&pattern, &quoted(given), 2025, answer),
+        ("read", Some((text, year))) => all_read(Choices::new(), &pattern, &quoted(text), number(year), answer),
+        ("read", None) => all_read(Choices::new(), &pattern, &quoted(given), 2025, answer),
         (_, Some(("year", year))) => written(
             &pattern,
             &Fields {
@@ -297,8 +297,13 @@ fn samples(table: &Table, row: &[&str]) -> Vec<Sample> {
             vec![sample(1, split(&pattern)), sample(2, written(&pattern, &R))]
         }
         (["Pattern", "Text", "Answer"], " Zones") => vec![sample(2, unit_read(&quoted(row[0]), &quoted(row[1])))],
-        (["Pattern", "Text", "Answer"], _) => {
-            vec![sample(2, all_read(&quoted(row[0]), &quoted(row[1]), 2025, row[2]))]
+        (["Pattern", "Text", "Answer"], heading) => {
+            let choices = match heading {
+                " Strict reading" => Choices::new().strict(),
+                _ => Choices::new(),
+            };
+            let answer = all_read(choices, &quoted(row[0]), &quoted(row[1]), 2025, row[2]);
+            vec![sample(2, answer)]
         }
         (["Text", "Answer"], _) => {
             let answer = sheet::parse_offset(quoted(row[0])).map_or_else(refused, |offset| offset.to_string());
@@ -333,6 +338,20 @@ fn its_samples_hold() {
     let (tried, differing) = held(SPECIFICATION);
     assert_eq!(differing, []);
     assert!(tried > 500, "only {tried} were tried");
+}
+
+/// Under that heading a sample is of a strict reading, and under another it is not.
+#[test]
+fn a_strict_reading_has_its_own_samples() {
+    let document = |heading: &str, answer: &str| {
+        format!("## {heading}\n\n| Pattern | Text | Answer |\n|---|---|---|\n| `d/` | `3-` | {answer} |\n")
+    };
+    let (strict, plain) = ("refused 15 1 1", "2 bytes, mask 4, 1 unit: day 3");
+    for (heading, right, wrong) in [("Strict reading", strict, plain), ("Zones and others", plain, strict)] {
+        assert_eq!(held(&document(heading, right)), (1, vec![]));
+        let (_, differing) = held(&document(heading, wrong));
+        assert_eq!(differing, [(wrong.to_string(), right.to_string())]);
+    }
 }
 
 /// Each kind of sample, made wrong, is reported.

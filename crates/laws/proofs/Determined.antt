@@ -8,6 +8,7 @@ use lib.IntN.{ℤ}
 use Rattle.meaning.specs.Answers.{Answer}
 use Rattle.meaning.specs.Names.{Book}
 use Rattle.meaning.specs.Promises.{SameAnswer, Splits, Writes, Reads, ParsesOffset, TellsRead}
+use Rattle.meaning.specs.declared.Choices.{Choices}
 use Rattle.meaning.specs.declared.Fields.{Fields}
 use Rattle.meaning.specs.declared.Offset.{Offset}
 use Rattle.meaning.specs.declared.Pair.{Pair}
@@ -30,9 +31,10 @@ splits-coincide p = same-determined
 pub writes-coincide : (pair : Pair) (book : Book) (p : List ℕ) (f : Fields) (out : List ℕ) {r s : Wrote} {after after′ : List ℕ} → Writes pair book p f out r after → Writes pair book p f out s after′ → (r ≡ s) × (after ≡ after′)
 writes-coincide pair book p f out w v = (same-determined (w .0) (v .0), determined (w .1) (v .1))
 
--- reader::parse and reader::date::parse
-pub reads-coincide : (pair : Pair) (book : Book) (p s : List ℕ) (current : ℤ) {r t : Reading} → Reads pair book p s current r → Reads pair book p s current t → r ≡ t
-reads-coincide pair book p s current = same-determined
+-- reader::parse_with, and reader::parse and reader::date::parse, which have no choice
+pub reads-coincide : (choices : Choices) (book : Book) (p s : List ℕ) (current : ℤ) {r t : Reading} → Reads choices book p s current r
+    → Reads choices book p s current t → r ≡ t
+reads-coincide choices book p s current = same-determined
 
 -- reader::offset::parse_offset
 pub offsets-coincide : (s : List ℕ) {r t : Offset} → ParsesOffset s r → ParsesOffset s t → r ≡ t

@@ -1,6 +1,6 @@
 -- Two half patterns side by side: the join has the parts of the one and then those of the other, it is accepted, and to write it
 -- is to write the one and, behind that, the other. The empty pattern is neutral.
-use mathlib.Core.Bool.{Bool, true, false}
+use mathlib.Core.Bool.{false}
 use mathlib.Core.List.{List, [], _∷_, _++_, map, append-nil, append-assoc, map-append}
 use mathlib.Core.Path.{_≡_, refl, ap, _∙_}
 use Prim.Native.Nat.{ℕ, _+_, _-_}
@@ -22,7 +22,7 @@ use Rattle.laws.specs.Halves.{endsOpen, startsQuoted, meetEqual, Beside,
 use Rattle.laws.proofs.Checks.{Accepted, pattern-fine, fine-bytes, fine-pattern, Writes}
 use Rattle.laws.proofs.Seams as seams
 use Rattle.laws.proofs.Splitting.{total, parts-fill}
-use Rattle.laws.proofs.Tests.{both-true, every}
+use Rattle.laws.proofs.Tests.{every-append}
 use Rattle.laws.proofs.Texts.{texts-join}
 use Rattle.laws.proofs.Writes.{wrote-length, length-wrote, output-wrote}
 
@@ -41,11 +41,6 @@ parts-from-moved k at [] = refl
 parts-from-moved k at (c ∷ cs) =
     let e : k + at + lengthOf c ≡ k + (at + lengthOf c) = omega arith in
     rw (e, parts-from-moved k (at + lengthOf c) cs)
-
-every-append : {A : Type 0} (test : A → Bool) (a b : List A) → every test a ≡ true → every test b ≡ true → every test (a ++ b) ≡ true
-unfolding every
-every-append test [] b h k = k
-every-append test (x ∷ a) b h k = let t = both-true (test x) (every test a) h in rw (t .0) (every-append test a b (t .1) k)
 
 lone-quote : (p q : List ℕ) → startsQuoted p q ≡ false → meetEqual p q ≡ false
     → endsInLoneQuote (contents p) ≡ false → endsInLoneQuote (contents q) ≡ false → endsInLoneQuote (contents (p ++ q)) ≡ false

@@ -1,3 +1,4 @@
+pub mod Ascii
 pub mod Carried
 pub mod Checks
 pub mod Determined

@@ -27,6 +27,7 @@ use Rattle.meaning.specs.Whole.{Walk, refusedAt, walkWith, readBy, readCheck, r
 use Rattle.meaning.specs.Writing.{Step, literal, field, steps}
 use Rattle.meaning.specs.declared.Carried.{Carried}
 use Rattle.meaning.specs.declared.Checked.{Checked}
+use Rattle.meaning.specs.declared.Choices.{Choices}
 use Rattle.meaning.specs.declared.Checked.the-variants.{Fine, Refused}
 use Rattle.meaning.specs.declared.Group.{Group}
 use Rattle.meaning.specs.declared.Group.the-variants.{Never, NotZero, Always}
@@ -34,7 +35,6 @@ use Rattle.meaning.specs.declared.Numeral.{Numeral}
 use Rattle.meaning.specs.declared.Numeral.the-variants.{Count, Year}
 use Rattle.meaning.specs.declared.Offset.{Offset}
 use Rattle.meaning.specs.declared.Offset.the-variants as offset
-use Rattle.meaning.specs.declared.Pair.{Pair}
 use Rattle.meaning.specs.declared.Refusal.the-variants.{InPart, OffsetLength}
 use Rattle.meaning.specs.declared.Rule.{Rule}
 use Rattle.meaning.specs.declared.Rule.the-variants.{Number, SkippedNumber, LetterQuarter, SkippedName, MatchedName, Letters, Years, FixedYear, TwoDigitYear, Zone}
@@ -157,10 +157,10 @@ rule-plus book current TwoDigitYear s =
 rule-plus book current (Zone z c minutes seconds) s =
     on-plus _ _ s (λ o t. same) (same-on _ _ s (λ sign t. zone-plus c minutes seconds sign t) (zoneSign z s))
 
-step-plus : (book : Book) (current : ℕ) (step : Step) → Compared (λ number. readStepWith number book current step)
+step-plus : (choices : Choices) (book : Book) (current : ℕ) (step : Step) → Compared (λ number. readStepWith number choices book current step)
 unfolding readStepWith
-step-plus book current (literal w lost) s = same
-step-plus book current (field rule) s = rule-plus book current rule s
+step-plus choices book current (literal w lost) s = same
+step-plus choices book current (field rule) s = rule-plus book current rule s
 
 -- the walk over the parts, and the whole reading
 
@@ -181,13 +181,15 @@ module _ (text : List ℕ) (i at : ℕ) (next next′ : ℕ → Carried → Walk
   part-plus (at-plus {i = j} e) = refused-at-plus (sym (getD-drop at text j 0) ∙ e)
   part-plus (same {g}) = same-part g
 
-module _ (book : Book) (current : ℕ) (text : List ℕ) where
+module _ (choices : Choices) (book : Book) (current : ℕ) (text : List ℕ) where
   walk-plus : (i at : ℕ) (ss : List Step) (gave : List Carried)
-      → WalkPlusOrSame text (walkWith takeNumber book current i at ss (drop at text) gave) (walkWith takeNumberWithPlus book current i at ss (drop at text) gave)
+      → WalkPlusOrSame text (walkWith takeNumber choices book current i at ss (drop at text) gave)
+      (walkWith takeNumberWithPlus choices book current i at ss (drop at text) gave)
   unfolding walkWith
   walk-plus i at [] gave = same-walk
   walk-plus i at (step ∷ ss) gave =
-      part-plus text i at _ _ (λ n c. rw (drop-drop n at text) (walk-plus (suc i) (at + n) ss (c ∷ gave))) (step-plus book current step (drop at text))
+      part-plus text i at _ _ (λ n c. rw (drop-drop n at text) (walk-plus (suc i) (at + n) ss (c ∷ gave)))
+      (step-plus choices book current step (drop at text))
 
 by-check : (s : List ℕ) (checked : Checked) {w v : Walk} → WalkPlusOrSame s w v
     → RefusedAtPlus s (readBy checked w .checked) ⊎ (readBy checked w ≡ readBy checked v)
@@ -195,11 +197,11 @@ by-check s Fine (refused-at-plus {i} {place} e) = inl (record { part = i; place 
 by-check s Fine same-walk = inr refl
 by-check s (Refused why) h = inr refl
 
-pub read-but-for-plus : (pair : Pair) (book : Book) (p s : List ℕ) (current : ℤ)
-    → RefusedAtPlus s (read pair book p s current .checked) ⊎ (read pair book p s current ≡ readWithPlus pair book p s current)
+pub read-but-for-plus : (choices : Choices) (book : Book) (p s : List ℕ) (current : ℤ)
+    → RefusedAtPlus s (read choices book p s current .checked) ⊎ (read choices book p s current ≡ readWithPlus choices book p s current)
 unfolding read
-read-but-for-plus pair book p s current =
-    by-check s (readCheck p s current) (walk-plus book (natAbs current) s 0 0 (steps pair p) [])
+read-but-for-plus choices book p s current =
+    by-check s (readCheck p s current) (walk-plus choices book (natAbs current) s 0 0 (steps (choices .pair) p) [])
 
 -- parse_offset
 

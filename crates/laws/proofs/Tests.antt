@@ -1,12 +1,12 @@
 -- Laws of tests: cases on a Bool that keep their equation, `both`, `when`, a test that every entry of a list passes, and
 -- the set by which `search` goes through a definition's tests as the code went through its own.
 use mathlib.Core.Bool.{Bool, true, false}
-use mathlib.Core.List.{List, [], _∷_}
+use mathlib.Core.List.{List, [], _∷_, _++_}
 use mathlib.Core.Path.{_≡_, refl, sym, ap, _∙_}
 use Prim.Native.Nat.{ℕ, zero, suc, _+_, _<_}
 use native.Mathlib.Omega.{arith}
 use borrow.Author.Tests.{eq-eqb, ne-eqb, le-leb, lt-leb, lt-ltb, le-ltb}
-use lib.ListN.{length, getD}
+use lib.ListN.{length, getD, take, replicate}
 use Rattle.meaning.specs.Bytes.{when, both}
 
 -- what a branch of the code knows, put into a definition's choices: `returns c = search chosen`
@@ -58,6 +58,36 @@ unfolding every
 every-at test [] d h i k = absurd (omega arith)
 every-at test (a ∷ l) d h zero k = both-true (test a) (every test l) h .0
 every-at test (a ∷ l) d h (suc i) k = every-at test l d (both-true (test a) (every test l) h .1) i (omega arith)
+
+-- of parts of a list, of one entry again and again, and of a weaker test
+
+module _ {A : Type 0} (test : A → Bool) where
+  pub every-append : (s t : List A) → every test s ≡ true → every test t ≡ true → every test (s ++ t) ≡ true
+  unfolding every
+  every-append [] t h k = k
+  every-append (a ∷ s) t h k =
+      let e = both-true (test a) (every test s) h in
+      both-are (test a) (every test (s ++ t)) (e .0) (every-append s t (e .1) k)
+
+  pub every-take : (n : ℕ) (s : List A) → every test s ≡ true → every test (take n s) ≡ true
+  unfolding every
+  every-take zero s h = refl
+  every-take (suc n) [] h = refl
+  every-take (suc n) (a ∷ s) h =
+      let e = both-true (test a) (every test s) h in
+      both-are (test a) (every test (take n s)) (e .0) (every-take n s (e .1))
+
+  pub every-again : (n : ℕ) (a : A) → test a ≡ true → every test (replicate n a) ≡ true
+  unfolding every
+  every-again zero a h = refl
+  every-again (suc n) a h = both-are (test a) (every test (replicate n a)) h (every-again n a h)
+
+  pub every-weaker : (weaker : A → Bool) → ((a : A) → test a ≡ true → weaker a ≡ true) → (s : List A) → every test s ≡ true → every weaker s ≡ true
+  unfolding every
+  every-weaker weaker w [] h = refl
+  every-weaker weaker w (a ∷ s) h =
+      let e = both-true (test a) (every test s) h in
+      both-are (weaker a) (every weaker s) (w a (e .0)) (every-weaker weaker w s (e .1))
 
 -- a table of the values of a function, which antt compares with one that is written out, lifted to each entry
 unfoldable pub tabulate : (ℕ → ℕ) → ℕ → ℕ → List ℕ

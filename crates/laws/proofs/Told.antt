@@ -12,16 +12,16 @@ use Rattle.meaning.specs.Answers.{number, details, Answer, refused, answerBy, w
 use Rattle.meaning.specs.Bytes.{when}
 use Rattle.meaning.specs.Names.{Book}
 use Rattle.meaning.specs.Promises.{SameAnswer}
-use Rattle.meaning.specs.Trust.{Says, trustCheck}
+use Rattle.meaning.specs.Trust.{SaysOf, Says, trustCheck}
 use Rattle.meaning.specs.declared.Checked.{Checked}
 use Rattle.meaning.specs.declared.Checked.the-variants as checked
 use Rattle.meaning.specs.declared.Fields.{Fields}
 use Rattle.meaning.specs.declared.Offset.{Offset}
 use Rattle.meaning.specs.declared.Offset.the-variants as offset
 use Rattle.meaning.specs.declared.Refusal.{Refusal}
-use Rattle.meaning.specs.declared.Refusal.the-variants.{PatternTooLong, PatternByte, LoneQuote, FieldRange, NoRoom, TextTooLong, TextByte, InPart, OffsetLength, OffsetRange, CurrentYear}
+use Rattle.meaning.specs.declared.Refusal.the-variants.{PatternTooLong, PatternByte, LoneQuote, FieldRange, NoRoom, TextTooLong, TextByte, InPart, OffsetLength, OffsetRange, CurrentYear, TextLeft}
 use Rattle.meaning.specs.declared.Trouble.{Trouble}
-use Rattle.meaning.specs.declared.Trouble.the-variants.{TooFew, NoNumber, NoName, NoSign, PlusSign}
+use Rattle.meaning.specs.declared.Trouble.the-variants.{TooFew, NoNumber, NoName, NoSign, LiteralDiffers, PlusSign}
 use Rattle.meaning.specs.declared.Verdict.{Verdict}
 use Rattle.meaning.specs.declared.Verdict.the-variants as verdict
 use Rattle.meaning.specs.declared.Wrote.{Wrote}
@@ -60,8 +60,8 @@ table =
     ∷ (λ ds. OffsetLength (one ds))
     ∷ (λ ds. OffsetRange (one ds))
     ∷ (λ ds. CurrentYear (getD ds 0 (pos 0)))
-    ∷ unused
-    ∷ unused
+    ∷ (λ ds. InPart LiteralDiffers (one ds) (two ds))
+    ∷ (λ ds. TextLeft (one ds))
     ∷ unused
     ∷ unused
     ∷ (λ ds. InPart PlusSign (one ds) (two ds))
@@ -81,6 +81,7 @@ in-part TooFew part place = record { again = refl; not-0 = refl }
 in-part NoNumber part place = record { again = refl; not-0 = refl }
 in-part NoName part place = record { again = refl; not-0 = refl }
 in-part NoSign part place = record { again = refl; not-0 = refl }
+in-part LiteralDiffers part place = record { again = refl; not-0 = refl }
 in-part PlusSign part place = record { again = refl; not-0 = refl }
 
 found : (why : Refusal) → Found why
@@ -96,6 +97,7 @@ found (InPart why part place) = in-part why part place
 found (OffsetLength n) = record { again = refl; not-0 = refl }
 found (OffsetRange which) = record { again = refl; not-0 = refl }
 found (CurrentYear year) = record { again = refl; not-0 = refl }
+found (TextLeft place) = record { again = refl; not-0 = refl }
 
 pub refusal-number : (why : Refusal) → eqb (number why) 0 ≡ false
 refusal-number why = found why .not-0
@@ -184,7 +186,7 @@ offset-by-told r d e = record { told = e; whole = offsets-told-apart r d e }
 -- the check: the first of its checks that refuses, or what its yes or no returns
 pub says-told : (book : Book) (p : List ℕ) (current : ℤ) (v : Verdict) → Says book p current v
     → verdictAnswer v ≡ answerBy (trustCheck p current) (verdictAnswer v .values)
-unfolding Says
-says-told book p current verdict.Yes s = rw (s .0)
-says-told book p current (verdict.No part f) s = rw (s .0)
-says-told book p current (verdict.Refused why) s = rw s
+unfolding SaysOf
+says-told book p current verdict.Yes s = rw (s false .0)
+says-told book p current (verdict.No part f) s = rw (s false .0)
+says-told book p current (verdict.Refused why) s = rw (s false)

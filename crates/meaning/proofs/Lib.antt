@@ -2,4 +2,5 @@ pub mod Minus
 pub mod Names
 pub mod Pluses
 pub mod Samples
+pub mod Strict
 pub mod Units

@@ -9,7 +9,7 @@ use lib.ListN.{replicate}
 use Rattle.meaning.specs.Answers.{number, details, Answer, accepted, readAnswer, offsetAnswer}
 use Rattle.meaning.specs.Bytes.{bytes}
 use Rattle.meaning.specs.Names.{english}
-use Rattle.meaning.specs.Whole.{read, parseOffset}
+use Rattle.meaning.specs.Whole.{plain, read, parseOffset}
 use Rattle.meaning.specs.declared.Pair.the-variants.{Full}
 
 -- reading a text by a pattern, and as an offset
@@ -19,7 +19,7 @@ pub data Question : Type 0 where
 
 pub asked : Question → Answer
 unfolding read parseOffset
-asked (reading p s) = readAnswer (read Full english (bytes p) (bytes s) (pos 2025))
+asked (reading p s) = readAnswer (read (plain Full) english (bytes p) (bytes s) (pos 2025))
 asked (offset s) = offsetAnswer (parseOffset (bytes s))
 
 -- a refusal with a part and a place

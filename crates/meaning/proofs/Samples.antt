@@ -14,7 +14,7 @@ use Rattle.meaning.specs.Readers as R
 use Rattle.meaning.specs.Reading as D
 use Rattle.meaning.specs.Rules as U
 use Rattle.meaning.specs.Splitting as S
-use Rattle.meaning.specs.Whole.{write, output, read, writeCheck, readCheck, text, walk, valueOf, wasRead, bits, howMany}
+use Rattle.meaning.specs.Whole.{plain, write, output, read, writeCheck, readCheck, text, walk, valueOf, wasRead, bits, howMany}
 use Rattle.meaning.specs.Writing as W
 use Rattle.meaning.specs.declared.Checked.the-variants.{Fine, Refused}
 use Rattle.meaning.specs.declared.Fields.{Fields}
@@ -46,7 +46,7 @@ pub asked : Question → Answer
 unfolding write output read blank
 asked (writing year p) =
     wrote′ (write Full english (bytes p) (recordR year) blank) (output Full english (bytes p) (recordR year) blank)
-asked (reading p s) = read′ (read Full english (bytes p) (bytes s) (pos 2025))
+asked (reading p s) = read′ (read (plain Full) english (bytes p) (bytes s) (pos 2025))
 
 -- the text, the refusal of a lone quote at a place, the month and the day with the mask, the units and the bytes read, the
 -- refusal of a plus at a place of the first part

@@ -1,9 +1,9 @@
 -- Specification, "Answer numbers": each refusal's number and what it returns; the number and the values of each kind of answer;
--- and the checks that give refusals 1 to 7 and 14. The checks of a function stand in its order, in Whole.
+-- and the checks that give refusals 1 to 7, 14 and 16. The checks of a function stand in its order, in Whole.
 use mathlib.Core.Bool.{Bool, true, false}
 use mathlib.Core.List.{List, [], _∷_}
 use Prim.Native.Nat.{ℕ, suc, _-_}
-use lib.Dec.{leb}
+use lib.Dec.{leb, ltb}
 use lib.IntN.{ℤ, pos, natAbs}
 use lib.ListN.{length}
 use Rattle.meaning.specs.Bytes.{when, both}
@@ -16,10 +16,10 @@ use Rattle.meaning.specs.declared.Offset.{Offset}
 use Rattle.meaning.specs.declared.Offset.the-variants as offset
 use Rattle.meaning.specs.declared.Reading.{Reading}
 use Rattle.meaning.specs.declared.Refusal.{Refusal}
-use Rattle.meaning.specs.declared.Refusal.the-variants.{PatternTooLong, PatternByte, LoneQuote, FieldRange, NoRoom, TextTooLong, TextByte, InPart, OffsetLength, OffsetRange, CurrentYear}
+use Rattle.meaning.specs.declared.Refusal.the-variants.{PatternTooLong, PatternByte, LoneQuote, FieldRange, NoRoom, TextTooLong, TextByte, InPart, OffsetLength, OffsetRange, CurrentYear, TextLeft}
 use Rattle.meaning.specs.declared.Split.{Split}
 use Rattle.meaning.specs.declared.Trouble.{Trouble}
-use Rattle.meaning.specs.declared.Trouble.the-variants.{TooFew, NoNumber, NoName, NoSign, PlusSign}
+use Rattle.meaning.specs.declared.Trouble.the-variants.{TooFew, NoNumber, NoName, NoSign, LiteralDiffers, PlusSign}
 use Rattle.meaning.specs.declared.Verdict.{Verdict}
 use Rattle.meaning.specs.declared.Verdict.the-variants as verdict
 use Rattle.meaning.specs.declared.Wrote.{Wrote}
@@ -30,6 +30,7 @@ troubleNumber TooFew = 8
 troubleNumber NoNumber = 9
 troubleNumber NoName = 10
 troubleNumber NoSign = 11
+troubleNumber LiteralDiffers = 15
 troubleNumber PlusSign = 19
 
 unfoldable pub number : Refusal → ℕ
@@ -44,6 +45,7 @@ number (InPart why part place) = troubleNumber why
 number (OffsetLength n) = 12
 number (OffsetRange which) = 13
 number (CurrentYear year) = 14
+number (TextLeft place) = 16
 
 -- what is returned with the number, in the table's order
 unfoldable pub details : Refusal → List ℤ
@@ -58,6 +60,7 @@ details (InPart why part place) = pos part ∷ pos place ∷ []
 details (OffsetLength n) = pos n ∷ []
 details (OffsetRange which) = pos which ∷ []
 details (CurrentYear year) = year ∷ []
+details (TextLeft place) = pos place ∷ []
 
 -- an answer's number, 0 where it is accepted, and what is returned with it
 pub record Answer : Type 0 where
@@ -171,3 +174,7 @@ textCheck s =
 -- 14
 unfoldable pub currentYearCheck : ℤ → Checked
 currentYearCheck current = when (isNegative current) (Refused (CurrentYear current)) (refuseUnless (within 1 9999 (natAbs current)) (CurrentYear current))
+
+-- 16, of a strict reading: the text that remains at a place, behind the last part
+abbrev pub restCheck : Bool → ℕ → List ℕ → Checked
+restCheck strict at s = when (both strict (ltb 0 (length s))) (Refused (TextLeft at)) Fine

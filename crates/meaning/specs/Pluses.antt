@@ -13,12 +13,12 @@ use Rattle.meaning.specs.Names.{Book}
 use Rattle.meaning.specs.Numerals.{Signed, plusFirst, sized, numberOf}
 use Rattle.meaning.specs.Readers.{stopped, NumberReader, takenNumber}
 use Rattle.meaning.specs.Whole.{readWith, parseOffsetWith}
+use Rattle.meaning.specs.declared.Choices.{Choices}
 use Rattle.meaning.specs.declared.Checked.{Checked}
 use Rattle.meaning.specs.declared.Checked.the-variants.{Refused}
 use Rattle.meaning.specs.declared.Numeral.{Numeral}
 use Rattle.meaning.specs.declared.Offset.{Offset}
 use Rattle.meaning.specs.declared.Offset.the-variants as offset
-use Rattle.meaning.specs.declared.Pair.{Pair}
 use Rattle.meaning.specs.declared.Reading.{Reading}
 use Rattle.meaning.specs.declared.Refusal.the-variants.{InPart}
 use Rattle.meaning.specs.declared.Trouble.the-variants.{TooFew, PlusSign}
@@ -33,7 +33,7 @@ unfoldable pub takeNumberWithPlus : NumberReader
 unfolding numberWithPlus
 takeNumberWithPlus kind k s = when (ltb (length s) k) (stopped TooFew 0) (takenNumber k (numberWithPlus kind (take k s)))
 
-abbrev pub readWithPlus : Pair → Book → List ℕ → List ℕ → ℤ → Reading
+abbrev pub readWithPlus : Choices → Book → List ℕ → List ℕ → ℤ → Reading
 readWithPlus = readWith takeNumberWithPlus
 
 abbrev pub parseOffsetWithPlus : List ℕ → Offset

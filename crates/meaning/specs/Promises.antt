@@ -8,6 +8,7 @@ use lib.IntN.{ℤ}
 use Rattle.meaning.specs.Answers.{Answer, splitAnswer, wroteAnswer, readAnswer, offsetAnswer}
 use Rattle.meaning.specs.Names.{Book}
 use Rattle.meaning.specs.Whole.{split, write, output, read, parseOffset, unitNumber, marked}
+use Rattle.meaning.specs.declared.Choices.{Choices}
 use Rattle.meaning.specs.declared.Fields.{Fields}
 use Rattle.meaning.specs.declared.Offset.{Offset}
 use Rattle.meaning.specs.declared.Pair.{Pair}
@@ -28,8 +29,8 @@ Splits p r = SameAnswer splitAnswer r (split p)
 abbrev pub Writes : Pair → Book → List ℕ → Fields → List ℕ → Wrote → List ℕ → Type 0
 Writes pair book p f out r after = SameAnswer wroteAnswer r (write pair book p f out) × (after ≡ output pair book p f out)
 
-abbrev pub Reads : Pair → Book → List ℕ → List ℕ → ℤ → Reading → Type 0
-Reads pair book p s current r = SameAnswer readAnswer r (read pair book p s current)
+abbrev pub Reads : Choices → Book → List ℕ → List ℕ → ℤ → Reading → Type 0
+Reads choices book p s current r = SameAnswer readAnswer r (read choices book p s current)
 
 abbrev pub ParsesOffset : List ℕ → Offset → Type 0
 ParsesOffset s r = SameAnswer offsetAnswer r (parseOffset s)

@@ -14,7 +14,7 @@ use Rattle.meaning.specs.Numerals.{Signed, plusFirst, numberOf, integer}
 use Rattle.meaning.specs.declared.Numeral.{Numeral}
 use Rattle.meaning.specs.declared.Numeral.the-variants.{Count, Year}
 use Rattle.meaning.specs.declared.Trouble.{Trouble}
-use Rattle.meaning.specs.declared.Trouble.the-variants.{TooFew, NoNumber, NoName, NoSign, PlusSign}
+use Rattle.meaning.specs.declared.Trouble.the-variants.{TooFew, NoNumber, NoName, NoSign, LiteralDiffers, PlusSign}
 
 pub data Got (A : Type 0) : Type 0 where
   got : ℕ → A → Got A  -- how many bytes, and what they give
@@ -46,6 +46,21 @@ done a s = got 0 a
 -- so many bytes, unseen
 unfoldable pub skip : ℕ → Reader Unit
 skip k s = when (ltb (length s) k) (stopped TooFew 0) (got k tt)
+
+-- the place of the first byte that is not the one of these that stands there, counted on from i
+unfoldable pub firstDiffering : ℕ → List ℕ → List ℕ → Option ℕ
+firstDiffering i [] s = none
+firstDiffering i (a ∷ w) [] = some i
+firstDiffering i (a ∷ w) (b ∷ s) = elim (eqb a b) [ true ↦ firstDiffering (suc i) w s | false ↦ some i ]
+
+-- just these bytes: refusal 8 when fewer remain, then 15 at the first that differs
+abbrev pub sameBy : ℕ → Option ℕ → Got Unit
+sameBy k none = got k tt
+sameBy k (some i) = stopped LiteralDiffers i
+
+unfoldable pub same : List ℕ → Reader Unit
+unfolding firstDiffering
+same w s = when (ltb (length s) (length w)) (stopped TooFew 0) (sameBy (length w) (firstDiffering 0 w s))
 
 -- "take k": refusal 8 when fewer than k bytes remain, then 19 where the first of them is a plus, then 9 unless they are a
 -- number

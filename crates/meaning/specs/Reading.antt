@@ -1,6 +1,6 @@
 -- Specification, "What each symbol does", column Reads, with the carried values in brackets and the paragraphs on yy and
--- zones; and "Splitting", what a read of literals skips. The steps are those of Readers. What takes a number is defined with any
--- number reader, `..With`, and then with the specification's.
+-- zones; and "Splitting", what a read of literals skips or, where it is strict, compares. The steps are those of Readers. What
+-- takes a number is defined with any number reader, `..With`, and then with the specification's.
 use mathlib.Core.Bool.{Bool, true, false}
 use mathlib.Core.List.{List, [], _∷_}
 use mathlib.Core.Option.{Option, none, some}
@@ -10,11 +10,12 @@ use lib.IntN.{ℤ, pos, negℤ, natAbs, _+ℤ_}
 use lib.ListN.{length, drop}
 use Rattle.meaning.specs.Bytes.{when, isDigit, digitAt, minus}
 use Rattle.meaning.specs.Names.{Book, names}
-use Rattle.meaning.specs.Readers.{Reader, _>>=_, _>>_, done, skip, NumberReader, takeNumber, takeCountWith, takeYearWith, reach, ifDigit, matchName, letters, ZoneSign, utc, ahead, behindUtc, zoneSign}
+use Rattle.meaning.specs.Readers.{Reader, _>>=_, _>>_, done, skip, same, NumberReader, takeNumber, takeCountWith, takeYearWith, reach, ifDigit, matchName, letters, ZoneSign, utc, ahead, behindUtc, zoneSign}
 use Rattle.meaning.specs.UnitSizes.{secondsPerHour, secondsPerMinute}
 use Rattle.meaning.specs.Writing.{quantityOf, secondOfDay, isNegative, Step, literal, field}
 use Rattle.meaning.specs.declared.Carried.{Carried}
 use Rattle.meaning.specs.declared.Carried.the-variants.{Nothing, Value}
+use Rattle.meaning.specs.declared.Choices.{Choices}
 use Rattle.meaning.specs.declared.Fields.{Fields}
 use Rattle.meaning.specs.declared.Group.{Group}
 use Rattle.meaning.specs.declared.Group.the-variants.{Never, NotZero, Always}
@@ -91,6 +92,11 @@ zeroFor z n = when (eqb n z) 0 n
 abbrev pub passed : ℕ → Reader Carried
 passed k = skip k >> done Nothing
 
+-- a literal: "skipped unseen", or by a strict reading compared with what the part stands for, an escaped quote being a quote
+abbrev pub literalRead : Bool → List ℕ → Reader Carried
+literalRead true w = same w >> done Nothing
+literalRead false w = passed (length w)
+
 -- a name, and so many bytes that are one
 abbrev pub matchedName : Book → NameList → Reader Carried
 matchedName book l = matchName (names book l) >>= λ i. done (nameCarries l i)
@@ -153,10 +159,10 @@ module _ (number : NumberReader) where
   readRuleWith book current (Zone z c minutes seconds) s = takenZoneWith z c minutes seconds s
 
   -- what a part reads
-  unfoldable pub readStepWith : Book → ℕ → Step → Reader Carried
-  unfolding readRuleWith skip
-  readStepWith book current (literal w lost) s = passed (length w) s
-  readStepWith book current (field rule) s = readRuleWith book current rule s
+  unfoldable pub readStepWith : Choices → Book → ℕ → Step → Reader Carried
+  unfolding readRuleWith skip same
+  readStepWith choices book current (literal w lost) s = literalRead (choices .strict) w s
+  readStepWith choices book current (field rule) s = readRuleWith book current rule s
 
 -- with the specification's number reader
 
@@ -185,7 +191,7 @@ unfoldable pub readRule : Book → ℕ → Rule → Reader Carried
 unfolding readRuleWith
 readRule = readRuleWith takeNumber
 
-unfoldable pub readStep : Book → ℕ → Step → Reader Carried
+unfoldable pub readStep : Choices → Book → ℕ → Step → Reader Carried
 unfolding readStepWith readRule
 readStep = readStepWith takeNumber
 

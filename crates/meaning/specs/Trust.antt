@@ -1,5 +1,6 @@
--- Demand 3: when a pattern can be trusted to read back what it wrote, and what an answer of the check says. The check is of
--- the full pair. How it is decided is no matter of definition.
+-- Demand 3: when a pattern can be trusted to read back what it wrote, and what an answer of the check says. How it is decided is
+-- no matter of definition.
+use mathlib.Core.Bool.{Bool}
 use mathlib.Core.List.{List}
 use mathlib.Core.Path.{_≡_}
 use Prim.Native.Nat.{ℕ, _<_}
@@ -12,6 +13,7 @@ use Rattle.meaning.specs.Reading.{readStep, carriedStep}
 use Rattle.meaning.specs.Writing.{Step, literal, steps, stepText, texts}
 use Rattle.meaning.specs.declared.Checked.{Checked}
 use Rattle.meaning.specs.declared.Checked.the-variants.{Fine, Refused}
+use Rattle.meaning.specs.declared.Choices.{Choices}
 use Rattle.meaning.specs.declared.Fields.{Fields}
 use Rattle.meaning.specs.declared.Pair.the-variants.{Full}
 use Rattle.meaning.specs.declared.Verdict.{Verdict}
@@ -28,32 +30,42 @@ startOf book f ss i = length (texts book f (take i ss))
 
 -- Part i comes back for a record: read from where its own text starts in the whole written text, it takes just the bytes
 -- that it wrote and gives the value that it carries.
-unfoldable pub ComesBack : Book → ℕ → List Step → Fields → ℕ → Type 0
+unfoldable pub ComesBack : Choices → Book → ℕ → List Step → Fields → ℕ → Type 0
 unfolding readStep startOf texts stepText carriedStep
-ComesBack book current ss f i =
-    readStep book current (partAt ss i) (drop (startOf book f ss i) (texts book f ss))
+ComesBack choices book current ss f i =
+    readStep choices book current (partAt ss i) (drop (startOf book f ss i) (texts book f ss))
     ≡ got (length (stepText book f (partAt ss i))) (carriedStep (partAt ss i) f)
 
 -- each part below a number comes back for every allowed record
-unfoldable pub AllComeBack : Book → ℕ → List Step → ℕ → Type 0
+unfoldable pub AllComeBack : Choices → Book → ℕ → List Step → ℕ → Type 0
 unfolding ComesBack fieldsCheck
-AllComeBack book current ss n = (f : Fields) → fieldsCheck f ≡ Fine → (i : ℕ) → i < n → ComesBack book current ss f i
+AllComeBack choices book current ss n = (f : Fields) → fieldsCheck f ≡ Fine → (i : ℕ) → i < n → ComesBack choices book current ss f i
 
 -- part i is the first that fails for some allowed record, and this is such a record
-pub record FailsFirst (book : Book) (current : ℕ) (ss : List Step) (i : ℕ) (f : Fields) : Type 0 where
+pub record FailsFirst (choices : Choices) (book : Book) (current : ℕ) (ss : List Step) (i : ℕ) (f : Fields) : Type 0 where
   pub there : i < length ss
   pub allowed : fieldsCheck f ≡ Fine
-  pub fails : ComesBack book current ss f i → ⊥
-  pub earlier : AllComeBack book current ss i
+  pub fails : ComesBack choices book current ss f i → ⊥
+  pub earlier : AllComeBack choices book current ss i
 
 unfoldable pub trustCheck : List ℕ → ℤ → Checked
 unfolding patternCheck currentYearCheck
 trustCheck p current = patternCheck p else currentYearCheck current
 
--- what an answer of the check says: refusals 1, 2, 3, 14; yes when every part comes back for every allowed record; no
--- with the first part that fails
-unfoldable pub Says : Book → List ℕ → ℤ → Verdict → Type 0
+-- the check is of the full pair
+abbrev pub fullPair : Bool → Choices
+fullPair strict = record { pair = Full; strict = strict }
+
+-- what an answer of the check says, of a reading with these choices: refusals 1, 2, 3, 14; yes when every part comes back for
+-- every allowed record; no with the first part that fails
+unfoldable pub SaysOf : Choices → Book → List ℕ → ℤ → Verdict → Type 0
 unfolding trustCheck AllComeBack steps
-Says book p current verdict.Yes = (trustCheck p current ≡ Fine) × AllComeBack book (natAbs current) (steps Full p) (length (steps Full p))
-Says book p current (verdict.No part f) = (trustCheck p current ≡ Fine) × FailsFirst book (natAbs current) (steps Full p) part f
-Says book p current (verdict.Refused why) = trustCheck p current ≡ Refused why
+SaysOf choices book p current verdict.Yes =
+    (trustCheck p current ≡ Fine) × AllComeBack choices book (natAbs current) (steps (choices .pair) p) (length (steps (choices .pair) p))
+SaysOf choices book p current (verdict.No part f) =
+    (trustCheck p current ≡ Fine) × FailsFirst choices book (natAbs current) (steps (choices .pair) p) part f
+SaysOf choices book p current (verdict.Refused why) = trustCheck p current ≡ Refused why
+
+-- the answer of the check: the same, whether a reading is strict or not
+abbrev pub Says : Book → List ℕ → ℤ → Verdict → Type 0
+Says book p current answer = (strict : Bool) → SaysOf (fullPair strict) book p current answer

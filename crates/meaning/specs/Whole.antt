@@ -1,5 +1,5 @@
 -- Specification, "Answer numbers": the whole answer of each function, with its checks in their order. Splitting; writing and
--- reading for a pair; parse_offset.
+-- reading for a pair, reading strict or not; parse_offset.
 use mathlib.Core.Bool.{Bool, true, false}
 use mathlib.Core.List.{List, [], _∷_, _++_, map}
 use Prim.Native.Char.{Char, code}
@@ -8,7 +8,7 @@ use lib.Dec.{eqb, leb}
 use lib.IntN.{ℤ, pos, negℤ, natAbs}
 use lib.ListN.{length, getD, drop, replicate}
 use lib.Seq.{sets}
-use Rattle.meaning.specs.Answers.{_else_, refuseUnless, bytesCheck, patternCheck, fieldsCheck, roomCheck, textCheck, currentYearCheck}
+use Rattle.meaning.specs.Answers.{_else_, refuseUnless, bytesCheck, patternCheck, fieldsCheck, roomCheck, textCheck, currentYearCheck, restCheck}
 use Rattle.meaning.specs.Bytes.{when, plus}
 use Rattle.meaning.specs.Names.{Book}
 use Rattle.meaning.specs.Numerals.{Signed}
@@ -21,6 +21,7 @@ use Rattle.meaning.specs.declared.Carried.{Carried}
 use Rattle.meaning.specs.declared.Carried.the-variants.{Nothing, Value}
 use Rattle.meaning.specs.declared.Checked.{Checked}
 use Rattle.meaning.specs.declared.Checked.the-variants.{Fine, Refused}
+use Rattle.meaning.specs.declared.Choices.{Choices}
 use Rattle.meaning.specs.declared.Fields.{Fields}
 use Rattle.meaning.specs.declared.Numeral.the-variants.{Count}
 use Rattle.meaning.specs.declared.Offset.{Offset}
@@ -77,24 +78,32 @@ unfoldable pub output : Pair → Book → List ℕ → Fields → List ℕ → L
 unfolding writeCheck
 output pair book p f out = outputBy (writeCheck pair book p f (length out)) (text pair book p f) out
 
--- Reading checks 1, 2, 3, 14, 6, 7, then parts in order.
+-- Reading checks 1, 2, 3, 14, 6, 7, then parts in order, then 16 where it is strict.
+
+-- the reading of a pair with no choice made: not strict
+abbrev pub plain : Pair → Choices
+plain pair = record { pair = pair; strict = false }
 
 -- the bytes read and what the parts gave, the newest first; or the first refusal of a part
 pub data Walk : Type 0 where
   walked : ℕ → List Carried → Walk
   refusedAt : Checked → Walk
 
+abbrev pub walkedBy : Checked → ℕ → List Carried → Walk
+walkedBy Fine at gave = walked at gave
+walkedBy (Refused why) at gave = refusedAt (Refused why)
+
 -- part i and those behind it, from the text that remains at a place
-unfoldable pub walkWith : NumberReader → Book → ℕ → ℕ → ℕ → List Step → List ℕ → List Carried → Walk
+unfoldable pub walkWith : NumberReader → Choices → Book → ℕ → ℕ → ℕ → List Step → List ℕ → List Carried → Walk
 unfolding readStepWith
-walkWith number book current i at [] s gave = walked at gave
-walkWith number book current i at (step ∷ steps) s gave =
-    elim (readStepWith number book current step s) [
-      | got n c ↦ walkWith number book current (suc i) (at + n) steps (drop n s) (c ∷ gave)
+walkWith number choices book current i at [] s gave = walkedBy (restCheck (choices .strict) at s) at gave
+walkWith number choices book current i at (step ∷ steps) s gave =
+    elim (readStepWith number choices book current step s) [
+      | got n c ↦ walkWith number choices book current (suc i) (at + n) steps (drop n s) (c ∷ gave)
       | stopped why place ↦ refusedAt (Refused (InPart why i (at + place)))
     ]
 
-unfoldable pub walk : Book → ℕ → ℕ → ℕ → List Step → List ℕ → List Carried → Walk
+unfoldable pub walk : Choices → Book → ℕ → ℕ → ℕ → List Step → List ℕ → List Carried → Walk
 unfolding walkWith readStep
 walk = walkWith takeNumber
 
@@ -164,12 +173,12 @@ unfoldable pub readCheck : List ℕ → List ℕ → ℤ → Checked
 unfolding patternCheck currentYearCheck textCheck
 readCheck p s current = patternCheck p else currentYearCheck current else textCheck s
 
-unfoldable pub readWith : NumberReader → Pair → Book → List ℕ → List ℕ → ℤ → Reading
+unfoldable pub readWith : NumberReader → Choices → Book → List ℕ → List ℕ → ℤ → Reading
 unfolding readCheck steps walkWith valueOf wasRead bits howMany
-readWith number pair book p s current =
-    readBy (readCheck p s current) (walkWith number book (natAbs current) 0 0 (steps pair p) s [])
+readWith number choices book p s current =
+    readBy (readCheck p s current) (walkWith number choices book (natAbs current) 0 0 (steps (choices .pair) p) s [])
 
-unfoldable pub read : Pair → Book → List ℕ → List ℕ → ℤ → Reading
+unfoldable pub read : Choices → Book → List ℕ → List ℕ → ℤ → Reading
 unfolding readWith walk
 read = readWith takeNumber
 

@@ -19,6 +19,13 @@ pub enum Pair {
     Date,
 }
 
+// What a reading is asked for, beside its pattern and text: the pair, and whether it is strict: then literals are compared and
+// nothing may be left over.
+pub struct Choices {
+    pub pair: Pair,
+    pub strict: bool,
+}
+
 // "Splitting": a run of equal bytes, escaped quotes, a quoted part, one that no quote closes.
 pub enum Kind {
     Run,
@@ -177,12 +184,13 @@ pub enum Carried {
     Value(ParseUnit, i64),
 }
 
-// Why a part can't be read: the refusals 8 to 11, and 19.
+// Why a part can't be read: the refusals 8 to 11, 15 and 19.
 pub enum Trouble {
     TooFew,
     NoNumber,
     NoName,
     NoSign,
+    LiteralDiffers,
     PlusSign,
 }
 
@@ -203,6 +211,7 @@ pub enum Refusal {
     OffsetLength(usize),
     OffsetRange(u32),
     CurrentYear(i32),
+    TextLeft(usize),
 }
 
 // What checks find.

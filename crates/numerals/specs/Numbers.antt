@@ -3,7 +3,7 @@ use mathlib.Core.Option.{Option, none, some}
 use Rattle.meaning.specs.Numerals.{Signed}
 use Rattle.meaning.specs.Readers.{Got, got, stopped}
 use Rattle.meaning.specs.declared.Trouble.{Trouble}
-use Rattle.meaning.specs.declared.Trouble.the-variants.{TooFew, NoNumber, NoName, NoSign, PlusSign}
+use Rattle.meaning.specs.declared.Trouble.the-variants.{TooFew, NoNumber, NoName, NoSign, LiteralDiffers, PlusSign}
 use Rattle.numerals.specs.declared.Number.{Number}
 use Rattle.numerals.specs.declared.Number.the-variants as number
 
@@ -17,6 +17,7 @@ numberStopped TooFew = number.TooFew
 numberStopped NoNumber = number.NoNumber
 numberStopped NoName = number.NoNumber
 numberStopped NoSign = number.NoNumber
+numberStopped LiteralDiffers = number.NoNumber
 numberStopped PlusSign = number.PlusSign
 
 abbrev pub gotNumber : Got Signed → Number

@@ -1,9 +1,14 @@
 -- The answers of the steps of reading, from what the definitions' readers give: places count from the text's start, and a
 -- step that goes on answers the moved cursor.
 use Prim.Native.Nat.{ℕ, _+_}
+use Rattle.meaning.specs.Names.{english}
 use Rattle.meaning.specs.Numerals.{Signed}
-use Rattle.meaning.specs.Readers.{Got, got, stopped}
+use Rattle.meaning.specs.Readers.{Got, got, stopped, Reader}
+use Rattle.meaning.specs.Reading.{readStep}
+use Rattle.meaning.specs.Whole.{plain}
+use Rattle.meaning.specs.Writing.{Step}
 use Rattle.meaning.specs.declared.Carried.{Carried}
+use Rattle.meaning.specs.declared.Pair.the-variants.{Full}
 use Rattle.parse.specs.declared.cursor.Matched.{Matched}
 use Rattle.parse.specs.declared.cursor.Matched.the-variants as matched
 use Rattle.parse.specs.declared.cursor.Skipped.{Skipped}
@@ -32,3 +37,7 @@ matchedAt at (stopped why i) = matched.Stopped why (at + i)
 abbrev pub partAt : ℕ → Got Carried → PartRead
 partAt at (got k carried) = part.Got carried (record { at = at + k })
 partAt at (stopped why i) = part.Stopped why (at + i)
+
+-- what a part reads where its literals are not compared, the same by either pair
+abbrev pub plainRead : ℕ → Step → Reader Carried
+plainRead current = readStep (plain Full) english current

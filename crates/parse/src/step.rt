@@ -1,11 +1,9 @@
-// What a step reads: its rule, or a literal that is skipped unseen.
+// What a step reads: its rule, or a literal that is skipped unseen; a strict reading compares it afterwards (literals).
 ghost use mathlib.Core.Path.{_≡_};
 ghost use Prim.Native.Nat.{_≤_};
 ghost use lib.ListN.{length, drop};
-ghost use Rattle.meaning.specs.Names.{english};
-ghost use Rattle.meaning.specs.Reading.{readStep};
 ghost use Rattle.parse.specs.ShortReads.{quickDigits, quickUnit};
-ghost use Rattle.parse.specs.Steps.{partAt};
+ghost use Rattle.parse.specs.Steps.{partAt, plainRead};
 ghost use Rattle.parse.specs.Years.{longYearRead};
 ghost use Rattle.rules.specs.Steps.{means, Held};
 use crate::cursor::Cursor;
@@ -48,7 +46,7 @@ fn parse_other(
 ) -> PartRead
     requires { ⌜ Held (now pattern) step ⌝ }
     requires { ⌜ cursor .at ≤ length (now text) ⌝ }
-    ensures { λ r. ⌜ r ≡ partAt (cursor .at) (readStep english «current_year» (means (now (pattern .entry)) step) (drop (cursor .at) (now (text .entry)))) ⌝ }
+    ensures { λ r. ⌜ r ≡ partAt (cursor .at) (plainRead «current_year» (means (now (pattern .entry)) step) (drop (cursor .at) (now (text .entry)))) ⌝ }
 {
     match step {
         Step::Times { byte: _, count } => pass(count, text, cursor),
@@ -117,7 +115,7 @@ pub fn parse_step(
 ) -> PartRead
     requires { ⌜ Held (now pattern) step ⌝ }
     requires { ⌜ cursor .at ≤ length (now text) ⌝ }
-    ensures { λ r. ⌜ r ≡ partAt (cursor .at) (readStep english «current_year» (means (now (pattern .entry)) step) (drop (cursor .at) (now (text .entry)))) ⌝ }
+    ensures { λ r. ⌜ r ≡ partAt (cursor .at) (plainRead «current_year» (means (now (pattern .entry)) step) (drop (cursor .at) (now (text .entry)))) ⌝ }
 {
     if let Step::Times { byte: _, count } = step {
         return pass(count, text, cursor);

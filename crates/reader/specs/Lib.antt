@@ -1,1 +1,2 @@
 pub mod Largest
+pub mod Steps

@@ -6,30 +6,43 @@ pub mod offset;
 pub mod record;
 pub mod walk;
 
+ghost use mathlib.Core.Path.{_≡_};
 ghost use Rattle.meaning.specs.Names.{english};
 ghost use Rattle.meaning.specs.Promises.{Reads};
+ghost use Rattle.meaning.specs.Whole as whole;
 use crate::checks::read_check;
 use crate::record::no_reading;
 use crate::walk::parse_parts;
 use fields::signed::size;
 use meaning::Checked;
+use meaning::Choices;
 use meaning::Pair;
 use meaning::Reading;
 
-// Reads a text by a pattern of either pair. A refused read gives only the refusal and its detail.
-pub fn parse_with(pair: Pair, pattern: &[u8], text: &[u8], year: i32) -> Reading
-    ensures { λ r. ⌜ Reads pair english (now (pattern .entry)) (now (text .entry)) year r ⌝ }
+// Reads a text by a pattern, with these choices. A refused read gives only the refusal and its detail.
+pub fn parse_with(choices: Choices, pattern: &[u8], text: &[u8], year: i32) -> Reading
+    ensures { λ r. ⌜ Reads choices english (now (pattern .entry)) (now (text .entry)) year r ⌝ }
 {
     let checked = read_check(pattern, text, year);
     match checked {
-        Checked::Fine => parse_parts(pair, pattern, text, size(year)),
+        Checked::Fine => parse_parts(choices, pattern, text, size(year)),
         Checked::Refused(_) => no_reading(checked),
+    }
+}
+
+// A pair's reading with no choice made: not strict.
+pub fn plain(pair: Pair) -> Choices
+    ensures { λ r. ⌜ r ≡ whole.plain pair ⌝ }
+{
+    Choices {
+        pair,
+        strict: false,
     }
 }
 
 // The full pair's reader.
 pub fn parse(pattern: &[u8], text: &[u8], year: i32) -> Reading
-    ensures { λ r. ⌜ Reads Pair.Full english (now (pattern .entry)) (now (text .entry)) year r ⌝ }
+    ensures { λ r. ⌜ Reads (whole.plain Pair.Full) english (now (pattern .entry)) (now (text .entry)) year r ⌝ }
 {
-    parse_with(Pair::Full, pattern, text, year)
+    parse_with(plain(Pair::Full), pattern, text, year)
 }

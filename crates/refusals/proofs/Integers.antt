@@ -7,7 +7,7 @@ use Rattle.meaning.specs.Bytes.{when}
 use Rattle.meaning.specs.Numerals.{integer}
 use Rattle.meaning.specs.Writing.{isNegative}
 use Rattle.meaning.specs.declared.Refusal.{Refusal}
-use Rattle.meaning.specs.declared.Refusal.the-variants.{PatternTooLong, PatternByte, LoneQuote, FieldRange, NoRoom, TextTooLong, TextByte, InPart, OffsetLength, OffsetRange, CurrentYear}
+use Rattle.meaning.specs.declared.Refusal.the-variants.{PatternTooLong, PatternByte, LoneQuote, FieldRange, NoRoom, TextTooLong, TextByte, InPart, OffsetLength, OffsetRange, CurrentYear, TextLeft}
 use Rattle.refusals.specs.Told.{told, detailOf}
 use Rattle.refusals.specs.declared.Told.{Told}
 
@@ -32,6 +32,7 @@ told-details (InPart why part place) = refl
 told-details (OffsetLength n) = refl
 told-details (OffsetRange which) = refl
 told-details (CurrentYear year) = ap (λ z. z ∷ []) (sign-and-size year)
+told-details (TextLeft place) = refl
 
 -- for a caller that gives the details on
 pub tells-details : {t : Told} (why : Refusal) → t ≡ told why → detailsOf t ≡ details why

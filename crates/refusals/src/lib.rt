@@ -28,6 +28,7 @@ fn number_of(trouble: Trouble) -> u32
         Trouble::NoNumber => 9,
         Trouble::NoName => 10,
         Trouble::NoSign => 11,
+        Trouble::LiteralDiffers => 15,
         Trouble::PlusSign => 19,
     }
 }
@@ -84,5 +85,6 @@ pub fn tell(why: Refusal) -> Told
             second: detail_of(0),
             two: false,
         },
+        Refusal::TextLeft(place) => with_one(16, place),
     }
 }

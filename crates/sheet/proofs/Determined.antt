@@ -13,12 +13,13 @@ use borrow.Author.Tests.{leb-true}
 use Rattle.laws.proofs.Determined.{determined}
 use Rattle.meaning.specs.Answers.{Answer, fieldNumbers, verdictAnswer}
 use Rattle.meaning.specs.Names.{english}
+use Rattle.meaning.specs.declared.Choices.{Choices}
 use Rattle.meaning.specs.declared.Fields.{Fields}
 use Rattle.meaning.specs.declared.Pair.{Pair}
 use Rattle.meaning.specs.declared.Verdict.{Verdict}
 use Rattle.meaning.specs.declared.Verdict.the-variants.{Yes, No, Refused}
 use Rattle.sheet.specs.Rows.{inRow, Given}
-use Rattle.sheet.specs.Sheet.{has, ifRoom, SheetWrites, SheetReads, SheetTellsRead, SheetParsesOffset, SheetSplits, SheetUnits, SheetChecks}
+use Rattle.sheet.specs.Sheet.{has, ifRoom, SheetWrites, SheetReads, SheetReadsWith, SheetTellsRead, SheetParsesOffset, SheetSplits, SheetUnits, SheetChecks}
 use Rattle.trust.proofs.Agreement.{SameButRecord, answers-coincide}
 
 given-coincide : {answer : Answer} {old new new′ : List ℤ} {r r′ : ℕ} → Given answer old new r → Given answer old new′ r′ → (r ≡ r′) × (new ≡ new′)
@@ -35,9 +36,13 @@ pub writes-coincide : (pair : Pair) (p : List ℕ) (f : Fields) (out : List ℕ)
     → (r ≡ r′) × (rowAfter ≡ rowAfter′) × (outAfter ≡ outAfter′)
 writes-coincide pair p f out row = both-coincide
 
-pub reads-coincide : (pair : Pair) (p s : List ℕ) (current : ℤ) (row : List ℤ) {r r′ : ℕ} {rowAfter rowAfter′ : List ℤ}
-    → SheetReads pair p s current row r rowAfter → SheetReads pair p s current row r′ rowAfter′ → (r ≡ r′) × (rowAfter ≡ rowAfter′)
-reads-coincide pair p s current row = given-coincide
+pub reads-coincide : (choices : Choices) (p s : List ℕ) (current : ℤ) (row : List ℤ) {r r′ : ℕ} {rowAfter rowAfter′ : List ℤ}
+    → SheetReads choices p s current row r rowAfter → SheetReads choices p s current row r′ rowAfter′ → (r ≡ r′) × (rowAfter ≡ rowAfter′)
+reads-coincide choices p s current row = given-coincide
+
+pub reads-with-coincide : (n : ℕ) (p s : List ℕ) (current : ℤ) (row : List ℤ) {r r′ : ℕ} {rowAfter rowAfter′ : List ℤ}
+    → SheetReadsWith n p s current row r rowAfter → SheetReadsWith n p s current row r′ rowAfter′ → (r ≡ r′) × (rowAfter ≡ rowAfter′)
+reads-with-coincide n p s current row = given-coincide
 
 pub told-coincide : (mask : ℤ) (unit : ℕ) {r r′ : ℕ} → SheetTellsRead mask unit r → SheetTellsRead mask unit r′ → r ≡ r′
 told-coincide mask unit = determined

@@ -1,13 +1,13 @@
 -- The answers to what can be lent fit a row: each slice has fewer than 2 ^ 63 bytes, and the current year has 32 bits.
-use mathlib.Core.Bool.{Bool}
+use mathlib.Core.Bool.{Bool, false}
 use mathlib.Core.List.{List, [], _∷_}
 use mathlib.Core.Path.{_≡_, refl}
 use Prim.Native.Char.{code}
-use Prim.Native.Nat.{ℕ, zero, suc, _+_, _*_, _≤_}
+use Prim.Native.Nat.{ℕ, suc, _+_, _*_, _≤_}
 use native.Mathlib.Omega.{arith}
-use lib.Dec.{eqb, leb}
+use lib.Dec.{eqb, leb, ltb}
 use lib.IntN.{ℤ, pos, negsuc, negℤ, natAbs}
-use lib.ListN.{length, getD, drop, length-drop, length-map}
+use lib.ListN.{length, getD, drop, length-drop}
 use Rattle.pattern.proofs.parts.Few.{few-steps}
 use mir.Syntax.{w32}
 use mir.Val.{SFits}
@@ -15,19 +15,20 @@ use Rattle.laws.proofs.Checks.{write-fine}
 use Rattle.laws.proofs.Fields.{allowed}
 use Rattle.laws.proofs.Sizes as sizes
 use Rattle.laws.proofs.Tests.{when-is}
-use Rattle.meaning.specs.Answers.{_else_, refuseUnless, within, byteCheck, bytesCheck, endsInLoneQuote, patternCheck, fieldsCheck, roomCheck, textCheck, currentYearCheck, details}
-use Rattle.meaning.specs.Bytes.{when, plus}
+use Rattle.meaning.specs.Answers.{_else_, refuseUnless, within, byteCheck, bytesCheck, endsInLoneQuote, patternCheck, fieldsCheck, roomCheck, textCheck, currentYearCheck, restCheck, details}
+use Rattle.meaning.specs.Bytes.{when, both, plus}
 use Rattle.meaning.specs.Names.{Book, english}
 use Rattle.meaning.specs.Numerals.{Signed}
 use Rattle.meaning.specs.Readers.{Got, got, stopped}
 use Rattle.meaning.specs.Reading.{readStep}
-use Rattle.meaning.specs.Splitting.{contents, lengthOf}
-use Rattle.meaning.specs.Trust.{Says, trustCheck}
-use Rattle.meaning.specs.Whole.{text, writeCheck, wroteBy, write, Walk, walked, refusedAt, walk, readBy, readCheck, read, offsetBy, seconds, hourAndMinute, twoAt, parseOffset}
-use Rattle.meaning.specs.Writing.{Step, stepOf, steps, isNegative}
+use Rattle.meaning.specs.Splitting.{contents}
+use Rattle.meaning.specs.Trust.{SaysOf, Says, trustCheck}
+use Rattle.meaning.specs.Whole.{text, writeCheck, wroteBy, write, Walk, walked, refusedAt, walkedBy, walk, readBy, readCheck, read, offsetBy, seconds, hourAndMinute, twoAt, parseOffset}
+use Rattle.meaning.specs.Writing.{Step, steps, isNegative}
 use Rattle.meaning.specs.declared.Carried.{Carried}
 use Rattle.meaning.specs.declared.Checked.{Checked}
 use Rattle.meaning.specs.declared.Checked.the-variants.{Fine, Refused}
+use Rattle.meaning.specs.declared.Choices.{Choices}
 use Rattle.meaning.specs.declared.Fields.{Fields}
 use Rattle.meaning.specs.declared.Numeral.the-variants.{Count}
 use Rattle.meaning.specs.declared.Offset.{Offset}
@@ -37,8 +38,6 @@ use Rattle.meaning.specs.declared.Pair.the-variants.{Full}
 use Rattle.meaning.specs.declared.Refusal.the-variants.{LoneQuote, FieldRange, NoRoom, TextTooLong, TextByte, InPart, OffsetLength, OffsetRange, CurrentYear}
 use Rattle.meaning.specs.declared.Verdict.{Verdict}
 use Rattle.meaning.specs.declared.Verdict.the-variants as verdict
-use Rattle.pattern.proofs.parts.First.{contents-first, first-sized}
-use Rattle.pattern.specs.First.{firstContent}
 use Rattle.sheet.proofs.entries.Fits.{else-fits, unless-fits, byte-fits, bytes-fit}
 use Rattle.sheet.specs.Fits.{NumberFits, CheckedFits, WroteFits, ReadFits, OffsetFits, VerdictFits}
 use Rattle.parse.proofs.steps.Within.{Within, within-take}
@@ -122,7 +121,12 @@ abbrev WalkFits : Walk → Type 0
 WalkFits (walked taken gave) = NumberFits taken
 WalkFits (refusedAt checked) = CheckedFits checked
 
-module _ (book : Book) (current : ℕ) where
+rest-fits : (strict : Bool) (at : ℕ) (s : List ℕ) (gave : List Carried) → NumberFits at → WalkFits (walkedBy (restCheck strict at s) at gave)
+unfolding details
+rest-fits strict at s gave h =
+    when-is (λ (checked : Checked). WalkFits (walkedBy checked at gave)) (both strict (ltb 0 (length s))) (λ _. (h, tt)) (λ _. h)
+
+module _ (choices : Choices) (book : Book) (current : ℕ) where
   -- by what a part gave
   part-fits : (i at room : ℕ) (g : Got Carried) (next : ℕ → Carried → Walk) → NumberFits i → NumberFits (at + room) → Within room g
       → ((n : ℕ) (c : Carried) → n ≤ room → WalkFits (next n c))
@@ -132,12 +136,12 @@ module _ (book : Book) (current : ℕ) where
   part-fits i at room (stopped why place) next h k w on = (h, (omega arith, tt))
 
   walk-fits : (i at : ℕ) (ss : List Step) (s : List ℕ) (gave : List Carried) → NumberFits (i + length ss) → NumberFits (at + length s)
-      → WalkFits (walk book current i at ss s gave)
+      → WalkFits (walk choices book current i at ss s gave)
   unfolding walk
-  walk-fits i at [] s gave h k = omega arith
+  walk-fits i at [] s gave h k = rest-fits (choices .strict) at s gave (omega arith)
   walk-fits i at (step ∷ ss) s gave h k =
-      part-fits i at (length s) (readStep book current step s) (λ n c. walk book current (suc i) (at + n) ss (drop n s) (c ∷ gave))
-      (omega arith) k (within-step book current step s)
+      part-fits i at (length s) (readStep choices book current step s) (λ n c. walk choices book current (suc i) (at + n) ss (drop n s) (c ∷ gave))
+      (omega arith) k (within-step choices book current step s)
       (λ n c l. walk-fits (suc i) (at + n) ss (drop n s) (c ∷ gave) (omega arith) (omega (arith, length-drop n s)))
 
 read-by-fits : (checked : Checked) (w : Walk) → CheckedFits checked → WalkFits w → ReadFits (readBy checked w)
@@ -145,14 +149,14 @@ read-by-fits Fine (walked taken gave) h k = (k, tt)
 read-by-fits Fine (refusedAt checked) h k = (omega arith, k)
 read-by-fits (Refused why) w h k = (omega arith, h)
 
-pub read-fits : (pair : Pair) (p s : List ℕ) (current : ℤ) → NumberFits (length p) → NumberFits (length s) → SFits w32 current
-    → ReadFits (read pair english p s current)
+pub read-fits : (choices : Choices) (p s : List ℕ) (current : ℤ) → NumberFits (length p) → NumberFits (length s) → SFits w32 current
+    → ReadFits (read choices english p s current)
 unfolding read readCheck
-read-fits pair p s current h k y =
+read-fits choices p s current h k y =
     let checks = else-fits (patternCheck p) (currentYearCheck current else textCheck s) (pattern-fits p h)
     (λ _. else-fits (currentYearCheck current) (textCheck s) (year-fits current y) (λ _. text-fits s k)) in
-    read-by-fits (readCheck p s current) (walk english (natAbs current) 0 0 (steps pair p) s []) checks
-    (walk-fits english (natAbs current) 0 0 (steps pair p) s [] (omega (arith, few-steps pair p)) (omega arith))
+    read-by-fits (readCheck p s current) (walk choices english (natAbs current) 0 0 (steps (choices .pair) p) s []) checks
+    (walk-fits choices english (natAbs current) 0 0 (steps (choices .pair) p) s [] (omega (arith, few-steps (choices .pair) p)) (omega arith))
 
 -- parse_offset
 
@@ -192,10 +196,10 @@ offset-fits s h =
 -- the check
 
 pub verdict-fits : (p : List ℕ) (current : ℤ) (v : Verdict) → NumberFits (length p) → SFits w32 current → Says english p current v → VerdictFits v
-unfolding Says trustCheck
+unfolding SaysOf trustCheck
 verdict-fits p current verdict.Yes h y s = tt
 verdict-fits p current (verdict.No part f) h y s =
-    (omega (arith, s .1 .there, few-steps Full p), omega (arith, allowed f (s .1 .allowed) .nanos))
+    (omega (arith, s false .1 .there, few-steps Full p), omega (arith, allowed f (s false .1 .allowed) .nanos))
 verdict-fits p current (verdict.Refused why) h y s =
     let checks = else-fits (patternCheck p) (currentYearCheck current) (pattern-fits p h) (λ _. year-fits current y) in
-    rw s at checks
+    rw (s false) at checks

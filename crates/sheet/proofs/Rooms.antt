@@ -1,4 +1,4 @@
--- An answer that fills its row with no zeros; one where the lent row has room for it, and where it has none.
+-- An answer that fills its row with no zeros; one where the lent row has room for it, and where it has none; one by choices.
 use mathlib.Core.List.{List, append-nil}
 use mathlib.Core.Path.{_≡_, refl}
 use Prim.Native.Nat.{ℕ, _≤_, _<_}
@@ -8,7 +8,7 @@ use lib.IntN.{ℤ}
 use lib.ListN.{length}
 use Rattle.meaning.specs.Answers.{Answer, accepted}
 use Rattle.sheet.specs.Rows.{inRow, Given, laid}
-use Rattle.sheet.specs.Sheet.{has, ifRoom, InTwoRows}
+use Rattle.sheet.specs.Sheet.{has, ifRoom, ifChoices, InTwoRows}
 
 pub full : {old new vs : List ℤ} {r : ℕ} (n : ℕ) → length vs ≡ n → Given (accepted vs) old new r → Given (inRow n (accepted vs)) old new r
 full {vs = vs} n long given = rw (long, sub-self n, append-nil vs) given
@@ -19,6 +19,14 @@ module _ (n : ℕ) (row : List ℤ) (answer : Answer) where
 
   pub no-room : length row < n → Given (ifRoom (has n row) (inRow n answer)) row row 100
   no-room h = rw (lt-leb n (length row) h) (record { number = refl; row = refl })
+
+-- an answer where a number stands for choices, and where it does not
+module _ (n : ℕ) (row : List ℤ) (answer : Answer) where
+  pub chosen : {new : List ℤ} {r : ℕ} → n ≤ 3 → Given answer row new r → Given (ifChoices n answer) row new r
+  chosen h given = rw (le-leb n 3 h) given
+
+  pub no-choices : 3 < n → Given (ifChoices n answer) row row 101
+  no-choices h = rw (lt-leb n 3 h) (record { number = refl; row = refl })
 
 -- an answer in its row and numbers in a second one
 module _ (n : ℕ) (row more numbers : List ℤ) (answer : Answer) where

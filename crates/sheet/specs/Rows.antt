@@ -3,21 +3,22 @@ use mathlib.Core.Bool.{Bool, false}
 use mathlib.Core.List.{List, [], _∷_, _++_, map}
 use mathlib.Core.Option.{Option, none, some}
 use mathlib.Core.Path.{_≡_}
-use Prim.Native.Nat.{ℕ, _-_}
-use lib.Dec.{leb}
+use Prim.Native.Nat.{ℕ, _-_, _/_, _%_}
+use lib.Dec.{eqb, leb}
 use lib.IntN.{ℤ, pos, negsuc}
 use lib.ListN.{length, replicate}
 use lib.Seq.{sets}
 use Rattle.meaning.specs.Answers.{Answer, bytesCheck}
-use Rattle.meaning.specs.Bytes.{both}
+use Rattle.meaning.specs.Bytes.{when, both}
 use Rattle.meaning.specs.Reading.{StepUnit, itself, symbol, stepUnit}
 use Rattle.meaning.specs.Whole.{unitNumber, marked}
 use Rattle.meaning.specs.Writing.{Step, steps}
 use Rattle.meaning.specs.declared.Checked.{Checked}
 use Rattle.meaning.specs.declared.Checked.the-variants.{Fine, Refused}
+use Rattle.meaning.specs.declared.Choices.{Choices}
 use Rattle.meaning.specs.declared.Kind.{Kind}
 use Rattle.meaning.specs.declared.Kind.the-variants.{Run, Quotes, Quoted, Open}
-use Rattle.meaning.specs.declared.Pair.the-variants.{Full}
+use Rattle.meaning.specs.declared.Pair.the-variants.{Full, Date}
 use Rattle.meaning.specs.declared.ParseUnit.{ParseUnit}
 use Rattle.meaning.specs.declared.Part.{Part}
 use Rattle.meaning.specs.declared.Split.{Split}
@@ -25,6 +26,10 @@ use Rattle.meaning.specs.declared.Split.{Split}
 -- an answer in a row of so many numbers: its values, then zeros
 abbrev pub inRow : ℕ → Answer → Answer
 inRow n a = record { number = a .number; values = a .values ++ replicate (n - length (a .values)) (pos 0) }
+
+-- the choices that a number stands for: 1 is the Date pair, 2 a strict reading, added
+abbrev pub choicesOf : ℕ → Choices
+choicesOf n = record { pair = when (eqb (n % 2) 1) Date Full; strict = eqb (n / 2 % 2) 1 }
 
 -- whether a mask has the bit of a unit, of which there are fifteen; a number below 0 is no mask and has none
 abbrev pub isMarked : ℤ → ℕ → Bool

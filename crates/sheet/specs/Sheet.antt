@@ -1,5 +1,5 @@
 -- What each function for C and Rust promises of the number r that it returns and of the lent rows afterwards. Where a lent row
--- is too small for the answer, r is 100 and nothing is altered.
+-- is too small for the answer, r is 100, where a number stands for no choices, 101, and nothing is altered.
 use mathlib.Core.Bool.{Bool}
 use mathlib.Core.List.{List, []}
 use mathlib.Core.Path.{_≡_}
@@ -12,10 +12,11 @@ use Rattle.meaning.specs.Bytes.{when, both}
 use Rattle.meaning.specs.Names.{english}
 use Rattle.meaning.specs.Trust.{Says}
 use Rattle.meaning.specs.Whole.{split, write, output, read, parseOffset}
+use Rattle.meaning.specs.declared.Choices.{Choices}
 use Rattle.meaning.specs.declared.Fields.{Fields}
 use Rattle.meaning.specs.declared.Pair.{Pair}
 use Rattle.meaning.specs.declared.Verdict.{Verdict}
-use Rattle.sheet.specs.Rows.{inRow, Given, laid, isMarked, splitNumbers, unitEntries}
+use Rattle.sheet.specs.Rows.{inRow, Given, laid, choicesOf, isMarked, splitNumbers, unitEntries}
 
 -- whether a row has so many entries
 abbrev pub has : {A : Type 0} → ℕ → List A → Bool
@@ -25,13 +26,25 @@ has n row = leb n (length row)
 abbrev pub ifRoom : Bool → Answer → Answer
 ifRoom room answer = when room answer (record { number = 100; values = [] })
 
+-- an answer where a number stands for choices
+abbrev pub ifChoices : ℕ → Answer → Answer
+ifChoices n answer = when (leb n 3) answer (record { number = 101; values = [] })
+
 abbrev pub SheetWrites : Pair → List ℕ → Fields → List ℕ → List ℤ → ℕ → List ℕ → List ℤ → Type 0
 SheetWrites pair p f out row r outAfter rowAfter =
     Given (ifRoom (has 2 row) (inRow 2 (wroteAnswer (write pair english p f out)))) row rowAfter r
     × (outAfter ≡ when (has 2 row) (output pair english p f out) out)
 
-abbrev pub SheetReads : Pair → List ℕ → List ℕ → ℤ → List ℤ → ℕ → List ℤ → Type 0
-SheetReads pair p s current row r rowAfter = Given (ifRoom (has 18 row) (inRow 18 (readAnswer (read pair english p s current)))) row rowAfter r
+-- the answer of a read
+abbrev pub readOf : Choices → List ℕ → List ℕ → ℤ → List ℤ → Answer
+readOf choices p s current row = ifRoom (has 18 row) (inRow 18 (readAnswer (read choices english p s current)))
+
+abbrev pub SheetReads : Choices → List ℕ → List ℕ → ℤ → List ℤ → ℕ → List ℤ → Type 0
+SheetReads choices p s current row r rowAfter = Given (readOf choices p s current row) row rowAfter r
+
+-- with choices by their number, where it is one
+abbrev pub SheetReadsWith : ℕ → List ℕ → List ℕ → ℤ → List ℤ → ℕ → List ℤ → Type 0
+SheetReadsWith n p s current row r rowAfter = Given (ifChoices n (readOf (choicesOf n) p s current row)) row rowAfter r
 
 abbrev pub SheetTellsRead : ℤ → ℕ → ℕ → Type 0
 SheetTellsRead mask unit r = r ≡ when (isMarked mask unit) 1 0

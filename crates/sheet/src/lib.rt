@@ -7,18 +7,22 @@ pub mod splits;
 pub mod units;
 pub mod verdicts;
 
-ghost use Rattle.sheet.specs.Sheet.{SheetWrites, SheetReads, SheetParsesOffset, SheetSplits, SheetUnits, SheetChecks, SheetTellsRead};
+ghost use Rattle.meaning.specs.Whole.{plain};
+ghost use Rattle.sheet.specs.Sheet.{SheetWrites, SheetReads, SheetReadsWith, SheetParsesOffset, SheetSplits, SheetUnits, SheetChecks, SheetTellsRead};
 use crate::answers::give_offset;
 use crate::answers::give_wrote;
+use crate::readings::choices_of;
 use crate::readings::give_reading;
 use crate::readings::is_marked;
 use crate::splits::give_split;
 use crate::units::give_units;
 use crate::verdicts::give_verdict;
+use meaning::Choices;
 use meaning::Fields;
 use meaning::Pair;
 use reader::offset::parse_offset;
 use reader::parse_with;
+use reader::plain;
 use verdict::verdict_on;
 use writer::format_with;
 
@@ -31,13 +35,13 @@ fn write(pair: Pair, pattern: &[u8], f: Fields, out: &mut [u8], row: &mut [i64])
     give_wrote(format_with(pair, pattern, f, out), row)
 }
 
-fn read(pair: Pair, pattern: &[u8], text: &[u8], year: i32, row: &mut [i64]) -> u32
-    ensures { λ r. ⌜ SheetReads pair (now (pattern .entry)) (now (text .entry)) year (now (row .entry)) r (now (row .exit)) ⌝ }
+fn read(choices: Choices, pattern: &[u8], text: &[u8], year: i32, row: &mut [i64]) -> u32
+    ensures { λ r. ⌜ SheetReads choices (now (pattern .entry)) (now (text .entry)) year (now (row .entry)) r (now (row .exit)) ⌝ }
 {
     if row.len() < 18 {
         return 100;
     }
-    give_reading(parse_with(pair, pattern, text, year), row)
+    give_reading(parse_with(choices, pattern, text, year), row)
 }
 
 // The full pair's writer. The row: the length and 0, or the refusal's details.
@@ -104,17 +108,35 @@ pub extern "C" fn sheet_write_date(
 // details and zeros, 18 numbers in all.
 #[no_mangle]
 pub extern "C" fn sheet_read(pattern: &[u8], text: &[u8], year: i32, answer: &mut [i64]) -> u32
-    ensures { λ r. ⌜ SheetReads Pair.Full (now (pattern .entry)) (now (text .entry)) year (now (answer .entry)) r (now (answer .exit)) ⌝ }
+    ensures { λ r. ⌜ SheetReads (plain Pair.Full) (now (pattern .entry)) (now (text .entry)) year (now (answer .entry)) r (now (answer .exit)) ⌝ }
 {
-    read(Pair::Full, pattern, text, year, answer)
+    read(plain(Pair::Full), pattern, text, year, answer)
 }
 
 // The Date pair's reader.
 #[no_mangle]
 pub extern "C" fn sheet_read_date(pattern: &[u8], text: &[u8], year: i32, answer: &mut [i64]) -> u32
-    ensures { λ r. ⌜ SheetReads Pair.Date (now (pattern .entry)) (now (text .entry)) year (now (answer .entry)) r (now (answer .exit)) ⌝ }
+    ensures { λ r. ⌜ SheetReads (plain Pair.Date) (now (pattern .entry)) (now (text .entry)) year (now (answer .entry)) r (now (answer .exit)) ⌝ }
 {
-    read(Pair::Date, pattern, text, year, answer)
+    read(plain(Pair::Date), pattern, text, year, answer)
+}
+
+// A reader with choices, each a number, added: 1 for the Date pair, 2 for a strict reading. The row as before. Another number
+// than 0 to 3 is no choice: 101, and nothing is altered.
+#[no_mangle]
+pub extern "C" fn sheet_read_with(
+    choices: u32,
+    pattern: &[u8],
+    text: &[u8],
+    year: i32,
+    answer: &mut [i64],
+) -> u32
+    ensures { λ r. ⌜ SheetReadsWith choices (now (pattern .entry)) (now (text .entry)) year (now (answer .entry)) r (now (answer .exit)) ⌝ }
+{
+    if 3 < choices {
+        return 101;
+    }
+    read(choices_of(choices), pattern, text, year, answer)
 }
 
 // 1 where a unit was read, by the mask of a reading, the second number of its row; else 0.

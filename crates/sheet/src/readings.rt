@@ -1,4 +1,4 @@
-// Readings as rows of numbers, and the mask of one looked at.
+// Readings as rows of numbers, the choices of one as a number, and the mask of one looked at.
 ghost use mathlib.Core.List.{_∷_};
 ghost use mathlib.Core.Path.{_≡_};
 ghost use Prim.Native.Nat.{_≤_};
@@ -7,11 +7,13 @@ ghost use lib.ListN.{length};
 ghost use Rattle.meaning.specs.Answers.{accepted, readAnswer};
 ghost use Rattle.meaning.specs.Whole.{unitNumber};
 ghost use Rattle.sheet.specs.Fits.{NumberFits, ReadFits};
-ghost use Rattle.sheet.specs.Rows.{inRow, Given, isMarked};
+ghost use Rattle.sheet.specs.Rows.{inRow, Given, choicesOf, isMarked};
 use crate::answers::give_refusal;
 use crate::entries::entry;
 use crate::entries::lay;
 use meaning::Checked;
+use meaning::Choices;
+use meaning::Pair;
 use meaning::ParseUnit;
 use meaning::Reading;
 use reader::record::was_read;
@@ -37,6 +39,20 @@ pub fn give_reading(reading: Reading, row: &mut [i64]) -> u32
     match checked {
         Checked::Fine => give_values(reading, row),
         Checked::Refused(why) => give_refusal(why, 18, row),
+    }
+}
+
+// The choices that a number stands for.
+pub fn choices_of(number: u32) -> Choices
+    ensures { λ r. ⌜ r ≡ choicesOf number ⌝ }
+{
+    Choices {
+        pair: if number % 2 == 1 {
+            Pair::Date
+        } else {
+            Pair::Full
+        },
+        strict: number / 2 % 2 == 1,
     }
 }
 

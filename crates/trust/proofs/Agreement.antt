@@ -1,4 +1,5 @@
--- Two answers that `Says` allows are the same but for the record that a no shows, whatever the names are.
+-- Two answers that `SaysOf` allows are the same but for the record that a no shows, whatever the names are.
+use mathlib.Core.Bool.{false}
 use mathlib.Core.List.{List}
 use mathlib.Core.Path.{_≡_, refl, sym, ap, _∙_}
 use Prim.Native.Nat.{ℕ, _<_}
@@ -7,10 +8,11 @@ use lib.Dec.{ltb}
 use lib.IntN.{ℤ}
 use borrow.Author.Tests.{ltb-true, ltb-false}
 use Rattle.meaning.specs.Names.{Book}
-use Rattle.meaning.specs.Trust.{AllComeBack, FailsFirst, Says}
+use Rattle.meaning.specs.Trust.{AllComeBack, FailsFirst, fullPair, SaysOf, Says}
 use Rattle.meaning.specs.Writing.{Step}
 use Rattle.meaning.specs.declared.Checked.{Checked}
 use Rattle.meaning.specs.declared.Checked.the-variants.{Fine, Refused}
+use Rattle.meaning.specs.declared.Choices.{Choices}
 use Rattle.meaning.specs.declared.Fields.{Fields}
 use Rattle.meaning.specs.declared.Refusal.{Refusal}
 use Rattle.meaning.specs.declared.Verdict.{Verdict}
@@ -34,29 +36,34 @@ SameButRecord v w = told v ≡ told w
 not-both : {c : Checked} {why : Refusal} → c ≡ Fine → c ≡ Refused why → ⊥
 not-both e d = let z : _≡_ {A = ℕ} 0 1 = cc in omega arith
 
-module _ {book : Book} {current : ℕ} {ss : List Step} where
+module _ {choices : Choices} {book : Book} {current : ℕ} {ss : List Step} where
   -- a part that fails is not among those that come back
-  not-before : {i n : ℕ} {f : Fields} → FailsFirst book current ss i f → AllComeBack book current ss n → i < n → ⊥
+  not-before : {i n : ℕ} {f : Fields} → FailsFirst choices book current ss i f → AllComeBack choices book current ss n → i < n → ⊥
   unfolding AllComeBack
   not-before {i} {n} {f} first all h = first .fails (all f (first .allowed) i h)
 
-  same-part : (i j : ℕ) {f g : Fields} → FailsFirst book current ss i f → FailsFirst book current ss j g → i ≡ j
+  same-part : (i j : ℕ) {f g : Fields} → FailsFirst choices book current ss i f → FailsFirst choices book current ss j g → i ≡ j
   same-part i j first first′ =
       by-test (ltb i j) (λ e. absurd (not-before first (first′ .earlier) (ltb-true i j e)))
       (λ e.
       by-test (ltb j i) (λ d. absurd (not-before first′ (first .earlier) (ltb-true j i d)))
       (λ d. omega (arith, ltb-false i j e, ltb-false j i d)))
 
-pub answers-coincide : (book : Book) (p : List ℕ) (current : ℤ) (v w : Verdict) → Says book p current v → Says book p current w → SameButRecord v w
-unfolding Says
-answers-coincide book p current Yes Yes a b = refl
-answers-coincide book p current Yes (No j g) a b = absurd (not-before (b .1) (a .1) (b .1 .there))
-answers-coincide book p current Yes (Refuses why) a b = absurd (not-both (a .0) b)
-answers-coincide book p current (No i f) Yes a b = absurd (not-before (a .1) (b .1) (a .1 .there))
-answers-coincide book p current (No i f) (No j g) a b = ap failsAt (same-part i j (a .1) (b .1))
-answers-coincide book p current (No i f) (Refuses why) a b = absurd (not-both (a .0) b)
-answers-coincide book p current (Refuses why) Yes a b = absurd (not-both (b .0) a)
-answers-coincide book p current (Refuses why) (No j g) a b = absurd (not-both (b .0) a)
-answers-coincide book p current (Refuses why) (Refuses why′) a b =
+pub answers-of-coincide : (choices : Choices) (book : Book) (p : List ℕ) (current : ℤ) (v w : Verdict) → SaysOf choices book p current v
+    → SaysOf choices book p current w → SameButRecord v w
+unfolding SaysOf
+answers-of-coincide choices book p current Yes Yes a b = refl
+answers-of-coincide choices book p current Yes (No j g) a b = absurd (not-before (b .1) (a .1) (b .1 .there))
+answers-of-coincide choices book p current Yes (Refuses why) a b = absurd (not-both (a .0) b)
+answers-of-coincide choices book p current (No i f) Yes a b = absurd (not-before (a .1) (b .1) (a .1 .there))
+answers-of-coincide choices book p current (No i f) (No j g) a b = ap failsAt (same-part i j (a .1) (b .1))
+answers-of-coincide choices book p current (No i f) (Refuses why) a b = absurd (not-both (a .0) b)
+answers-of-coincide choices book p current (Refuses why) Yes a b = absurd (not-both (b .0) a)
+answers-of-coincide choices book p current (Refuses why) (No j g) a b = absurd (not-both (b .0) a)
+answers-of-coincide choices book p current (Refuses why) (Refuses why′) a b =
     let e : Refused why ≡ Refused why′ = sym a ∙ b in
     cc
+
+-- and so are two answers of the check
+pub answers-coincide : (book : Book) (p : List ℕ) (current : ℤ) (v w : Verdict) → Says book p current v → Says book p current w → SameButRecord v w
+answers-coincide book p current v w a b = answers-of-coincide (fullPair false) book p current v w (a false) (b false)

@@ -1,20 +1,21 @@
 -- Demand 3: the answer of the check does not depend on the current year, as long as that is one of 1..9999. Another record may
 -- fail in one year alone: 2025 by yy comes back in 2025 and not in 1999.
+use mathlib.Core.Bool.{Bool, false}
 use mathlib.Core.List.{List}
 use mathlib.Core.Path.{_≡_, sym, _∙_}
 use Prim.Native.Nat.{ℕ}
 use lib.IntN.{ℤ, natAbs}
 use Rattle.meaning.specs.Answers.{currentYearCheck}
 use Rattle.meaning.specs.Names.{english}
-use Rattle.meaning.specs.Trust.{FailsFirst, Says, trustCheck}
+use Rattle.meaning.specs.Trust.{FailsFirst, fullPair, SaysOf, Says, trustCheck}
 use Rattle.meaning.specs.Writing.{steps}
 use Rattle.meaning.specs.declared.Checked.the-variants.{Fine}
 use Rattle.meaning.specs.declared.Fields.{Fields}
 use Rattle.meaning.specs.declared.Pair.the-variants.{Full}
 use Rattle.meaning.specs.declared.Verdict.{Verdict}
 use Rattle.meaning.specs.declared.Verdict.the-variants.{No}
-use Rattle.trust.proofs.Agreement.{SameButRecord, answers-coincide}
-use Rattle.trust.proofs.Verdicts.{verdict-says}
+use Rattle.trust.proofs.Agreement.{SameButRecord}
+use Rattle.trust.proofs.Verdicts.{verdict-says, told-as-checked}
 use Rattle.trust.specs.Check.{verdictOf}
 
 module _ (p : List ℕ) (current current′ : ℤ) (allowed : currentYearCheck current ≡ Fine) (allowed′ : currentYearCheck current′ ≡ Fine) where
@@ -26,14 +27,14 @@ module _ (p : List ℕ) (current current′ : ℤ) (allowed : currentYearCheck c
   -- any two answers that the promise allows, one in each year, are the same but for the record
   pub same-answer : (v v′ : Verdict) → Says english p current v → Says english p current′ v′ → SameButRecord v v′
   same-answer v v′ says says′ =
-      answers-coincide english p current v (verdictOf p current) says (verdict-says p current)
-      ∙ rw same-verdict (answers-coincide english p current′ (verdictOf p current′) v′ (verdict-says p current′) says′)
+      told-as-checked p current false v (says false)
+      ∙ rw same-verdict (sym (told-as-checked p current′ false v′ (says′ false)))
 
   -- the record that the check shows in one year fails in the other as well
-  pub record-fails : (part : ℕ) (f : Fields) → verdictOf p current ≡ No part f
-      → FailsFirst english (natAbs current′) (steps Full p) part f
-  unfolding Says
-  record-fails part f e =
+  pub record-fails : (strict : Bool) (part : ℕ) (f : Fields) → verdictOf p current ≡ No part f
+      → FailsFirst (fullPair strict) english (natAbs current′) (steps Full p) part f
+  unfolding SaysOf
+  record-fails strict part f e =
       let e′ : verdictOf p current′ ≡ No part f = sym same-verdict ∙ e in
       let says : Says english p current′ (No part f) = rw e′ at (verdict-says p current′) in
-      says .1
+      says strict .1

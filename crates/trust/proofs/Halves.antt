@@ -1,7 +1,7 @@
 -- Two half patterns and the check. The answer for the join is that for the first, before two bytes that begin as the second can,
 -- and then that for the second. Where the check says yes to the join, the two texts side by side are read part by part as each
 -- half reads its own.
-use mathlib.Core.Bool.{false}
+use mathlib.Core.Bool.{Bool, false}
 use mathlib.Core.List.{List, [], _++_, map, reverse, append-nil, map-append, reverse-append}
 use mathlib.Core.Path.{_≡_, refl, sym, ap, _∙_}
 use Prim.Native.Nat.{ℕ, _+_}
@@ -11,7 +11,7 @@ use lib.ListN.{length, length-append}
 use Rattle.meaning.specs.Answers.{currentYearCheck, patternCheck, fieldsCheck}
 use Rattle.meaning.specs.Names.{english}
 use Rattle.meaning.specs.Reading.{carriedStep}
-use Rattle.meaning.specs.Trust.{trustCheck, Says}
+use Rattle.meaning.specs.Trust.{trustCheck, fullPair, Says}
 use Rattle.meaning.specs.Whole.{Walk, walked, walk, text}
 use Rattle.meaning.specs.Writing.{Step, steps}
 use Rattle.meaning.specs.declared.Checked.{Checked}
@@ -22,13 +22,14 @@ use Rattle.meaning.specs.declared.Verdict.{Verdict}
 use Rattle.meaning.specs.declared.Verdict.the-variants.{Yes, No, Refused}
 use Rattle.laws.proofs.Halves.{check-join, steps-join, text-join}
 use Rattle.laws.specs.Halves.{Beside}
-use Rattle.trust.proofs.Agreement.{told, answers-coincide}
+use Rattle.trust.proofs.Agreement.{told}
 use Rattle.trust.proofs.Before.{BeginAlike, failing-join, failing-later, stand-in-alike, stand-in-holds, nothing-alike, nothing-holds, holds-alone, not-yes}
-use Rattle.trust.proofs.Verdicts.{verdict-says}
-use Rattle.trust.proofs.Walks.{carried, walk-yes}
+use Rattle.trust.proofs.Verdicts.{verdict-says, told-as-checked}
+use Rattle.trust.proofs.Walks.{walk-yes}
 use Rattle.trust.specs.Ahead.{digitFirst, digitSecond}
 use Rattle.trust.specs.Check.{firstFailing, verdictBy, verdictOf}
 use Rattle.trust.specs.Halves.{standIn, verdictBefore, later, andThen}
+use Rattle.trust.specs.ReadBack.{carriedBy}
 
 -- a yes of two answers
 
@@ -61,7 +62,7 @@ told-yes (Refused why) h = absurd (let z : _≡_ {A = ℕ} 0 1 = cc in omega ari
 
 says-yes : (p : List ℕ) (current : ℤ) → Says english p current Yes → verdictOf p current ≡ Yes
 says-yes p current h =
-    told-yes (verdictOf p current) (answers-coincide english p current Yes (verdictOf p current) h (verdict-says p current))
+    told-yes (verdictOf p current) (told-as-checked p current false Yes (h false))
 
 yes-says : (p : List ℕ) (current : ℤ) → verdictOf p current ≡ Yes → Says english p current Yes
 yes-says p current e = rw e at (verdict-says p current)
@@ -125,10 +126,11 @@ module _ {p q : List ℕ} (beside : Beside p q) (current : ℤ) where
   says-join first second a b =
       yes-says (p ++ q) current (verdict-no-digit first second ∙ rw (says-yes p current a, says-yes q current b))
 
-  -- Where the check says yes to the join, each half is read from its own text, and the join as the one and then the other.
-  module _ (says : Says english (p ++ q) current Yes) (f : Fields) (fine : fieldsCheck f ≡ checked.Fine) where
+  -- Where the check says yes to the join, each half is read from its own text, and the join as the one and then the other, by a
+  -- strict reading and by a plain one.
+  module _ (strict : Bool) (says : Says english (p ++ q) current Yes) (f : Fields) (fine : fieldsCheck f ≡ checked.Fine) where
     abbrev reading : List ℕ → List ℕ → Walk
-    reading pattern s = walk english (natAbs current) 0 0 (steps Full pattern) s []
+    reading pattern s = walk (fullPair strict) english (natAbs current) 0 0 (steps Full pattern) s []
 
     abbrev one : List ℕ
     one = text Full english p f
@@ -136,17 +138,17 @@ module _ {p q : List ℕ} (beside : Beside p q) (current : ℤ) where
     abbrev other : List ℕ
     other = text Full english q f
 
-    carried-join : carried f (steps Full (p ++ q)) ≡ carried f (steps Full q) ++ carried f (steps Full p)
+    carried-join : carriedBy f (steps Full (p ++ q)) ≡ carriedBy f (steps Full q) ++ carriedBy f (steps Full p)
     carried-join =
-        ap (carried f) (steps-join beside Full) ∙ ap reverse (map-append (λ s. carriedStep s f) (steps Full p) (steps Full q))
+        ap (carriedBy f) (steps-join beside Full) ∙ ap reverse (map-append (λ s. carriedStep s f) (steps Full p) (steps Full q))
         ∙ reverse-append (map (λ s. carriedStep s f) (steps Full p)) (map (λ s. carriedStep s f) (steps Full q))
 
-    pub walk-join : (reading p one ≡ walked (length one) (carried f (steps Full p)))
-        × (reading q other ≡ walked (length other) (carried f (steps Full q)))
-        × (reading (p ++ q) (one ++ other) ≡ walked (length one + length other) (carried f (steps Full q) ++ carried f (steps Full p)))
+    pub walk-join : (reading p one ≡ walked (length one) (carriedBy f (steps Full p)))
+        × (reading q other ≡ walked (length other) (carriedBy f (steps Full q)))
+        × (reading (p ++ q) (one ++ other) ≡ walked (length one + length other) (carriedBy f (steps Full q) ++ carriedBy f (steps Full p)))
     walk-join =
         let halves = says-halves says in (
-          walk-yes english p current (halves .0) f fine,
-          walk-yes english q current (halves .1) f fine,
-          rw (text-join beside Full english f, length-append one other, carried-join) at (walk-yes english (p ++ q) current says f fine),
+          walk-yes (fullPair strict) english p current (halves .0 strict) f fine,
+          walk-yes (fullPair strict) english q current (halves .1 strict) f fine,
+          rw (text-join beside Full english f, length-append one other, carried-join) at (walk-yes (fullPair strict) english (p ++ q) current (says strict) f fine),
         )

@@ -6,6 +6,7 @@ pub mod Fails
 pub mod Fitting
 pub mod Halves
 pub mod NameRules
+pub mod ReadBack
 pub mod RealDays
 pub mod RulesAhead
 pub mod Samples

@@ -1,5 +1,5 @@
 -- A part comes back for every allowed record where the parts behind it meet its need, and else fails for the record shown.
-use mathlib.Core.Bool.{true, false}
+use mathlib.Core.Bool.{Bool, true, false}
 use mathlib.Core.List.{List, [], _∷_, _++_}
 use mathlib.Core.Path.{_≡_, refl, sym}
 use Prim.Native.Nat.{ℕ, _-_, _≤_, _<_}
@@ -8,19 +8,20 @@ use native.Mathlib.Omega.{arith}
 use lib.ListN.{length, take, length-append, length-take}
 use borrow.Author.Tests.{not-true, not-false}
 use Rattle.meaning.specs.Names.{english}
-use Rattle.meaning.specs.Readers.{got, skip}
-use Rattle.meaning.specs.Reading.{passed, readStep, carriedStep}
+use Rattle.meaning.specs.Readers.{got, skip, same}
+use Rattle.meaning.specs.Reading.{literalRead, readStep, carriedStep}
 use Rattle.meaning.specs.Writing.{Step, endsInQuote, stepText, texts}
 use Rattle.meaning.specs.declared.Carried.the-variants as carried
+use Rattle.meaning.specs.declared.Choices.{Choices}
 use Rattle.meaning.specs.declared.Fields.{Fields}
 use Rattle.laws.proofs.Fields.{Allowed, allowed}
-use Rattle.laws.proofs.Readers.{skip-goes-on}
+use Rattle.laws.proofs.Readers.{skip-goes-on, same-goes-on}
 use Rattle.laws.proofs.Tests.{true-is-not-false}
 use Rattle.trust.proofs.Ahead.{first-byte, no-first-digit, second-byte, no-second-digit}
 use Rattle.trust.proofs.Fails.{Shown, rule-fails}
 use Rattle.trust.proofs.Fitting.{Fitting, symbol-first, literal-first, open-last}
 use Rattle.trust.proofs.Sound.{Met, rule-comes-back}
-use Rattle.trust.proofs.Takes.{takes-got, takes-skip, takes-done}
+use Rattle.trust.proofs.Takes.{Takes, takes-got, takes-skip, takes-same, takes-done}
 use Rattle.trust.proofs.Witness.{witness-fine}
 use Rattle.trust.specs.Ahead.{digitFirst, digitSecond}
 use Rattle.trust.specs.Check.{meets, witness, shortNumbers}
@@ -45,37 +46,42 @@ shown NoSecondDigit {ss} fit e = rw (second-byte fit) (not-false (digitSecond ss
 shown Broken fit e = tt
 
 -- a part's text comes back before what the parts behind it write
-abbrev pub StepBack : ℕ → Step → List Step → Fields → Type 0
-StepBack current s ss f =
-    readStep english current s (stepText english f s ++ texts english f ss) ≡ got (length (stepText english f s)) (carriedStep s f)
+abbrev pub StepBack : Choices → ℕ → Step → List Step → Fields → Type 0
+StepBack choices current s ss f =
+    readStep choices english current s (stepText english f s ++ texts english f ss) ≡ got (length (stepText english f s)) (carriedStep s f)
 
-literal-comes-back : (s r : List ℕ) → passed (length s) (s ++ r) ≡ got (length s) carried.Nothing
-literal-comes-back s r = rw (skip-goes-on (length s) (s ++ r) (simp length-append (omega arith)), add-zero)
+literal-comes-back : (strict : Bool) (s r : List ℕ) → literalRead strict s (s ++ r) ≡ got (length s) carried.Nothing
+literal-comes-back true s r = rw (same-goes-on s r, add-zero)
+literal-comes-back false s r = rw (skip-goes-on (length s) (s ++ r) (simp length-append (omega arith)), add-zero)
 
-pub step-comes-back : (current : ℕ) {s : Step} {ss : List Step} → Fitting (s ∷ ss) → meets (stepNeed s) ss ≡ true → (f : Fields)
-    → Allowed f → StepBack current s ss f
+pub step-comes-back : (choices : Choices) (current : ℕ) {s : Step} {ss : List Step} → Fitting (s ∷ ss) → meets (stepNeed s) ss ≡ true → (f : Fields)
+    → Allowed f → StepBack choices current s ss f
 unfolding stepNeed readStep stepText carriedStep
-step-comes-back current (symbol-first {rule} {ss} fit rest) e f h = rule-comes-back current rule fit f h (texts english f ss) (met _ rest e f h)
-step-comes-back current (literal-first {s} {ss} k rest) e f h = literal-comes-back s (texts english f ss)
-step-comes-back current (open-last {s} {lost = true} k) e f h = true-is-not-false (unfold meets in sym e)
-step-comes-back current (open-last {s} {lost = false} k) e f h = literal-comes-back s (texts english f [])
+step-comes-back choices current (symbol-first {rule} {ss} fit rest) e f h = rule-comes-back current rule fit f h (texts english f ss) (met _ rest e f h)
+step-comes-back choices current (literal-first {s} {ss} k rest) e f h = literal-comes-back (choices .strict) s (texts english f ss)
+step-comes-back choices current (open-last {s} {lost = true} k) e f h = true-is-not-false (unfold meets in sym e)
+step-comes-back choices current (open-last {s} {lost = false} k) e f h = literal-comes-back (choices .strict) s (texts english f [])
 
--- an unclosed part that loses its last byte still skips it
+-- an unclosed part that loses its last byte is still read with it
 has-a-quote : (s : List ℕ) → endsInQuote s ≡ true → 0 < length s
 unfolding endsInQuote
 has-a-quote [] e = true-is-not-false (sym e)
 has-a-quote (b ∷ s) e = omega arith
 
-lost-fails : (s r : List ℕ) → endsInQuote s ≡ true
-    → passed (length s) (take (length s - 1) s ++ r) ≡ got (length (take (length s - 1) s)) carried.Nothing → ⊥
-lost-fails s r k e =
-    let t = take (length s - 1) s ++ r in
-    omega (arith, has-a-quote s k, length-take (length s - 1) s, takes-got (length s) (takes-done (length s) (skip (length s)) _ t (takes-skip (length s) t)) e)
+takes-literal : (strict : Bool) (s t : List ℕ) → Takes (length s) (literalRead strict s t)
+takes-literal true s t = takes-done (length s) (same s) _ t (takes-same s t)
+takes-literal false s t = takes-done (length s) (skip (length s)) _ t (takes-skip (length s) t)
 
-pub step-fails : (current : ℕ) → current ≤ 9999 → {s : Step} {ss : List Step} → Fitting (s ∷ ss) → meets (stepNeed s) ss ≡ false
-    → StepBack current s ss (witness (stepNeed s)) → ⊥
+lost-fails : (strict : Bool) (s r : List ℕ) → endsInQuote s ≡ true
+    → literalRead strict s (take (length s - 1) s ++ r) ≡ got (length (take (length s - 1) s)) carried.Nothing → ⊥
+lost-fails strict s r k e =
+    let t = take (length s - 1) s ++ r in
+    omega (arith, has-a-quote s k, length-take (length s - 1) s, takes-got (length s) (takes-literal strict s t) e)
+
+pub step-fails : (choices : Choices) (current : ℕ) → current ≤ 9999 → {s : Step} {ss : List Step} → Fitting (s ∷ ss) → meets (stepNeed s) ss ≡ false
+    → StepBack choices current s ss (witness (stepNeed s)) → ⊥
 unfolding stepNeed readStep stepText carriedStep
-step-fails current small (symbol-first {rule} {ss} fit rest) e back = rule-fails current small rule fit _ (shown _ rest e) back
-step-fails current small (literal-first {s} {ss} k rest) e back = true-is-not-false (unfold meets in e)
-step-fails current small (open-last {s} {lost = true} k) e back = lost-fails s _ (sym k) back
-step-fails current small (open-last {s} {lost = false} k) e back = true-is-not-false (unfold meets in e)
+step-fails choices current small (symbol-first {rule} {ss} fit rest) e back = rule-fails current small rule fit _ (shown _ rest e) back
+step-fails choices current small (literal-first {s} {ss} k rest) e back = true-is-not-false (unfold meets in e)
+step-fails choices current small (open-last {s} {lost = true} k) e back = lost-fails (choices .strict) s _ (sym k) back
+step-fails choices current small (open-last {s} {lost = false} k) e back = true-is-not-false (unfold meets in e)

@@ -11,7 +11,7 @@ use lib.Seq.{drop-append-seam}
 use borrow.Author.Tests.{ltb-true, ltb-false}
 use Rattle.meaning.specs.Bytes.{digitAt}
 use Rattle.meaning.specs.Numerals.{Signed, plusFirst, numberOf}
-use Rattle.meaning.specs.Readers.{Got, got, stopped, Reader, behind, goOn, _>>=_, done, skip, takenNumber, takeNumber, reach}
+use Rattle.meaning.specs.Readers.{Got, got, stopped, Reader, behind, goOn, _>>=_, done, skip, firstDiffering, sameBy, same, takenNumber, takeNumber, reach}
 use Rattle.meaning.specs.declared.Numeral.{Numeral}
 use Rattle.laws.proofs.Readers.{reach-on, reach-ends}
 use Rattle.laws.proofs.Tests.{by-test, when-is}
@@ -26,6 +26,15 @@ takes-got k h e = rw e at h
 pub takes-skip : (k : ℕ) (s : List ℕ) → Takes k (skip k s)
 unfolding skip
 takes-skip k s = when-is (Takes k) (ltb (length s) k) (λ _. tt) (λ _. refl)
+
+same-takes : (k : ℕ) (differs : Option ℕ) → Takes k (sameBy k differs)
+same-takes k none = refl
+same-takes k (some i) = tt
+
+pub takes-same : (w s : List ℕ) → Takes (length w) (same w s)
+unfolding same
+takes-same w s =
+    when-is (Takes (length w)) (ltb (length s) (length w)) (λ _. tt) (λ _. same-takes (length w) (firstDiffering 0 w s))
 
 number-takes : (k : ℕ) (n : Option Signed) → Takes k (takenNumber k n)
 number-takes k none = tt

@@ -1,7 +1,7 @@
 -- The check is right: its answer is what `Says` asks of it, for every pattern and every current year.
 use mathlib.Core.Bool.{Bool, true, false}
 use mathlib.Core.List.{List, [], _∷_}
-use mathlib.Core.Path.{_≡_, refl}
+use mathlib.Core.Path.{_≡_, refl, sym, _∙_}
 use Prim.Native.Nat.{ℕ, zero, suc, _+_, _≤_, _<_}
 use native.Mathlib.Omega.{arith}
 use lib.Dec.{leb}
@@ -10,10 +10,11 @@ use lib.ListN.{length, drop}
 use borrow.Author.Tests.{leb-true}
 use Rattle.meaning.specs.Answers.{currentYearCheck, fieldsCheck, patternCheck, within}
 use Rattle.meaning.specs.Names.{english}
-use Rattle.meaning.specs.Trust.{partAt, ComesBack, AllComeBack, FailsFirst, trustCheck, Says}
+use Rattle.meaning.specs.Trust.{partAt, ComesBack, AllComeBack, FailsFirst, trustCheck, fullPair, SaysOf, Says}
 use Rattle.meaning.specs.Writing.{Step, steps}
 use Rattle.meaning.specs.declared.Checked.{Checked}
 use Rattle.meaning.specs.declared.Checked.the-variants.{Fine, Refused}
+use Rattle.meaning.specs.declared.Choices.{Choices}
 use Rattle.meaning.specs.declared.Fields.{Fields}
 use Rattle.meaning.specs.declared.Pair.the-variants.{Full}
 use Rattle.meaning.specs.declared.Refusal.the-variants.{CurrentYear}
@@ -23,6 +24,7 @@ use Rattle.laws.proofs.Checks.{else-fine, fine-unless}
 use Rattle.laws.proofs.Fields.{allowed}
 use Rattle.laws.proofs.Tests.{both-true, by-test}
 use Rattle.laws.proofs.Texts.{text-from}
+use Rattle.trust.proofs.Agreement.{SameButRecord, answers-of-coincide}
 use Rattle.trust.proofs.Fitting.{Fitting, fitting-from, steps-fit}
 use Rattle.trust.proofs.Steps.{step-comes-back, step-fails}
 use Rattle.trust.proofs.Turns.{failing-on, failing-here}
@@ -87,28 +89,29 @@ tells k (s ∷ ss) =
 
 -- and what that says of the written text
 
-module _ (current : ℕ) {ss : List Step} (fit : Fitting ss) (i : ℕ) (there : i < length ss) where
-  part-comes-back : holds ss i ≡ true → (f : Fields) → fieldsCheck f ≡ Fine → ComesBack english current ss f i
+module _ (choices : Choices) (current : ℕ) {ss : List Step} (fit : Fitting ss) (i : ℕ) (there : i < length ss) where
+  part-comes-back : holds ss i ≡ true → (f : Fields) → fieldsCheck f ≡ Fine → ComesBack choices english current ss f i
   unfolding holds ComesBack
-  part-comes-back e f h = rw (text-from english f ss i there) (step-comes-back current (fitting-from fit i there) e f (allowed f h))
+  part-comes-back e f h = rw (text-from english f ss i there) (step-comes-back choices current (fitting-from fit i there) e f (allowed f h))
 
-  part-fails : current ≤ 9999 → holds ss i ≡ false → ComesBack english current ss (witness (stepNeed (partAt ss i))) i → ⊥
+  part-fails : current ≤ 9999 → holds ss i ≡ false → ComesBack choices english current ss (witness (stepNeed (partAt ss i))) i → ⊥
   unfolding holds ComesBack
   part-fails small e back =
-      step-fails current small (fitting-from fit i there) e (rw (text-from english (witness (stepNeed (partAt ss i))) ss i there) at back)
+      step-fails choices current small (fitting-from fit i there) e (rw (text-from english (witness (stepNeed (partAt ss i))) ss i there) at back)
 
-all-come-back : (current : ℕ) {ss : List Step} → Fitting ss → (n : ℕ) → n ≤ length ss → ((j : ℕ) → j < n → holds ss j ≡ true)
-    → AllComeBack english current ss n
+all-come-back : (choices : Choices) (current : ℕ) {ss : List Step} → Fitting ss → (n : ℕ) → n ≤ length ss → ((j : ℕ) → j < n → holds ss j ≡ true)
+    → AllComeBack choices english current ss n
 unfolding AllComeBack
-all-come-back current fit n h all f fine i k = part-comes-back current fit i (omega arith) (all i k) f fine
+all-come-back choices current fit n h all f fine i k = part-comes-back choices current fit i (omega arith) (all i k) f fine
 
-fails-first : (current : ℕ) → current ≤ 9999 → {ss : List Step} → Fitting ss → (i : ℕ) (f : Fields) → FirstOf ss i f → FailsFirst english current ss i f
-fails-first current small {ss} fit i f first =
+fails-first : (choices : Choices) (current : ℕ) → current ≤ 9999 → {ss : List Step} → Fitting ss → (i : ℕ) (f : Fields) → FirstOf ss i f
+    → FailsFirst choices english current ss i f
+fails-first choices current small {ss} fit i f first =
     record {
       there = first .there;
       allowed = rw (first .shows) (witness-fine (stepNeed (partAt ss i)));
-      fails = λ back. part-fails current fit i (first .there) small (first .fails) (rw (first .shows) at back);
-      earlier = all-come-back current fit i (omega (arith, first .there)) (first .earlier);
+      fails = λ back. part-fails choices current fit i (first .there) small (first .fails) (rw (first .shows) at back);
+      earlier = all-come-back choices current fit i (omega (arith, first .there)) (first .earlier);
     }
 
 -- the whole answer
@@ -120,14 +123,14 @@ year-bound (pos n) h =
 year-bound (negsuc n) h = absurd (let z : _≡_ {A = ℕ} 0 1 = cc in omega arith)
 
 answer-says : (p : List ℕ) (current : ℤ) → trustCheck p current ≡ Fine → (v : Verdict) → Tells 0 (steps Full p) v → Says english p current v
-unfolding Tells Says
-answer-says p current fine verdict.Yes h =
-    (fine, all-come-back (natAbs current) (steps-fit p) (length (steps Full p)) (omega arith) h)
-answer-says p current fine (verdict.No part f) h =
+unfolding Tells SaysOf
+answer-says p current fine verdict.Yes h strict =
+    (fine, all-come-back (fullPair strict) (natAbs current) (steps-fit p) (length (steps Full p)) (omega arith) h)
+answer-says p current fine (verdict.No part f) h strict =
     let small = year-bound current (else-fine (patternCheck p) (currentYearCheck current) fine .1) in
     let e : part ≡ h .0 = omega (arith, h .1) in
-    (fine, rw e (fails-first (natAbs current) small (steps-fit p) (h .0) f (h .2)))
-answer-says p current fine (verdict.Refused why) h = absurd h
+    (fine, rw e (fails-first (fullPair strict) (natAbs current) small (steps-fit p) (h .0) f (h .2)))
+answer-says p current fine (verdict.Refused why) h strict = absurd h
 
 pub verdict-says : (p : List ℕ) (current : ℤ) → Says english p current (verdictOf p current)
 unfolding verdictOf
@@ -135,4 +138,15 @@ verdict-says p current = go (trustCheck p current) refl
   where
     go : (c : Checked) → trustCheck p current ≡ c → Says english p current (verdictBy c (firstFailing 0 (steps Full p)))
     go Fine e = answer-says p current e (firstFailing 0 (steps Full p)) (tells 0 (steps Full p))
-    go (Refused why) e = unfold Says in e
+    go (Refused why) e = λ strict. unfold SaysOf in e
+
+-- what is said of a reading, strict or not, is what the check answers, but for the record
+pub told-as-checked : (p : List ℕ) (current : ℤ) (strict : Bool) (v : Verdict) → SaysOf (fullPair strict) english p current v
+    → SameButRecord v (verdictOf p current)
+told-as-checked p current strict v says =
+    answers-of-coincide (fullPair strict) english p current v (verdictOf p current) says (verdict-says p current strict)
+
+-- so it is the same of both
+pub same-strict-or-not : (p : List ℕ) (current : ℤ) (v w : Verdict) → SaysOf (fullPair true) english p current v
+    → SaysOf (fullPair false) english p current w → SameButRecord v w
+same-strict-or-not p current v w says says′ = told-as-checked p current true v says ∙ sym (told-as-checked p current false w says′)

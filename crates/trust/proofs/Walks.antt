@@ -12,35 +12,33 @@ use Rattle.meaning.specs.Answers.{fieldsCheck}
 use Rattle.meaning.specs.Names.{Book}
 use Rattle.meaning.specs.Readers.{Got, got, stopped}
 use Rattle.meaning.specs.Reading.{readStep, carriedStep}
-use Rattle.meaning.specs.Trust.{ComesBack, AllComeBack, Says}
+use Rattle.meaning.specs.Trust.{ComesBack, AllComeBack, SaysOf}
 use Rattle.meaning.specs.Whole.{Walk, walked, refusedAt, walk, text}
 use Rattle.meaning.specs.Writing.{Step, steps, stepText, texts}
 use Rattle.meaning.specs.declared.Carried.{Carried}
 use Rattle.meaning.specs.declared.Checked.the-variants.{Fine, Refused}
+use Rattle.meaning.specs.declared.Choices.{Choices}
 use Rattle.meaning.specs.declared.Fields.{Fields}
-use Rattle.meaning.specs.declared.Pair.the-variants.{Full}
 use Rattle.meaning.specs.declared.Refusal.the-variants.{InPart}
 use Rattle.meaning.specs.declared.Verdict.the-variants.{Yes}
+use Rattle.laws.proofs.Readers.{none-left}
 use Rattle.laws.proofs.Texts.{text-from}
-
--- what parts carry, the newest first
-abbrev pub carried : Fields → List Step → List Carried
-carried f ss = reverse (map (λ s. carriedStep s f) ss)
+use Rattle.trust.specs.ReadBack.{carriedBy}
 
 newest-last : {A : Type 0} (c : A) (cs gave : List A) → reverse (c ∷ cs) ++ gave ≡ reverse cs ++ c ∷ gave
 newest-last c cs gave = ap (λ (l : List _). l ++ gave) (reverse-cons c cs) ∙ append-snoc (reverse cs) c gave
 
-module _ (book : Book) (current : ℕ) where
+module _ (choices : Choices) (book : Book) (current : ℕ) where
   -- a part that is read
   walk-on : (i at : ℕ) (step : Step) (ss : List Step) (s : List ℕ) (gave : List Carried) {n : ℕ} {c : Carried}
-      → readStep book current step s ≡ got n c
-      → walk book current i at (step ∷ ss) s gave ≡ walk book current (suc i) (at + n) ss (drop n s) (c ∷ gave)
+      → readStep choices book current step s ≡ got n c
+      → walk choices book current i at (step ∷ ss) s gave ≡ walk choices book current (suc i) (at + n) ss (drop n s) (c ∷ gave)
   unfolding walk
   walk-on i at step ss s gave e =
       ap
       (λ (r : Got Carried).
       elim r as (λ x. Walk) [
-        | got n c ↦ walk book current (suc i) (at + n) ss (drop n s) (c ∷ gave)
+        | got n c ↦ walk choices book current (suc i) (at + n) ss (drop n s) (c ∷ gave)
         | stopped why place ↦ refusedAt (Refused (InPart why i (at + place)))
       ])
       e
@@ -48,10 +46,10 @@ module _ (book : Book) (current : ℕ) where
   module _ (f : Fields) where
     -- all parts come back
     abbrev pub AllBack : List Step → Type 0
-    AllBack ss = (i : ℕ) → i < length ss → ComesBack book current ss f i
+    AllBack ss = (i : ℕ) → i < length ss → ComesBack choices book current ss f i
 
     first-back : (s : Step) (ss : List Step) → AllBack (s ∷ ss)
-        → readStep book current s (texts book f (s ∷ ss)) ≡ got (length (stepText book f s)) (carriedStep s f)
+        → readStep choices book current s (texts book f (s ∷ ss)) ≡ got (length (stepText book f s)) (carriedStep s f)
     unfolding ComesBack
     first-back s ss back = back 0 (omega arith)
 
@@ -61,9 +59,9 @@ module _ (book : Book) (current : ℕ) where
         rw (text-from book f ss i h) (rw (text-from book f (s ∷ ss) (suc i) (omega arith)) at (back (suc i) (omega arith)))
 
     pub walk-comes-back : (i at : ℕ) (ss : List Step) (gave : List Carried) → AllBack ss
-        → walk book current i at ss (texts book f ss) gave ≡ walked (at + length (texts book f ss)) (carried f ss ++ gave)
+        → walk choices book current i at ss (texts book f ss) gave ≡ walked (at + length (texts book f ss)) (carriedBy f ss ++ gave)
     unfolding texts
-    walk-comes-back i at [] gave back = unfold walk in rw add-zero
+    walk-comes-back i at [] gave back = unfold walk in rw (none-left (choices .strict) at [] (omega arith), add-zero)
     walk-comes-back i at (s ∷ ss) gave back =
         let own = stepText book f s in
         let rest = texts book f ss in
@@ -74,10 +72,11 @@ module _ (book : Book) (current : ℕ) where
         ∙ rw (end, newest-last (carriedStep s f) (map (λ s. carriedStep s f) ss) gave))
 
 -- Where the check says yes, a pattern reads the whole of what it wrote, and gives what its parts carry.
-pub walk-yes : (book : Book) (p : List ℕ) (current : ℤ) → Says book p current Yes → (f : Fields) → fieldsCheck f ≡ Fine
-    → walk book (natAbs current) 0 0 (steps Full p) (text Full book p f) []
-    ≡ walked (length (text Full book p f)) (carried f (steps Full p))
-unfolding Says AllComeBack text
-walk-yes book p current says f fine =
-    walk-comes-back book (natAbs current) f 0 0 (steps Full p) [] (says .1 f fine)
-    ∙ rw (zero-add (length (text Full book p f)), append-nil (carried f (steps Full p)))
+pub walk-yes : (choices : Choices) (book : Book) (p : List ℕ) (current : ℤ) → SaysOf choices book p current Yes → (f : Fields) → fieldsCheck f ≡ Fine
+    → walk choices book (natAbs current) 0 0 (steps (choices .pair) p) (text (choices .pair) book p f) []
+    ≡ walked (length (text (choices .pair) book p f)) (carriedBy f (steps (choices .pair) p))
+unfolding SaysOf AllComeBack text
+walk-yes choices book p current says f fine =
+    let ss = steps (choices .pair) p in
+    walk-comes-back choices book (natAbs current) f 0 0 ss [] (says .1 f fine)
+    ∙ rw (zero-add (length (text (choices .pair) book p f)), append-nil (carriedBy f ss))

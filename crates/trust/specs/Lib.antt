@@ -1,4 +1,5 @@
 pub mod Needs
 pub mod Ahead
 pub mod Check
+pub mod ReadBack
 pub mod Halves

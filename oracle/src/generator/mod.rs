@@ -2,6 +2,7 @@
 
 mod checks;
 mod fields;
+mod literals;
 mod offsets;
 mod patterns;
 mod random;
@@ -46,8 +47,10 @@ impl Iterator for Generator {
             },
             Op::Write => write_request(Pair::Full, turn, random),
             Op::WriteDate => write_request(Pair::Date, turn, random),
-            Op::Read => read_request(Pair::Full, turn, random),
-            Op::ReadDate => read_request(Pair::Date, turn, random),
+            Op::Read => read_request(Pair::Full, false, turn, random),
+            Op::ReadDate => read_request(Pair::Date, false, turn, random),
+            Op::ReadStrict => read_request(Pair::Full, true, turn, random),
+            Op::ReadDateStrict => read_request(Pair::Date, true, turn, random),
             Op::ParseOffset => Request::ParseOffset {
                 text: offsets::offset_text(random),
             },
@@ -74,12 +77,14 @@ fn write_request(pair: Pair, turn: usize, random: &mut Random) -> Request {
     }
 }
 
-fn read_request(pair: Pair, turn: usize, random: &mut Random) -> Request {
+fn read_request(pair: Pair, strict: bool, turn: usize, random: &mut Random) -> Request {
     let pattern = patterns::pattern(turn, random);
     let fields = good_fields(turn, random);
+    let text = if strict { literals::text } else { texts::text };
     Request::Read {
         pair,
-        text: texts::text(pair, &pattern, &fields, random),
+        strict,
+        text: text(pair, &pattern, &fields, random),
         pattern,
         now: current_year(random),
     }

@@ -8,7 +8,7 @@ use crate::calendar::Fields;
 use crate::walk::{self, Kind, Pair};
 
 /// Beside the longest pattern it keeps a line under the protocol's 20,000 bytes.
-const LONGEST: usize = 4096;
+pub const LONGEST: usize = 4096;
 
 const TELLING: &[u8] = b"0123456789+-:.Z'/ aApPmMnJSB";
 
@@ -34,7 +34,7 @@ fn written(pair: Pair, pattern: &[u8], fields: &Fields, random: &mut Random) -> 
     text_of(pair, pattern, fields).map_or_else(|| noise(random), String::into_bytes)
 }
 
-fn extended(mut text: Vec<u8>, random: &mut Random) -> Vec<u8> {
+pub fn extended(mut text: Vec<u8>, random: &mut Random) -> Vec<u8> {
     let length = random.between(1, 4) as usize;
     let kind = random.pick(&[b"0123456789".as_slice(), b"abMZ", TELLING]);
     text.extend(random.bytes(length, kind));
@@ -57,7 +57,7 @@ pub fn damaged(mut text: Vec<u8>, random: &mut Random) -> Vec<u8> {
 }
 
 /// A plus in the place of a digit, at the start of a number as often as inside.
-fn with_a_plus(mut text: Vec<u8>, random: &mut Random) -> Vec<u8> {
+pub fn with_a_plus(mut text: Vec<u8>, random: &mut Random) -> Vec<u8> {
     let starts = random.one_in(2);
     let digits: Vec<usize> = (0..text.len())
         .filter(|place| text[*place].is_ascii_digit())
@@ -69,7 +69,7 @@ fn with_a_plus(mut text: Vec<u8>, random: &mut Random) -> Vec<u8> {
     text
 }
 
-fn any_byte(random: &mut Random) -> u8 {
+pub fn any_byte(random: &mut Random) -> u8 {
     match random.below(30) {
         0 => random.between(128, 255) as u8,
         1..=4 => random.between(0, 127) as u8,
@@ -77,7 +77,7 @@ fn any_byte(random: &mut Random) -> u8 {
     }
 }
 
-fn cut(mut text: Vec<u8>, random: &mut Random) -> Vec<u8> {
+pub fn cut(mut text: Vec<u8>, random: &mut Random) -> Vec<u8> {
     text.truncate(random.below(text.len() + 1));
     text
 }

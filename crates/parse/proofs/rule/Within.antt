@@ -1,16 +1,20 @@
 -- No reader takes more than there is, and none stops behind it: a year, a name, a rule, a part.
-use mathlib.Core.List.{List}
+use mathlib.Core.Bool.{Bool, true, false}
+use mathlib.Core.List.{List, [], _∷_}
 use mathlib.Core.Path.{_≡_, refl}
-use Prim.Native.Nat.{ℕ, _-_, _≤_}
+use Prim.Native.Nat.{ℕ, suc, _+_, _-_, _≤_}
 use native.Mathlib.Omega.{arith}
 use lib.Dec.{eqb, ltb}
 use lib.ListN.{length, take, length-take}
-use Rattle.laws.proofs.Tests.{when-is}
+use borrow.Author.Tests.{ltb-false}
+use Rattle.laws.proofs.Readers.{same-byte, other-byte}
+use Rattle.laws.proofs.Tests.{by-test, when-is}
 use Rattle.meaning.specs.Names.{Book, names}
-use Rattle.meaning.specs.Readers.{Got, got, stopped, _>>=_, skip, takeNumber, takeCount, takeYear, reach, matchName, letters, zoneSign}
-use Rattle.meaning.specs.Reading.{readRule, readStep, passed, takenYear, minusFirst, zoneBehind, zoneSize}
+use Rattle.meaning.specs.Readers.{Got, got, stopped, _>>=_, skip, firstDiffering, sameBy, same, takeNumber, takeCount, takeYear, reach, matchName, letters, zoneSign}
+use Rattle.meaning.specs.Reading.{literalRead, readRule, readStep, passed, takenYear, minusFirst, zoneBehind, zoneSize}
 use Rattle.meaning.specs.Writing.{Step, literal, field}
 use Rattle.meaning.specs.declared.Carried.{Carried}
+use Rattle.meaning.specs.declared.Choices.{Choices}
 use Rattle.meaning.specs.declared.Rule.{Rule}
 use Rattle.meaning.specs.declared.Rule.the-variants.{Number, SkippedNumber, LetterQuarter, SkippedName, MatchedName, Letters, Years, FixedYear, TwoDigitYear, Zone}
 use Rattle.meaning.specs.declared.Trouble.the-variants.{NoName}
@@ -69,7 +73,26 @@ within-rule book current (Zone z c minutes seconds) s =
     within-on ((zoneSign z >>= zoneBehind (zoneSize c minutes seconds)) s) _ s
     (within-on (zoneSign z s) _ s (within-sign z s) (λ g t. within-zone c minutes seconds g t)) (λ o t. omega arith)
 
-pub within-step : (book : Book) (current : ℕ) (step : Step) (s : List ℕ) → Within (length s) (readStep book current step s)
+-- a difference lies in the literal, and the literal in the text
+within-differing : (k room : ℕ) → k ≤ room → (i : ℕ) (w s : List ℕ) → i + length w ≤ k → Within room (sameBy k (firstDiffering i w s))
+unfolding firstDiffering
+within-differing k room fits i [] s h = fits
+within-differing k room fits i (a ∷ w) [] h = omega arith
+within-differing k room fits i (a ∷ w) (b ∷ s) h =
+    by-test (eqb a b) (λ e. rw (same-byte i a w b s e) (within-differing k room fits (suc i) w s (omega arith)))
+    (λ e. rw (other-byte i a w b s e) (omega arith))
+
+within-same : (w s : List ℕ) → Within (length s) (same w s)
+unfolding same
+within-same w s =
+    when-is (λ (g : Got Unit). Within (length s) g) (ltb (length s) (length w)) (λ _. omega arith)
+    (λ e. within-differing (length w) (length s) (ltb-false (length s) (length w) e) 0 w s (omega arith))
+
+within-literal : (strict : Bool) (w s : List ℕ) → Within (length s) (literalRead strict w s)
+within-literal true w s = within-on (same w s) _ s (within-same w s) (λ _ t. omega arith)
+within-literal false w s = within-passed (length w) s
+
+pub within-step : (choices : Choices) (book : Book) (current : ℕ) (step : Step) (s : List ℕ) → Within (length s) (readStep choices book current step s)
 unfolding readStep
-within-step book current (literal w lost) s = within-passed (length w) s
-within-step book current (field rule) s = within-rule book current rule s
+within-step choices book current (literal w lost) s = within-literal (choices .strict) w s
+within-step choices book current (field rule) s = within-rule book current rule s

@@ -12,11 +12,14 @@ use Rattle.laws.proofs.Tests.{by-test}
 use Rattle.meaning.specs.Names.{english}
 use Rattle.meaning.specs.Readers.{got}
 use Rattle.meaning.specs.Reading.{readRule, readStep}
+use Rattle.meaning.specs.Whole.{plain}
 use Rattle.meaning.specs.declared.Carried.the-variants.{Value}
+use Rattle.meaning.specs.declared.Pair.the-variants.{Full}
 use Rattle.meaning.specs.declared.ParseUnit.the-variants.{DayOfMonth}
 use Rattle.parse.proofs.rule.Within.{within-step}
 use Rattle.parse.proofs.short.Taken.{digits-read}
 use Rattle.parse.specs.ShortReads.{found, quickDigits, quickUnit}
+use Rattle.parse.specs.Steps.{plainRead}
 use Rattle.parse.specs.Years.{longYearRead}
 use Rattle.parse.specs.declared.short.Digits.{Digits}
 use Rattle.rules.proofs.step.Step.{the-type}
@@ -60,7 +63,7 @@ none-there told small = let none : 100 < 100 = rw told at small in absurd (omega
 -- where the digits are there, they are what the step reads
 module _ (p s : List ℕ) where
   pub quick-read : (current : ℕ) (k : Step) {d : Digits} → Held p k → d ≡ quickDigits k s → d .size < 100
-      → readStep english current (means p k) s ≡ got (d .taken) (Value (quickUnit k) (pos (d .size)))
+      → plainRead current (means p k) s ≡ got (d .taken) (Value (quickUnit k) (pos (d .size)))
   unfolding readStep
   quick-read current (step.Times b n) held told small = none-there told small
   quick-read current (step.Quoted from to) held told small = none-there told small
@@ -77,4 +80,4 @@ module _ (p s : List ℕ) where
   quick-read current (step.Run role b n) held told small = none-there told small
 
   pub quick-within : (k : Step) {d : Digits} → Held p k → d ≡ quickDigits k s → d .size < 100 → d .taken ≤ length s
-  quick-within k held told small = rw (quick-read 0 k held told small) at (within-step english 0 (means p k) s)
+  quick-within k held told small = rw (quick-read 0 k held told small) at (within-step (plain Full) english 0 (means p k) s)

@@ -1,4 +1,5 @@
 -- The words for a verdict are few bytes, and two lines that may be printed for a pattern are the same.
+use mathlib.Core.Bool.{false}
 use mathlib.Core.List.{List, [], _∷_, _++_}
 use mathlib.Core.Path.{_≡_, refl, sym, ap, _∙_}
 use Prim.Native.Nat.{ℕ, _^_, _≤_, _<_}
@@ -9,13 +10,13 @@ use Rattle.laws.proofs.Digits.{length-num, width-at-most}
 use Rattle.meaning.specs.Answers.{number, troubleNumber}
 use Rattle.meaning.specs.Bytes.{bytes, num}
 use Rattle.meaning.specs.Names.{english}
-use Rattle.meaning.specs.Trust.{Says}
+use Rattle.meaning.specs.Trust.{SaysOf, Says}
 use Rattle.meaning.specs.declared.Fields.{Fields}
 use Rattle.meaning.specs.declared.Pair.the-variants.{Full}
 use Rattle.meaning.specs.declared.Refusal.{Refusal}
-use Rattle.meaning.specs.declared.Refusal.the-variants.{PatternTooLong, PatternByte, LoneQuote, FieldRange, NoRoom, TextTooLong, TextByte, InPart, OffsetLength, OffsetRange, CurrentYear}
+use Rattle.meaning.specs.declared.Refusal.the-variants.{PatternTooLong, PatternByte, LoneQuote, FieldRange, NoRoom, TextTooLong, TextByte, InPart, OffsetLength, OffsetRange, CurrentYear, TextLeft}
 use Rattle.meaning.specs.declared.Trouble.{Trouble}
-use Rattle.meaning.specs.declared.Trouble.the-variants.{TooFew, NoNumber, NoName, NoSign, PlusSign}
+use Rattle.meaning.specs.declared.Trouble.the-variants.{TooFew, NoNumber, NoName, NoSign, LiteralDiffers, PlusSign}
 use Rattle.meaning.specs.declared.Verdict.{Verdict}
 use Rattle.meaning.specs.declared.Verdict.the-variants.{Yes, No, Refused}
 use Rattle.pattern.proofs.parts.Few.{few-steps}
@@ -32,6 +33,7 @@ trouble-number TooFew = omega arith
 trouble-number NoNumber = omega arith
 trouble-number NoName = omega arith
 trouble-number NoSign = omega arith
+trouble-number LiteralDiffers = omega arith
 trouble-number PlusSign = omega arith
 
 small-number : (why : Refusal) → number why < 10 ^ 2
@@ -47,6 +49,7 @@ small-number (InPart why part place) = trouble-number why
 small-number (OffsetLength n) = omega arith
 small-number (OffsetRange which) = omega arith
 small-number (CurrentYear year) = omega arith
+small-number (TextLeft place) = omega arith
 
 pub few-words : (v : Verdict) → PartFits v → length (verdictText v) ≤ 10
 unfolding verdictText bytes
@@ -55,9 +58,9 @@ few-words (No part f) h = omega (arith, few-digits 5 part (omega arith) (omega (
 few-words (Refused why) h = omega (arith, few-digits 2 (number why) (omega arith) (small-number why))
 
 pub part-fits : (p : List ℕ) (current : ℤ) (v : Verdict) → length p ≤ 65536 → Says english p current v → PartFits v
-unfolding Says
+unfolding SaysOf
 part-fits p current Yes h s = tt
-part-fits p current (No part f) h s = omega (arith, s .1 .there, few-steps Full p)
+part-fits p current (No part f) h s = omega (arith, s false .1 .there, few-steps Full p)
 part-fits p current (Refused why) h s = tt
 
 -- what an answer in words asks and gives, for each verdict

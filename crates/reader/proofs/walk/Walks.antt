@@ -1,37 +1,57 @@
 -- Laws of the walk over the parts of a pattern: a part more, and the end.
+use mathlib.Core.Bool.{true, false}
 use mathlib.Core.List.{List, _∷_}
-use mathlib.Core.Path.{_≡_, refl}
-use Prim.Native.Nat.{ℕ, suc, _+_, _≤_}
+use mathlib.Core.Logic.{_⊎_, inl, inr}
+use mathlib.Core.Path.{_≡_, refl, _∙_}
+use Prim.Native.Nat.{ℕ, suc, _+_, _≤_, _<_}
 use native.Mathlib.Numerals.{add-one}
-use lib.ListN.{length, drop}
+use native.Mathlib.Omega.{arith}
+use lib.ListN.{length, drop, length-drop}
 use lib.Seq.{drop-drop}
-use Rattle.meaning.specs.Names.{Book}
+use borrow.Author.Tests.{lt-ltb}
+use Rattle.laws.proofs.Readers.{none-left}
+use Rattle.meaning.specs.Answers.{restCheck}
+use Rattle.meaning.specs.Bytes.{when}
+use Rattle.meaning.specs.Names.{english}
 use Rattle.meaning.specs.Readers.{Got, got, stopped}
 use Rattle.meaning.specs.Reading.{readStep}
-use Rattle.meaning.specs.Whole.{Walk, walked, refusedAt, walk}
+use Rattle.meaning.specs.Whole.{Walk, walked, refusedAt, walkedBy, walk}
 use Rattle.meaning.specs.Writing.{Step, steps}
 use Rattle.meaning.specs.declared.Carried.{Carried}
 use Rattle.meaning.specs.declared.Checked.the-variants.{Refused}
+use Rattle.meaning.specs.declared.Choices.{Choices}
 use Rattle.meaning.specs.declared.Pair.{Pair}
 use Rattle.meaning.specs.declared.Part.{Part}
-use Rattle.meaning.specs.declared.Refusal.the-variants.{InPart}
-use Rattle.parse.specs.Steps.{partAt}
+use Rattle.meaning.specs.declared.Refusal.the-variants.{InPart, TextLeft}
+use Rattle.meaning.specs.declared.Trouble.{Trouble}
+use Rattle.meaning.specs.declared.Trouble.the-variants.{LiteralDiffers}
+use Rattle.parse.proofs.literals.Strict.{strictBy, compared-read}
+use Rattle.parse.specs.Literals.{compared}
+use Rattle.parse.specs.Steps.{partAt, plainRead}
+use Rattle.parse.specs.declared.cursor.Cursor.{Cursor}
 use Rattle.parse.specs.declared.cursor.PartRead.{PartRead}
-use Rattle.parse.specs.declared.cursor.PartRead.the-variants as part
+use Rattle.parse.specs.declared.cursor.PartRead.the-variants as read
+use Rattle.parse.specs.declared.literals.Compared.the-variants.{Same, Differs}
 use Rattle.pattern.specs.Next.{Next}
 use Rattle.pattern.proofs.parts.Walks.{steps-next, steps-done}
+use Rattle.reader.specs.Steps.{stepAt}
 use Rattle.rules.specs.Steps.{means, Chosen}
 use Rattle.rules.specs.declared.step.Step as rules
 
-module _ (book : Book) (current i : ℕ) (text : List ℕ) (gave : List Carried) where
+-- the step of a part that was found and whose step was chosen
+pub step-here : {pair : Pair} {p : List ℕ} {place : ℕ} {part : Part} {k : rules.Step} → Next p place part → Chosen pair p part k
+    → stepAt pair p place ≡ means p k
+step-here {pair} {p} {place} {part} n chosen = rw (steps-next pair p place part n, chosen .meant)
+
+module _ (choices : Choices) (current i : ℕ) (text : List ℕ) (gave : List Carried) where
   -- what follows a part, by what it gave
   abbrev pub walkBy : List Step → PartRead → Walk
-  walkBy ss (part.Stopped why place) = refusedAt (Refused (InPart why i place))
-  walkBy ss (part.Got c next) = walk book current (i + 1) (next .at) ss (drop (next .at) text) (c ∷ gave)
+  walkBy ss (read.Stopped why place) = refusedAt (Refused (InPart why i place))
+  walkBy ss (read.Got c next) = walk choices english current (i + 1) (next .at) ss (drop (next .at) text) (c ∷ gave)
 
   by-part : (at : ℕ) (ss : List Step) (g : Got Carried)
       → (elim g as (λ x. Walk) [
-        | got n c ↦ walk book current (suc i) (at + n) ss (drop n (drop at text)) (c ∷ gave)
+        | got n c ↦ walk choices english current (suc i) (at + n) ss (drop n (drop at text)) (c ∷ gave)
         | stopped why place ↦ refusedAt (Refused (InPart why i (at + place)))
       ])
       ≡ walkBy ss (partAt at g)
@@ -39,17 +59,50 @@ module _ (book : Book) (current i : ℕ) (text : List ℕ) (gave : List Carried)
   by-part at ss (stopped why place) = refl
 
   walk-on : (at : ℕ) (step : Step) (ss : List Step)
-      → walk book current i at (step ∷ ss) (drop at text) gave ≡ walkBy ss (partAt at (readStep book current step (drop at text)))
+      → walk choices english current i at (step ∷ ss) (drop at text) gave
+      ≡ walkBy ss (partAt at (readStep choices english current step (drop at text)))
   unfolding walk
-  walk-on at step ss = by-part at ss (readStep book current step (drop at text))
+  walk-on at step ss = by-part at ss (readStep choices english current step (drop at text))
 
-  pub walk-step : {pair : Pair} (at place : ℕ) {p : List ℕ} {part : Part} {k : rules.Step} → Next p place part → Chosen pair p part k
-      → walk book current i at (steps pair (drop place p)) (drop at text) gave
-      ≡ walkBy (steps pair (drop (place + part .length) p)) (partAt at (readStep book current (means p k) (drop at text)))
-  walk-step {pair} at place {p} {part} {k} n chosen =
-      rw (steps-next pair p place part n, ← chosen .meant) (walk-on at (means p k) (steps pair (drop (place + part .length) p)))
+  -- a part, from what it gave where nothing is compared
+  module _ (at place : ℕ) {p : List ℕ} {part : Part} {k : rules.Step} (n : Next p place part) (chosen : Chosen (choices .pair) p part k) where
+    abbrev Walked : Walk → Type 0
+    Walked w = walk choices english current i at (steps (choices .pair) (drop place p)) (drop at text) gave ≡ w
 
-  pub walk-done : (pair : Pair) (at place : ℕ) (p : List ℕ) → length p ≤ place
-      → walk book current i at (steps pair (drop place p)) (drop at text) gave ≡ walked at gave
-  unfolding walk
-  walk-done pair at place p h = rw (steps-done pair p place h)
+    abbrev Gave : PartRead → Type 0
+    Gave g = partAt at (plainRead current (means p k) (drop at text)) ≡ g
+
+    walk-step : {g : PartRead} → Gave g
+        → Walked (walkBy (steps (choices .pair) (drop (place + part .length) p)) (strictBy (choices .strict) (means p k) text g))
+    walk-step e =
+        let pair = choices .pair in
+        rw (← e, steps-next pair p place part n, ← chosen .meant, ← compared-read text at choices current (means p k))
+        (walk-on at (means p k) (steps pair (drop (place + part .length) p)))
+
+    pub walk-stops : {why : Trouble} {stop : ℕ} → Gave (read.Stopped why stop) → Walked (refusedAt (Refused (InPart why i stop)))
+    walk-stops e = walk-step e
+
+    pub walk-differs : {c : Carried} {next : Cursor} {found : ℕ} → Gave (read.Got c next) → choices .strict ≡ true
+        → compared (means p k) text (next .at) ≡ Differs found → Walked (refusedAt (Refused (InPart LiteralDiffers i found)))
+    walk-differs e strict differs = walk-step e ∙ rw (strict, differs)
+
+    pub walk-goes-on : {c : Carried} {next : Cursor} → Gave (read.Got c next)
+        → when (choices .strict) (compared (means p k) text (next .at)) Same ≡ Same
+        → Walked (walkBy (steps (choices .pair) (drop (place + part .length) p)) (read.Got c next))
+    walk-goes-on e same = walk-step e ∙ rw same
+
+  -- behind the last part, where text is left over and where none is
+  module _ (at place : ℕ) (p : List ℕ) (end : length p ≤ place) where
+    walk-ends : walk choices english current i at (steps (choices .pair) (drop place p)) (drop at text) gave
+        ≡ walkedBy (restCheck (choices .strict) at (drop at text)) at gave
+    unfolding walk
+    walk-ends = rw (steps-done (choices .pair) p place end)
+
+    pub walk-left : choices .strict ≡ true → at < length text
+        → walk choices english current i at (steps (choices .pair) (drop place p)) (drop at text) gave ≡ refusedAt (Refused (TextLeft at))
+    walk-left strict h = walk-ends ∙ rw (strict, lt-ltb 0 (length (drop at text)) (rw length-drop (omega arith)))
+
+    pub walk-done : (choices .strict ≡ false) ⊎ (length text ≤ at)
+        → walk choices english current i at (steps (choices .pair) (drop place p)) (drop at text) gave ≡ walked at gave
+    walk-done (inl strict) = walk-ends ∙ rw strict
+    walk-done (inr h) = walk-ends ∙ rw (none-left (choices .strict) at (drop at text) (rw length-drop (omega arith)))

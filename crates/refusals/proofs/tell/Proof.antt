@@ -87,11 +87,17 @@ is-negative-requires c κs = search needs
 size-requires : tie.Need-size-requires
 size-requires c κs = search needs
 
-cast-t23 : tie.Need-cast-t23
-cast-t23 c = search needs
+cast-t24 : tie.Need-cast-t24
+cast-t24 c = search needs
 
 detail-of-requires-3 : tie.Need-detail-of-requires-3
 detail-of-requires-3 c κs = search needs
+
+enum-known-why-12 : tie.Need-enum-known-why-12
+enum-known-why-12 c = search needs
+
+with-one-requires-10 : tie.Need-with-one-requires-10
+with-one-requires-10 c κs = search needs
 
 returns : tie.Need-returns
 unfolding number details
@@ -141,6 +147,10 @@ returns-11 c =
     let bits = toZ-ofZ {w = w32} {z = year} (record { sfits = c .before .before .before .known-told11 .given .0 .1 }) in
     rw (c .before .before .is-negative .ensures, c .before .size .ensures, c .detail-of3 .ensures, c .before .before .before .before .why11 .given .1, bits)
 
+returns-12 : tie.Need-returns-12
+unfolding number details
+returns-12 c = rw (c .with-one10 .ensures, c .before .before .why12 .given .1)
+
 pub tell-spec : {M : Type 1} → statement M
 tell-spec =
     tie.close
@@ -172,8 +182,10 @@ tell-spec =
     enum-known-why-11
     is-negative-requires
     size-requires
-    cast-t23
+    cast-t24
     detail-of-requires-3
+    enum-known-why-12
+    with-one-requires-10
     returns
     returns-2
     returns-3
@@ -184,4 +196,5 @@ tell-spec =
     returns-8
     returns-9
     returns-10
-    returns-11)
+    returns-11
+    returns-12)

@@ -7,6 +7,7 @@ mod hex;
 mod lines;
 mod marks;
 mod pair;
+mod reader;
 mod reading;
 mod splitting;
 mod words;

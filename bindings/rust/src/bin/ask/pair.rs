@@ -1,7 +1,6 @@
 //! The two pairs of a writer and a reader.
 
-use sheet::raw::{self, Reader};
-use sheet::{Fields, Reading, Refusal};
+use sheet::{Choices, Fields, Refusal};
 
 #[derive(Clone, Copy)]
 pub enum Pair {
@@ -24,18 +23,11 @@ impl Pair {
         }
     }
 
-    pub fn read(self, pattern: &[u8], text: &[u8], current_year: i32) -> Result<Reading, Refusal> {
+    /// What its reader is among those with choices.
+    pub fn choices(self) -> Choices {
         match self {
-            Pair::Full => sheet::read(pattern, text, current_year),
-            Pair::Date => sheet::read_date(pattern, text, current_year),
-        }
-    }
-
-    /// The reader as C sees it.
-    pub fn raw_reader(self) -> Reader {
-        match self {
-            Pair::Full => raw::sheet_read,
-            Pair::Date => raw::sheet_read_date,
+            Pair::Full => Choices::new(),
+            Pair::Date => Choices::new().date(),
         }
     }
 }

@@ -1,22 +1,23 @@
-//! `read P T NOW`, `read_date P T NOW` and `parse_offset T`
+//! `read P T NOW`, `read_date P T NOW`, both with the word `strict`, and `parse_offset T`
 
 use crate::answers::{numbered, refused};
-use crate::marks::ENTRY;
 use crate::pair::Pair;
+use crate::reader::{Reader, Row};
 use crate::words::Words;
-use sheet::raw::{self, Reader};
 use sheet::{Reading, Refusal};
-
-type Row = [i64; raw::READ_ANSWER];
 
 pub fn answer(pair: Pair, mut words: Words) -> Option<String> {
     let pattern = words.bytes()?;
     let text = words.bytes()?;
     let current_year = words.number()?;
+    let strict = words.takes(b"strict");
     words.end()?;
-    Some(match pair.read(&pattern, &text, current_year) {
-        Ok(reading) => read(&reading),
-        Err(refusal) => refused_read(&refusal, &row_left(pair.raw_reader(), &pattern, &text, current_year)),
+    let answer_of = |reader| answer_by(reader, &pattern, &text, current_year);
+    let choices = pair.choices();
+    Some(if strict {
+        answer_of(Reader::With(choices.strict()))
+    } else {
+        agreed(answer_of(Reader::Of(pair)), answer_of(Reader::With(choices)))
     })
 }
 
@@ -27,6 +28,13 @@ pub fn answer_offset(mut words: Words) -> Option<String> {
         Ok(seconds) => format!("offset {seconds}"),
         Err(refusal) => refused(&refusal),
     })
+}
+
+fn answer_by(reader: Reader, pattern: &[u8], text: &[u8], current_year: i32) -> String {
+    match reader.read(pattern, text, current_year) {
+        Ok(reading) => read(&reading),
+        Err(refusal) => refused_read(&refusal, &reader.row_left(pattern, text, current_year)),
+    }
 }
 
 fn read(reading: &Reading) -> String {
@@ -42,46 +50,85 @@ fn refused_read(refusal: &Refusal, row: &Row) -> String {
     }
 }
 
-/// What a reader leaves in the row that it was lent, of which the safe function shows only the details.
-fn row_left(reader: Reader, pattern: &[u8], text: &[u8], current_year: i32) -> Row {
-    let mut row = [ENTRY; raw::READ_ANSWER];
-    // SAFETY: each pointer goes with the length of the slice that it comes from, and what is altered is borrowed alone.
-    unsafe {
-        reader(
-            pattern.as_ptr(),
-            pattern.len(),
-            text.as_ptr(),
-            text.len(),
-            current_year,
-            row.as_mut_ptr(),
-            row.len(),
-        );
+/// The answer of both readers; where they do not agree, both answers.
+fn agreed(of_the_pair: String, with_choices: String) -> String {
+    if of_the_pair == with_choices {
+        of_the_pair
+    } else {
+        format!("{of_the_pair} unlike {with_choices}")
     }
-    row
 }
 
 #[cfg(test)]
 mod tests {
-    use super::{refused_read, row_left};
+    use super::{agreed, answer, refused_read};
     use crate::pair::Pair;
+    use crate::reader::Reader;
+    use crate::words::Words;
 
     #[test]
     fn a_refused_read_that_gives_anything_else_is_shown() {
         for pair in [Pair::Full, Pair::Date] {
-            let refusal = pair.read(b"'a'dd", b"x3", 2025).unwrap_err();
-            let row = row_left(pair.raw_reader(), b"'a'dd", b"x3", 2025);
-            assert_eq!(refused_read(&refusal, &row), "refused 8 1 1");
-            for place in 0..row.len() {
-                let mut other = row;
-                other[place] = 7;
-                assert!(refused_read(&refusal, &other).starts_with("read "));
+            let choices = pair.choices();
+            for reader in [Reader::Of(pair), Reader::With(choices), Reader::With(choices.strict())] {
+                let refusal = reader.read(b"'a'dd", b"a3", 2025).unwrap_err();
+                let row = reader.row_left(b"'a'dd", b"a3", 2025);
+                assert_eq!(refused_read(&refusal, &row), "refused 8 1 1");
+                for place in 0..row.len() {
+                    let mut other = row;
+                    other[place] = 7;
+                    assert!(refused_read(&refusal, &other).starts_with("read "));
+                }
             }
         }
-        let refusal = sheet::read("d'", "3", 2025).unwrap_err();
-        let mut row = row_left(Pair::Full.raw_reader(), b"d'", b"3", 2025);
+    }
+
+    #[test]
+    fn behind_one_detail_too() {
+        let reader = Reader::Of(Pair::Full);
+        let refusal = reader.read(b"d'", b"3", 2025).unwrap_err();
+        let mut row = reader.row_left(b"d'", b"3", 2025);
         assert_eq!(refused_read(&refusal, &row), "refused 3 1");
         row[1] = 4;
         let shown = "read 1 4 0 0 0 0 0 0 0 0 0 0 0 0 0 0 0 0";
         assert_eq!(refused_read(&refusal, &row), shown);
+    }
+
+    #[test]
+    fn readers_that_do_not_agree_are_shown() {
+        let both = |one: &str, other: &str| agreed(one.to_string(), other.to_string());
+        assert_eq!(both("refused 8 1 1", "refused 8 1 1"), "refused 8 1 1");
+        assert_eq!(
+            both("refused 8 1 1", "refused 9 1 1"),
+            "refused 8 1 1 unlike refused 9 1 1"
+        );
+    }
+
+    /// `d/` on `3-`, and `d/H` on `3/7`.
+    #[test]
+    fn by_the_pair_and_the_word() {
+        let answer = |pair, words: &str| answer(pair, Words::of(words.as_bytes())).expect("a request");
+        for pair in [Pair::Full, Pair::Date] {
+            assert!(answer(pair, "642f 332d 2025").starts_with("read 2 4 1 "));
+            assert_eq!(answer(pair, "642f 332d 2025 strict"), "refused 15 1 1");
+        }
+        assert!(answer(Pair::Full, "642f48 332f37 2025 strict").starts_with("read 3 20 2 "));
+        assert_eq!(answer(Pair::Date, "642f48 332f37 2025 strict"), "refused 15 2 2");
+    }
+
+    #[test]
+    fn the_word_stands_once_and_last() {
+        for words in [
+            "64 33 2025 Strict",
+            "64 33 2025 strict strict",
+            "64 33 2025 strict ",
+            "64 33 2025  strict",
+            "64 33 strict 2025",
+            "64 33 strict",
+            "64 33 2025 stric",
+            "64 33 2025 strict2",
+        ] {
+            assert!(answer(Pair::Full, Words::of(words.as_bytes())).is_none(), "{words}");
+        }
     }
 }

@@ -5,6 +5,7 @@ use sheet::Fields;
 use std::str::{self, FromStr};
 
 /// The words that are left. Each is taken as what a request asks for next, and is none where it is something else.
+#[derive(Clone, Copy)]
 pub struct Words<'a> {
     rest: Option<&'a [u8]>,
 }
@@ -20,6 +21,16 @@ impl<'a> Words<'a> {
         let word = pieces.next()?;
         self.rest = pieces.next();
         Some(word)
+    }
+
+    /// Takes the next word where it is this one.
+    pub fn takes(&mut self, word: &[u8]) -> bool {
+        let mut behind = *self;
+        let is_next = behind.word() == Some(word);
+        if is_next {
+            *self = behind;
+        }
+        is_next
     }
 
     /// No word is left.
@@ -110,6 +121,14 @@ mod tests {
         }
         assert_eq!((words.end(), words.word()), (None, Some(&b""[..])));
         assert_eq!((words.end(), words.word()), (Some(()), None));
+    }
+
+    #[test]
+    fn a_word_is_taken_where_it_is_next() {
+        let mut words = Words::of(b"a b");
+        assert!(!words.takes(b"b") && words.takes(b"a") && !words.takes(b"a") && words.takes(b"b"));
+        assert_eq!(words.end(), Some(()));
+        assert!(!words.takes(b"") && Words::of(b"").takes(b""));
     }
 
     #[test]

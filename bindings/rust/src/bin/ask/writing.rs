@@ -16,13 +16,21 @@ pub fn answer(pair: Pair, mut words: Words) -> Option<String> {
     words.end()?;
     let mut out = filled(room);
     let wrote = pair.write_into(&pattern, &fields, &mut out);
-    Some(match pair.write(&pattern, &fields) {
-        made if agree(&wrote, &out, &made) => written(&wrote, &out),
-        made => made.map_or_else(
-            |refusal| refused(&refusal),
-            |text| wrote_text(text.len(), text.as_bytes()),
-        ),
-    })
+    let made = pair.write(&pattern, &fields);
+    Some(answer_of_both(&wrote, &out, &made))
+}
+
+/// What the writer did that is lent an output; where the one that makes its own did not do the same, the answers of both.
+fn answer_of_both(wrote: &Result<usize, Refusal>, out: &[u8], made: &Result<String, Refusal>) -> String {
+    let lent = written(wrote, out);
+    if agree(wrote, out, made) {
+        return lent;
+    }
+    let own = match made {
+        Ok(text) => wrote_text(text.len(), text.as_bytes()),
+        Err(refusal) => refused(refusal),
+    };
+    format!("{lent} unlike {own}")
 }
 
 /// What a writer did with an output that was filled before.
@@ -57,7 +65,7 @@ fn agree(wrote: &Result<usize, Refusal>, out: &[u8], made: &Result<String, Refus
 
 #[cfg(test)]
 mod tests {
-    use super::{agree, answer, written};
+    use super::{agree, answer, answer_of_both, written};
     use crate::marks::filled;
     use crate::pair::Pair;
     use crate::words::Words;
@@ -125,5 +133,20 @@ mod tests {
         assert!(agree(&Err(too_long), b"", &Err(too_long)));
         assert!(!agree(&Err(no_room), b"", &Err(too_long)));
         assert!(!agree(&Ok(0), b"", &Err(too_long)));
+    }
+
+    #[test]
+    fn where_they_do_not_both_answers_are_shown() {
+        let (too_long, no_room) = refusals();
+        let text = |text: &str| Ok(text.to_string());
+        assert_eq!(answer_of_both(&Ok(2), b"03", &text("03")), "wrote 2 3033");
+        assert_eq!(
+            answer_of_both(&Ok(2), b"04", &text("03")),
+            "wrote 2 3034 unlike wrote 2 3033"
+        );
+        assert_eq!(
+            answer_of_both(&Err(no_room), b"", &Err(too_long)),
+            "refused 5 2 unlike refused 1 257"
+        );
     }
 }

@@ -1,39 +1,43 @@
 -- What is read so far, and the walk that is left.
 use Prim.Native.Nat.{_-_, _≤_}
 use borrow.Author.Needs.{needs}
+use borrow.Author.Tests.{ltb-true, ltb-false}
 use denote.Ref.{now}
 use lib.ListN.{length, drop}
 use mathlib.Core.List.{List, [], _∷_}
-use mathlib.Core.Logic.{⊎-elim}
+use mathlib.Core.Logic.{⊎-elim, inl, inr}
 use mathlib.Core.Path.{_≡_, refl, sym, _∙_}
 use mir.Syntax.{w64}
 use mir.ValLaws.{toZ-ofZ}
 use native.Mathlib.Omega.{arith}
 use Rattle.meaning.specs.Names.{english}
-use Rattle.meaning.specs.Reading.{readStep}
-use Rattle.meaning.specs.Whole.{walk}
+use Rattle.meaning.specs.Whole.{plain, walk}
 use Rattle.meaning.specs.Writing.{steps}
 use Rattle.meaning.specs.declared.Carried.the-variants.{Nothing, Value}
 use Rattle.meaning.specs.declared.Carried.{Carried}
+use Rattle.meaning.specs.declared.Pair.the-variants.{Full}
+use Rattle.parse.proofs.literals.Strict.{same-either, value-same, ended}
 use Rattle.parse.proofs.steps.Within.{part-stays}
 use Rattle.parse.proofs.rule.Within.{within-step}
+use Rattle.parse.specs.Steps.{plainRead}
 use Rattle.pattern.proofs.parts.Next.{next, starts-here}
 use Rattle.rules.specs.Steps.{means}
-use Rattle.reader.proofs.walk.Walks.{walk-step, walk-done}
+use Rattle.reader.proofs.walk.Walks.{step-here, walk-stops, walk-differs, walk-goes-on, walk-left, walk-done}
 use Rattle.reader.proofs.walk.parse_parts.Statement.{statement}
 use Rattle.reader.proofs.walk.parse_parts.Tie as tie
 use Rattle.reader.proofs.record.Units.{Holds, holds-none, unit-below, holds-nothing, holds-value, holds-reading}
 
 abbrev Inv-loop : tie.InvT-loop
-Inv-loop pair pattern text current-year values₀ mask₀ at₀ place₀ i₀ values mask at place i =
+Inv-loop choices pattern text current-year pair values₀ mask₀ at₀ place₀ i₀ values mask at place i =
     (gave : List Carried)
     × (Holds gave values mask)
-    × (walk english current-year i at (steps pair (drop place pattern)) (drop at text) gave ≡ walk english current-year 0 0 (steps pair pattern) text [])
+    × (walk choices english current-year i at (steps (choices .pair) (drop place pattern)) (drop at text) gave
+    ≡ walk choices english current-year 0 0 (steps (choices .pair) pattern) text [])
     × (at ≤ length text)
     × (i ≤ place)
 
 abbrev μ-loop : tie.MeasureT-loop
-μ-loop pair pattern text current-year values₀ mask₀ at₀ place₀ i₀ values mask at place i = length pattern - place
+μ-loop choices pattern text current-year pair values₀ mask₀ at₀ place₀ i₀ values mask at place i = length pattern - place
 
 loop-holds : tie.Need-loop-holds Inv-loop μ-loop
 loop-holds c = ([], holds-none, refl, omega arith, omega arith)
@@ -53,18 +57,20 @@ parse-step-requires c κs = (c .step-of .ensures .held, c .before .before .befor
 enum-known-trouble : tie.Need-enum-known-trouble Inv-loop μ-loop
 enum-known-trouble c = search needs
 
-no-reading-requires : tie.Need-no-reading-requires Inv-loop μ-loop
-no-reading-requires c κs = search needs
+refused-in-requires : tie.Need-refused-in-requires Inv-loop μ-loop
+refused-in-requires c κs = search needs
 
 returns : tie.Need-returns Inv-loop μ-loop
 returns c =
     let m = c .before .before .before .before .before in
     let L = m .before .before .before .loop in
     let a = m .before .before .before .before .before .before .args in
-    let n = next (now (a .pattern)) (L .place) (m .before .next-part .result) (m .before .before .loop-test .taken) (m .before .next-part .ensures) in
-    let step = walk-step english (a .current-year) (L .i) (now (a .text)) (L .inv .0) (L .at) (L .place) n (m .step-of .ensures) in
-    let stops = rw (step, ← c .before .before .before .before .parse-step .ensures, c .before .before .trouble .given .1) at (L .inv .2) in
-    rw (← stops) (c .no-reading .ensures)
+    let found = m .before .next-part in
+    let n = next (now (a .pattern)) (L .place) (found .result) (m .before .before .loop-test .taken) (found .ensures) in
+    let read = c .before .before .before .before .parse-step .ensures in
+    let gave = sym read ∙ c .before .before .trouble .given .1 in
+    let stops = walk-stops (a .choices) (a .current-year) (L .i) (now (a .text)) (L .inv .0) (L .at) (L .place) n (m .step-of .ensures) gave in
+    rw (← rw stops at (L .inv .2)) (c .refused-in .ensures)
 
 enum-known-carried : tie.Need-enum-known-carried Inv-loop μ-loop
 enum-known-carried c = search needs
@@ -89,6 +95,44 @@ shl-mask c = omega (arith, c .unit-number .ensures, unit-below (c .before .befor
 
 enum-told : tie.Need-enum-told Inv-loop μ-loop
 enum-told c = search needs
+
+compare-part-requires : tie.Need-compare-part-requires Inv-loop μ-loop
+compare-part-requires c κs =
+    let m = c .before .before .before .before .before .before .before in
+    let L = m .before .before .before .loop in
+    let a = m .before .before .before .before .before .before .args in
+    let p = now (a .pattern) in
+    let found = m .before .next-part in
+    let n = next p (L .place) (found .result) (m .before .before .loop-test .taken) (found .ensures) in
+    let read = c .before .before .before .before .before .before .parse-step .ensures in
+    let gave = sym read ∙ c .before .before .before .before .carried .given .1 in
+    let end = ended (now (a .text)) (L .at) (a .current-year) (means p (m .step-of .result)) gave (L .inv .3) in
+    (m .before .before .loop-test .taken, rw (step-here n (m .step-of .ensures)) end)
+
+enum-known-found : tie.Need-enum-known-found Inv-loop μ-loop
+enum-known-found c = search needs
+
+refused-in-requires-2 : tie.Need-refused-in-requires-2 Inv-loop μ-loop
+refused-in-requires-2 c κs = search needs
+
+returns-2 : tie.Need-returns-2 Inv-loop μ-loop
+returns-2 c =
+    let m = c .before .before .before .before .before .before .before .before .before .before .before .before in
+    let L = m .before .before .before .loop in
+    let a = m .before .before .before .before .before .before .args in
+    let p = now (a .pattern) in
+    let found = m .before .next-part in
+    let n = next p (L .place) (found .result) (m .before .before .loop-test .taken) (found .ensures) in
+    let g = c .before .before .before .before .before in
+    let read = g .before .before .before .before .before .before .parse-step .ensures in
+    let gave = sym read ∙ g .before .before .before .before .carried .given .1 in
+    let seen = rw (step-here n (m .step-of .ensures)) at (c .before .before .before .before .compare-part .ensures) in
+    let differs = walk-differs (a .choices) (a .current-year) (L .i) (now (a .text)) (L .inv .0) (L .at) (L .place) n (m .step-of .ensures) in
+    let stops = differs gave (g .if1 .taken) (sym seen ∙ c .before .before .found .given .1) in
+    rw (← rw stops at (L .inv .2)) (c .refused-in2 .ensures)
+
+enum-told-2 : tie.Need-enum-told-2 Inv-loop μ-loop
+enum-told-2 c = search needs
 
 add-place : tie.Need-add-place Inv-loop μ-loop
 add-place c =
@@ -116,27 +160,69 @@ loop-again c =
     let a = m .before .before .before .before .before .before .args in
     let p = now (a .pattern) in
     let text = now (a .text) in
-    let n = next p (L .place) (m .before .next-part .result) (m .before .before .loop-test .taken) (m .before .next-part .ensures) in
-    let read = c .before .before .before .before .before .parse-step .ensures in
-    let carried = c .before .before .before .carried .given .1 in
-    let step = walk-step english (a .current-year) (L .i) text (L .inv .0) (L .at) (L .place) n (m .step-of .ensures) in
-    let moved = rw (step, ← read, carried) at (L .inv .2) in
+    let found = m .before .next-part in
+    let n = next p (L .place) (found .result) (m .before .before .loop-test .taken) (found .ensures) in
     let k = means p (m .step-of .result) in
     let rest = drop (L .at) text in
-    let inside = part-stays (L .at) text (readStep english (a .current-year) k rest) (L .inv .3) (within-step english (a .current-year) k rest) (sym read ∙ carried) in
+    let read = c .before .before .before .before .before .parse-step .ensures in
+    let gave = sym read ∙ c .before .before .before .carried .given .1 in
+    let moved = walk-goes-on (a .choices) (a .current-year) (L .i) text (L .inv .0) (L .at) (L .place) n (m .step-of .ensures) gave in
+    let within = within-step (plain Full) english (a .current-year) k rest in
+    let inside = part-stays (L .at) text (plainRead (a .current-year) k rest) (L .inv .3) within gave in
     ⊎-elim
-    (λ l. (Value (l .1 .given .0 .0) (l .1 .given .0 .1 .0) ∷ L .inv .0, rw (l .4, l .5, l .3 .ensures, toZ-ofZ w64 (l .1 .given .0 .1 .0) (search needs)) (holds-value (L .inv .1) (l .1 .given .0 .0) (l .1 .given .0 .1 .0)), rw (l .6) (rw (l .1 .given .1) at moved), rw (l .6) inside, omega (arith, n .some)))
-    (λ r. (Nothing ∷ L .inv .0, rw (r .2, r .3) (holds-nothing (L .inv .1)), rw (r .4) (rw (r .1 .given .1) at moved), rw (r .4) inside, omega (arith, n .some)))
+    (λ l.
+    let u = l .1 .given .0 .0 in
+    let z = l .1 .given .0 .1 .0 in
+    let same = value-same text (L .at) (a .current-year) k (rw (l .1 .given .1) at gave) in (
+      Value u z ∷ L .inv .0,
+      rw (l .4, l .5, l .3 .ensures, toZ-ofZ w64 z (search needs)) (holds-value (L .inv .1) u z),
+      rw (l .1 .given .1) at (sym (moved (rw same (same-either (a .choices .strict)))) ∙ L .inv .2),
+      inside,
+      omega (arith, n .some),
+    ))
+    (λ r. ⊎-elim
+    (λ t.
+    let seen = rw (step-here n (m .step-of .ensures)) at (t .3 .ensures) in (
+      Nothing ∷ L .inv .0,
+      rw (t .6, t .7) (holds-nothing (L .inv .1)),
+      rw (t .1 .given .1) at (sym (moved (rw (t .2 .taken) (sym seen ∙ t .5 .given .1))) ∙ L .inv .2),
+      inside,
+      omega (arith, n .some),
+    ))
+    (λ e. (
+      Nothing ∷ L .inv .0,
+      rw (e .3, e .4) (holds-nothing (L .inv .1)),
+      rw (e .1 .given .1) at (sym (moved (rw (e .2 .left))) ∙ L .inv .2),
+      inside,
+      omega (arith, n .some),
+    ))
+    r)
     (c .before .match2 .came)
 
-returns-2 : tie.Need-returns-2 Inv-loop μ-loop
-returns-2 c =
-    let a = c .before .before .before .before .args in
+no-reading-requires : tie.Need-no-reading-requires Inv-loop μ-loop
+no-reading-requires c κs = search needs
+
+returns-3 : tie.Need-returns-3 Inv-loop μ-loop
+returns-3 c =
+    let m = c .before .before .before in
+    let a = m .before .before .before .before .args in
+    let L = m .before .loop in
     let p = now (a .pattern) in
     let text = now (a .text) in
-    let L = c .before .loop in
-    let done′ = rw (walk-done english (a .current-year) (L .i) text (L .inv .0) (a .pair) (L .at) (L .place) p (c .loop-test .left)) at (L .inv .2) in
-    rw (← done′) (holds-reading (L .inv .1) (L .at))
+    let ends = walk-left (a .choices) (a .current-year) (L .i) text (L .inv .0) (L .at) (L .place) p (m .loop-test .left) in
+    let left = ltb-true (L .at) (length text) (c .before .if3 .taken) in
+    rw (← rw (ends (c .before .before .if2 .taken) left) at (L .inv .2)) (c .no-reading .ensures)
+
+returns-4 : tie.Need-returns-4 Inv-loop μ-loop
+returns-4 c =
+    let m = c .before in
+    let a = m .before .before .before .before .args in
+    let L = m .before .loop in
+    let p = now (a .pattern) in
+    let text = now (a .text) in
+    let ends = walk-done (a .choices) (a .current-year) (L .i) text (L .inv .0) (L .at) (L .place) p (m .loop-test .left) in
+    let none-left = ⊎-elim (λ t. inr (ltb-false (L .at) (length text) (t .1 .left))) (λ e. inl (e .left)) (c .if2 .came) in
+    rw (← rw (ends none-left) at (L .inv .2)) (holds-reading (L .inv .1) (L .at))
 
 pub parse-parts-spec : {M : Type 1} → statement M
 parse-parts-spec =
@@ -149,7 +235,7 @@ parse-parts-spec =
     step-of-requires
     parse-step-requires
     enum-known-trouble
-    no-reading-requires
+    refused-in-requires
     returns
     enum-known-carried
     enum-known-carried-2
@@ -159,8 +245,15 @@ parse-parts-spec =
     cast-mask
     shl-mask
     enum-told
+    compare-part-requires
+    enum-known-found
+    refused-in-requires-2
+    returns-2
+    enum-told-2
     add-place
     add-i
     loop-less
     loop-again
-    returns-2)
+    no-reading-requires
+    returns-3
+    returns-4)

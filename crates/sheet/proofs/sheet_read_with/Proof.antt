@@ -1,0 +1,38 @@
+-- The reader with the choices of a number, where it stands for some.
+use denote.Ref.{now}
+use native.Mathlib.Omega.{arith}
+use mir.Syntax.{w32}
+use mir.ValLaws.{toZ-ofZ}
+use Rattle.sheet.proofs.Rooms.{chosen, no-choices}
+use Rattle.sheet.specs.Rows.{choicesOf}
+use Rattle.sheet.specs.Sheet.{readOf}
+use borrow.Author.Needs.{needs}
+use Rattle.sheet.proofs.sheet_read_with.Statement.{statement}
+use Rattle.sheet.proofs.sheet_read_with.Tie as tie
+
+returns : tie.Need-returns
+returns c =
+    let a = c .before .before .before .args in
+    let n = a .choices in
+    no-choices n (now (a .answer)) (readOf (choicesOf n) (now (a .pattern)) (now (a .text)) (a .year) (now (a .answer))) (omega arith)
+
+choices-of-requires : tie.Need-choices-of-requires
+choices-of-requires c κs = search needs
+
+read-requires : tie.Need-read-requires
+read-requires c κs = search needs
+
+same-length : tie.Need-same-length
+same-length c = search needs
+
+returns-2 : tie.Need-returns-2
+returns-2 c =
+    let s = c .before .before .before .before .before .before .before in
+    let a = s .args in
+    let n = a .choices in
+    let read = rw (toZ-ofZ w32 (a .year) (s .fits .year), c .before .before .before .choices-of .ensures) at (c .before .read .ensures) in
+    chosen n (now (a .answer)) (readOf (choicesOf n) (now (a .pattern)) (now (a .text)) (a .year) (now (a .answer))) (omega arith) read
+
+pub sheet-read-with-spec : {M : Type 1} → statement M
+sheet-read-with-spec =
+    tie.close (tie.spec returns choices-of-requires read-requires same-length returns-2)

@@ -1,0 +1,36 @@
+-- Where the check says yes, a read of what was written for an allowed record, strict or not, is accepted, takes all of it, and
+-- gives every unit that the pattern carries with the record's value.
+use mathlib.Core.Bool.{Bool}
+use mathlib.Core.List.{List}
+use mathlib.Core.Path.{_≡_}
+use Prim.Native.Nat.{ℕ}
+use lib.IntN.{ℤ}
+use lib.ListN.{length}
+use Rattle.meaning.specs.Answers.{patternCheck, currentYearCheck, fieldsCheck}
+use Rattle.meaning.specs.Names.{english}
+use Rattle.meaning.specs.Trust.{trustCheck, fullPair, SaysOf}
+use Rattle.meaning.specs.Whole.{readCheck, readingOf, read, text}
+use Rattle.meaning.specs.Writing.{steps}
+use Rattle.meaning.specs.declared.Checked.the-variants.{Fine}
+use Rattle.meaning.specs.declared.Fields.{Fields}
+use Rattle.meaning.specs.declared.Pair.the-variants.{Full}
+use Rattle.meaning.specs.declared.Verdict.the-variants as verdict
+use Rattle.laws.proofs.Ascii.{written-checks}
+use Rattle.laws.proofs.Checks.{else-fine}
+use Rattle.trust.proofs.Walks.{walk-yes}
+use Rattle.trust.specs.ReadBack.{carriedBy}
+
+-- no check of the read refuses the written text
+written-is-read : (p : List ℕ) (current : ℤ) (f : Fields) → trustCheck p current ≡ Fine → fieldsCheck f ≡ Fine
+    → readCheck p (text Full english p f) current ≡ Fine
+unfolding trustCheck readCheck
+written-is-read p current f h k =
+    let t = else-fine (patternCheck p) (currentYearCheck current) h in
+    rw (t .0, t .1) (written-checks Full p f (t .0) k)
+
+pub read-back : (strict : Bool) (p : List ℕ) (current : ℤ) (f : Fields) → SaysOf (fullPair strict) english p current verdict.Yes → fieldsCheck f ≡ Fine
+    → read (fullPair strict) english p (text Full english p f) current
+    ≡ readingOf Fine (length (text Full english p f)) (carriedBy f (steps Full p))
+unfolding read SaysOf
+read-back strict p current f says fine =
+    rw (written-is-read p current f (says .0) fine, walk-yes (fullPair strict) english p current says f fine)
