@@ -1,4 +1,5 @@
-/* Writes a record by a pattern, reads it back, shows what its parts are, checks a pattern, reads strictly and shows a refusal. */
+/* Writes a record by a pattern, reads it back, underlines what was read, shows what the parts of a pattern are, checks a pattern,
+ * reads strictly and shows a refusal. */
 #include "sheet.h"
 
 #include <inttypes.h>
@@ -39,6 +40,26 @@ static void write_and_read_back(const char *pattern) {
     show_value("month", read, SHEET_MONTH);
     show_value("day", read, SHEET_DAY_OF_MONTH);
     show_value("hour", read, SHEET_HOUR);
+}
+
+/* Under the bytes that a value was read from, where the text stands in the line above. */
+static void underline(const char *name, const int64_t *answer, uint32_t unit) {
+    int64_t end = answer[SHEET_READ_ENDS + unit];
+    printf("  ");
+    for (int64_t place = 0; place < end; place++)
+        putchar(place < answer[SHEET_READ_STARTS + unit] ? ' ' : '^');
+    printf(" %s\n", name);
+}
+
+static void underline_what_is_read(const char *pattern, const char *text) {
+    int64_t read[SHEET_READ_ANSWER];
+    if (sheet_read(bytes(pattern), strlen(pattern), bytes(text), strlen(text), CURRENT_YEAR, read, SHEET_READ_ANSWER) !=
+        SHEET_ACCEPTED)
+        return;
+    printf("%s reads:\n  %s\n", pattern, text);
+    underline("day", read, SHEET_DAY_OF_MONTH);
+    underline("month", read, SHEET_MONTH);
+    underline("year", read, SHEET_YEAR);
 }
 
 static void show_units(const char *pattern) {
@@ -88,6 +109,7 @@ static void show_a_refusal(const char *pattern) {
 
 int main(void) {
     write_and_read_back("yyyy/MM/dd");
+    underline_what_is_read("d MMMM y", "3 December -12");
     show_units("w/yyyy");
     check("d/M");
     check("d/MM");

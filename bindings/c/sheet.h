@@ -43,13 +43,13 @@ extern "C" {
 /* A writer needs no more than so many bytes of output for each byte of the pattern, so SHEET_LONGEST_TEXT are always enough. */
 #define SHEET_BYTES_A_PATTERN_BYTE 8
 
-/* No call takes more bytes of the stack. As measured on x86-64, a write takes 1,000 at most, with names, a read 980, and the
+/* No call takes more bytes of the stack. As measured on x86-64, a write takes 1,016 at most, with names, a read 1,152, and the
  * other functions under 200. */
 #define SHEET_MOST_STACK 2048
 
 /* How many entries each function asks for in `answer`, sheet_split in `parts`, and sheet_units in `units`. */
 #define SHEET_WRITE_ANSWER 2
-#define SHEET_READ_ANSWER 18
+#define SHEET_READ_ANSWER 48
 #define SHEET_OFFSET_ANSWER 2
 #define SHEET_SPLIT_ANSWER 2
 #define SHEET_SPLIT_PARTS 768
@@ -104,8 +104,10 @@ extern "C" {
 #define SHEET_LITERAL (-1)
 #define SHEET_CARRIES_NOTHING 15
 
-/* Where the values of a reading start in `answer`. */
+/* Where in `answer` the values of a reading start, the places where their parts began, and those where they ended. */
 #define SHEET_READ_VALUES 3
+#define SHEET_READ_STARTS 18
+#define SHEET_READ_ENDS 33
 
 /* The kinds of part: a run of equal bytes, escaped quotes, a quoted part, one that no quote closes. */
 #define SHEET_RUN 0
@@ -129,7 +131,9 @@ uint32_t sheet_write_date(const uint8_t *pattern, size_t pattern_len, int32_t ye
 
 /* Reads a text by a pattern; `year` is the current year, 1 to 9999, in whose millennium a year of two digits is.
  * Answers: how many bytes were read (a rest is allowed), the mask with bit k set where unit k was read, how many units that is,
- * and the fifteen values by unit, 0 where one was not read. No value is held to a range.
+ * the fifteen values by unit, then by unit where in the text its part began, then by unit where it ended: the place behind the
+ * last byte of all that the part took, a sign included. Of a unit that was not read all three are 0, of one that several parts
+ * read they are the last part's. No value is held to a range.
  * Refuses: 1, 2, 3, 14, 6, 7, the first in this order, then 8 to 11 or 19 at the first part that
  * can't be read. */
 uint32_t sheet_read(const uint8_t *pattern, size_t pattern_len, const uint8_t *text, size_t text_len, int32_t year,

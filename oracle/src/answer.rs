@@ -84,6 +84,9 @@ pub fn read(reading: &Reading) -> String {
     for value in reading.values {
         line += &format!(" {value}");
     }
+    for span in &reading.spans {
+        line += &format!(" {}:{}", span.start, span.end);
+    }
     line
 }
 

@@ -7,6 +7,7 @@ use crate::guard::guarded;
 pub use crate::guard::Cause;
 use crate::util::format::{format_date_part, format_part};
 use crate::util::parse::{self, parse_date_part, parse_format_string, parse_part, ParsedPart};
+use std::ops::Range;
 
 /// Which of the Rust's pairs of part functions the walk goes through.
 #[derive(Clone, Copy, Debug, PartialEq, Eq)]
@@ -31,12 +32,13 @@ pub struct Part {
     pub length: usize,
 }
 
-/// What a read gives: the bytes taken, and by unit which values were read.
+/// What a read gives: the bytes taken, and by unit which values were read and from where in the text.
 #[derive(Debug, Default, PartialEq, Eq)]
 pub struct Reading {
     pub taken: usize,
     pub mask: u16,
     pub values: [i64; 15],
+    pub spans: [Range<usize>; 15],
 }
 
 /// Where and why a read came to no answer: the part, the place in the text where that part began,
@@ -117,22 +119,24 @@ fn read_noting(
     places: &mut Vec<usize>,
 ) -> Result<Reading, Stopped> {
     give_current_year(now);
+    // What a part takes is removed from the front, so what is left tells the place.
+    let place = |rest: &str| text.len() - rest.len();
     let mut rest = text.to_string();
     let mut reading = Reading::default();
     for (number, part) in parse_format_string(pattern).iter().enumerate() {
-        let began = text.len() - rest.len();
+        let began = place(&rest);
         places.push(began);
         let carried = guarded(|| read_part(pair, part, &mut rest)).map_err(|cause| Stopped {
             part: number,
             began,
-            reached: text.len() - rest.len(),
+            reached: place(&rest),
             cause,
         })?;
         if let Some(carried) = carried {
-            reading.keep(carried);
+            reading.keep(carried, began..place(&rest));
         }
     }
-    reading.taken = text.len() - rest.len();
+    reading.taken = place(&rest);
     Ok(reading)
 }
 
@@ -184,10 +188,11 @@ impl Parts {
 }
 
 impl Reading {
-    fn keep(&mut self, carried: ParsedPart) {
+    fn keep(&mut self, carried: ParsedPart, span: Range<usize>) {
         let unit = carried.unit as usize;
         self.mask |= 1 << unit;
         self.values[unit] = carried.value;
+        self.spans[unit] = span;
     }
 }
 

@@ -6,6 +6,7 @@ use harness::expected::{expected, Expected};
 use harness::request::{hex, Request};
 use harness::walk::Pair;
 use harness::Fields;
+use std::ops::Range;
 
 const R: Fields = Fields {
     year: 2025,
@@ -17,6 +18,12 @@ const R: Fields = Fields {
     nanoseconds: 25_509_000_120_000,
     offset: 19_800,
 };
+
+const YEAR: usize = 0;
+const MONTH: usize = 1;
+const DAY: usize = 2;
+const HOUR: usize = 4;
+const OFFSET: usize = 14;
 
 fn split(pattern: &str) -> Request {
     Request::Split {
@@ -77,14 +84,17 @@ fn writes(pattern: &str, fields: Fields, text: &str) {
     accepted(&write(pattern, fields), &line);
 }
 
-/// The values are those of the first units; all further ones are unread.
+/// The units that are read, each with its value and its span; all others are unread.
 #[track_caller]
-fn reads(request: &Request, taken_mask_count: &str, first_values: &[i64]) {
-    let mut values = first_values.to_vec();
-    values.resize(15, 0);
-    let values: Vec<String> = values.iter().map(i64::to_string).collect();
-    let line = format!("read {taken_mask_count} {}", values.join(" "));
-    accepted(request, &line);
+fn reads(request: &Request, taken_mask_count: &str, units: &[(usize, i64, Range<usize>)]) {
+    let mut values = vec!["0".to_string(); 15];
+    let mut spans = vec!["0:0".to_string(); 15];
+    for (unit, value, span) in units {
+        values[*unit] = value.to_string();
+        spans[*unit] = format!("{}:{}", span.start, span.end);
+    }
+    let words = [values, spans].concat().join(" ");
+    accepted(request, &format!("read {taken_mask_count} {words}"));
 }
 
 #[track_caller]
@@ -141,9 +151,36 @@ fn quotes_are_read() {
 
 #[test]
 fn numbers_are_read() {
-    reads(&read("M", "12", 2025), "1 2 1", &[0, 1]);
-    reads(&read("d/M", "3/12", 2025), "3 6 2", &[0, 1, 3]);
-    reads(&read("HH", "99", 2025), "2 16 1", &[0, 0, 0, 0, 99]);
+    reads(&read("M", "12", 2025), "1 2 1", &[(MONTH, 1, 0..1)]);
+    let both = [(DAY, 3, 0..1), (MONTH, 1, 2..3)];
+    reads(&read("d/M", "3/12", 2025), "3 6 2", &both);
+    reads(&read("HH", "99", 2025), "2 16 1", &[(HOUR, 99, 0..2)]);
+}
+
+/// Signs and names are of the span, literals and symbols that carry nothing are not; a time symbol is none to the Date pair.
+#[test]
+fn a_span_is_all_that_the_part_took() {
+    reads(&read("y", "-5", 2025), "2 1 1", &[(YEAR, -5, 0..2)]);
+    reads(&read("X", "Z", 2025), "1 16384 1", &[(OFFSET, 0, 0..1)]);
+    let december = [(MONTH, 12, 3..11)];
+    reads(&read("'of 'MMMM", "of December", 2025), "11 2 1", &december);
+    reads(&read("eee d", "Wed 3", 2025), "5 4 1", &[(DAY, 3, 4..5)]);
+    let by_date = Request::Read {
+        pair: Pair::Date,
+        strict: false,
+        pattern: "HH d".into(),
+        text: "07 3".into(),
+        now: 2025,
+    };
+    reads(&by_date, "4 4 1", &[(DAY, 3, 3..4)]);
+}
+
+#[test]
+fn of_a_unit_read_twice_the_last_span_stands() {
+    reads(&read("d d", "3 14", 2025), "4 4 1", &[(DAY, 14, 2..4)]);
+    reads(&read("d d", "31 4", 2025), "4 4 1", &[(DAY, 4, 3..4)]);
+    let strict = read_strictly(Pair::Full, "d d", "3 14");
+    reads(&strict, "4 4 1", &[(DAY, 14, 2..4)]);
 }
 
 /// The Rust takes a plus in front of a number; ours refuses it, behind 8 and before 9, at the first of a reading.
@@ -189,7 +226,8 @@ fn no_number_takes_a_plus() {
 fn a_strict_read_compares_literals() {
     for pair in [Pair::Full, Pair::Date] {
         let strict = |pattern: &str, text: &str| read_strictly(pair, pattern, text);
-        reads(&strict("d/MM", "3/12"), "4 6 2", &[0, 12, 3]);
+        let both = [(DAY, 3, 0..1), (MONTH, 12, 2..4)];
+        reads(&strict("d/MM", "3/12"), "4 6 2", &both);
         limited(&strict("d/MM", "3-12"), "refused 15 1 1");
         limited(&strict("''", "x"), "refused 15 0 0");
         reads(&strict("'a''b'", "a'b"), "3 0 0", &[]);
@@ -204,7 +242,7 @@ fn a_strict_read_compares_literals() {
     reads(
         &read_strictly(Pair::Date, "d/H", "3/H"),
         "3 4 1",
-        &[0, 0, 3],
+        &[(DAY, 3, 0..1)],
     );
 }
 
@@ -242,9 +280,8 @@ fn the_first_part_of_a_strict_read_that_is_refused_decides() {
 #[test]
 fn zones_are_read_and_written() {
     refused(&read("x", "Z", 2025), "refused 11 0 0");
-    let mut values = [0; 15];
-    values[14] = 19_800;
-    reads(&read("X", "+0530", 2025), "5 16384 1", &values);
+    let offset = [(OFFSET, 19_800, 0..5)];
+    reads(&read("X", "+0530", 2025), "5 16384 1", &offset);
 }
 
 /// The Rust writes a minus for any offset below zero; ours a plus where every digit written is zero.
@@ -286,8 +323,8 @@ fn what_is_no_number_is_refused() {
 
 #[test]
 fn two_digit_years_are_read() {
-    reads(&read("yy", "25", 2025), "2 1 1", &[2025]);
-    reads(&read("yy", "25", 1999), "2 1 1", &[1025]);
+    reads(&read("yy", "25", 2025), "2 1 1", &[(YEAR, 2025, 0..2)]);
+    reads(&read("yy", "25", 1999), "2 1 1", &[(YEAR, 1025, 0..2)]);
 }
 
 #[test]

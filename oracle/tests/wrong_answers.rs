@@ -1,15 +1,21 @@
 //! Both comparers on programs that answer: right answers pass, and one wrong, missing or needless answer among them is found.
 
+use harness::answer::as_pattern;
 use harness::check::verdict;
 use harness::expected::expected;
 use harness::generator::{CheckGenerator, Generator, Random};
 use harness::request::{Op, Request};
+use harness::walk::{self, Part};
 use std::fs;
 use std::path::Path;
 use std::process::Command;
 
 const COUNT: usize = 300;
 const ALWAYS_YES: &str = "while read -r line; do echo yes; done";
+
+/// How many words of an accepted read stand before its spans, and the span of a unit that was not read.
+const BEFORE_SPANS: usize = 19;
+const NO_SPAN: &str = "0:0";
 
 /// A comparer, and the requests of its seed 1 with their right answers.
 struct Comparer {
@@ -28,10 +34,12 @@ fn compare() -> Comparer {
     Comparer {
         path: env!("CARGO_BIN_EXE_compare"),
         requests: requests().map(|request| request.to_string()).collect(),
-        answers: requests()
-            .map(|request| expected(&request).line().to_string())
-            .collect(),
+        answers: requests().map(|request| right(&request)).collect(),
     }
+}
+
+fn right(request: &Request) -> String {
+    expected(request).line().to_string()
 }
 
 fn compare_check() -> Comparer {
@@ -119,40 +127,86 @@ fn one_wrong_answer_is_found_and_shown() {
     }
 }
 
-/// The answer to a request that is not strict.
-fn plain(request: Request) -> String {
-    let plain = match request {
-        Request::Read {
-            pair,
-            pattern,
-            text,
-            now,
-            ..
-        } => Request::Read {
-            pair,
-            strict: false,
-            pattern,
-            text,
-            now,
-        },
-        other => other,
-    };
-    expected(&plain).line().to_string()
+/// A program that answers so is found out at each request where that is wrong, of which there are some.
+#[track_caller]
+fn is_found_out(name: &str, answer: impl Fn(&Request) -> String) {
+    let comparer = compare();
+    let answers: Vec<String> = Generator::new(1, Op::ALL.to_vec())
+        .take(COUNT)
+        .map(|request| answer(&request))
+        .collect();
+    let both = answers.iter().zip(&comparer.answers);
+    let wrong = both.filter(|(answer, right)| answer != right).count();
+    assert!(wrong > 0, "it is always right");
+    comparer
+        .with_answers(name, &answers, "")
+        .is_a_failure(wrong);
+}
+
+/// The same request, not strict.
+fn plain(request: &Request) -> Request {
+    let mut plain = request.clone();
+    if let Request::Read { strict, .. } = &mut plain {
+        *strict = false;
+    }
+    plain
 }
 
 #[test]
 fn a_program_that_is_never_strict_is_found_out() {
-    let comparer = compare();
-    let answers: Vec<String> = Generator::new(1, Op::ALL.to_vec())
-        .take(COUNT)
-        .map(plain)
-        .collect();
-    let both = answers.iter().zip(&comparer.answers);
-    let wrong = both.filter(|(plain, right)| plain != right).count();
-    assert!(wrong > 10, "{wrong}");
-    comparer
-        .with_answers("never_strict", &answers, "")
-        .is_a_failure(wrong);
+    is_found_out("never_strict", |request| right(&plain(request)));
+}
+
+/// The right answer, but that each span in it is changed, by its unit.
+fn with_spans(request: &Request, changed: impl Fn(usize, &str) -> String) -> String {
+    let right = right(request);
+    if !right.starts_with("read ") {
+        return right;
+    }
+    let words = right.split(' ').enumerate();
+    let words = words.map(|(place, word)| match place.checked_sub(BEFORE_SPANS) {
+        Some(unit) if word != NO_SPAN => changed(unit, word),
+        _ => word.to_string(),
+    });
+    words.collect::<Vec<_>>().join(" ")
+}
+
+#[test]
+fn a_program_whose_spans_end_one_too_far_is_found_out() {
+    let too_far = |_, span: &str| {
+        let (start, end) = span.split_once(':').expect("a span has an end");
+        let end: usize = end.parse().expect("it is a place");
+        format!("{start}:{}", end + 1)
+    };
+    is_found_out("too_far", |request| with_spans(request, too_far));
+}
+
+/// The span of the unit in a read by the parts up to this one, if one of them gave it.
+fn span_by(parts_up_to: &Part, read: &Request, unit: usize) -> Option<String> {
+    let mut read = plain(read);
+    if let Request::Read { pattern, .. } = &mut read {
+        pattern.truncate(parts_up_to.start + parts_up_to.length);
+    }
+    let span = right(&read)
+        .split(' ')
+        .nth(BEFORE_SPANS + unit)?
+        .to_string();
+    (span != NO_SPAN).then_some(span)
+}
+
+#[test]
+fn a_program_that_gives_the_first_span_of_a_unit_is_found_out() {
+    let first_span = |request: &Request, unit: usize| {
+        let Request::Read { pattern, .. } = request else {
+            panic!("{request} is no read");
+        };
+        let parts = walk::split(as_pattern(pattern).expect("it was read"));
+        let mut spans = parts.iter().filter_map(|part| span_by(part, request, unit));
+        spans.next().expect("the last part gives one")
+    };
+    is_found_out("first_spans", |request| {
+        with_spans(request, |unit, _| first_span(request, unit))
+    });
 }
 
 #[test]

@@ -12,9 +12,13 @@ pub const MOST_STACK: usize = 2048;
 /// How many entries of `answer` a writer asks for.
 pub const WRITE_ANSWER: usize = 2;
 /// How many entries of `answer` a reader asks for.
-pub const READ_ANSWER: usize = 18;
+pub const READ_ANSWER: usize = 48;
 /// Where the values of a reading start in `answer`.
 pub const READ_VALUES: usize = 3;
+/// Where in `answer` the places start at which the parts of the values began.
+pub const READ_STARTS: usize = 18;
+/// Where in `answer` the places start at which they ended.
+pub const READ_ENDS: usize = 33;
 /// How many entries of `answer` [`sheet_parse_offset`] asks for.
 pub const OFFSET_ANSWER: usize = 2;
 /// How many entries of `answer` [`sheet_split`] asks for.

@@ -1,5 +1,7 @@
 use crate::raw::{self, Reader};
 use crate::{Choices, Refusal};
+use std::array;
+use std::ops::Range;
 
 /// What can be read, in the order of the mask's bits and of the values.
 #[derive(Clone, Copy, Debug, PartialEq, Eq, Hash)]
@@ -54,6 +56,10 @@ pub struct Reading {
     pub units: u32,
     /// By unit; 0 where it was not read. Where several parts read the same unit, the last one's value.
     pub values: [i64; ParseUnit::ALL.len()],
+    /// By unit, where in the text the part began that gave the value; 0 where it was not read.
+    pub starts: [u16; ParseUnit::ALL.len()],
+    /// By unit, the place behind the last byte that this part took; 0 where it was not read.
+    pub ends: [u16; ParseUnit::ALL.len()],
 }
 
 impl Reading {
@@ -68,13 +74,37 @@ impl Reading {
         self.was_read(unit).then(|| self.values[unit as usize])
     }
 
+    /// Where in the text the value of a unit that was read stands: all that its part took, a sign included.
+    ///
+    /// ```
+    /// use sheet::ParseUnit;
+    ///
+    /// # fn main() -> Result<(), sheet::Refusal> {
+    /// let text = "3 December -12";
+    /// let reading = sheet::read("d MMMM y", text, 2025)?;
+    /// let month = reading.span(ParseUnit::Month).expect("it was read");
+    /// assert_eq!(&text[month], "December");
+    /// assert_eq!(reading.span(ParseUnit::Year), Some(11..14));
+    /// assert_eq!(reading.span(ParseUnit::Hour), None);
+    /// # Ok(())
+    /// # }
+    /// ```
+    pub fn span(&self, unit: ParseUnit) -> Option<Range<usize>> {
+        let place = |places: &[u16]| usize::from(places[unit as usize]);
+        self.was_read(unit).then(|| place(&self.starts)..place(&self.ends))
+    }
+
     fn of_row(row: &[i64; raw::READ_ANSWER]) -> Reading {
-        let [taken, mask, units, values @ ..] = *row;
+        let [taken, mask, units, ..] = *row;
+        let by_unit = |first: usize| array::from_fn(|unit| row[first + unit]);
+        let places = |first: usize| by_unit(first).map(|place: i64| place as u16);
         Reading {
             taken: taken as usize,
             mask: mask as u16,
             units: units as u32,
-            values,
+            values: by_unit(raw::READ_VALUES),
+            starts: places(raw::READ_STARTS),
+            ends: places(raw::READ_ENDS),
         }
     }
 }

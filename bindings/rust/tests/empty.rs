@@ -31,6 +31,15 @@ fn gives(mut call: impl FnMut(&mut [i64]) -> u32, number: u32, first: i64, secon
     assert_eq!(call(&mut []), raw::ROW_TOO_SMALL);
 }
 
+/// The same of a reader: nothing was read, or the details are 0, and its whole row is zeros.
+#[track_caller]
+fn reads_nothing(mut call: impl FnMut(&mut [i64]) -> u32, number: u32) {
+    gives(&mut call, number, 0, 0);
+    let mut entries = [MARK; raw::READ_ANSWER];
+    call(&mut entries);
+    assert_eq!(entries, [0; raw::READ_ANSWER]);
+}
+
 fn write(writer: Writer, pattern: &[u8], room: usize, answer: &mut [i64]) -> u32 {
     let mut out = [0; 8];
     let to = if room == 0 { null_mut() } else { out.as_mut_ptr() };
@@ -91,11 +100,11 @@ fn of_the_writers() {
 #[test]
 fn of_the_readers() {
     for reader in [raw::sheet_read as Reader, raw::sheet_read_date] {
-        gives(|row| read(reader, b"", b"03", row), raw::ACCEPTED, 0, 0);
-        gives(|row| read(reader, b"", b"", row), raw::ACCEPTED, 0, 0);
-        gives(|row| read(reader, b"dd", b"", row), raw::TOO_FEW, 0, 0);
-        gives(|row| read(reader, b"y", b"", row), raw::NO_NUMBER, 0, 0);
-        gives(|row| read(reader, b"MMM", b"", row), raw::NO_NAME, 0, 0);
+        reads_nothing(|row| read(reader, b"", b"03", row), raw::ACCEPTED);
+        reads_nothing(|row| read(reader, b"", b"", row), raw::ACCEPTED);
+        reads_nothing(|row| read(reader, b"dd", b"", row), raw::TOO_FEW);
+        reads_nothing(|row| read(reader, b"y", b"", row), raw::NO_NUMBER);
+        reads_nothing(|row| read(reader, b"MMM", b"", row), raw::NO_NAME);
     }
 }
 
@@ -103,12 +112,12 @@ fn of_the_readers() {
 fn of_the_reader_with_choices() {
     for choices in [0, raw::DATE_PAIR] {
         let strict = choices + raw::STRICT;
-        gives(|row| read_with(choices, b"", b"03", row), raw::ACCEPTED, 0, 0);
-        gives(|row| read_with(strict, b"", b"03", row), raw::TEXT_LEFT, 0, 0);
+        reads_nothing(|row| read_with(choices, b"", b"03", row), raw::ACCEPTED);
+        reads_nothing(|row| read_with(strict, b"", b"03", row), raw::TEXT_LEFT);
         for choices in [choices, strict] {
-            gives(|row| read_with(choices, b"", b"", row), raw::ACCEPTED, 0, 0);
-            gives(|row| read_with(choices, b"/", b"", row), raw::TOO_FEW, 0, 0);
-            gives(|row| read_with(choices, b"y", b"", row), raw::NO_NUMBER, 0, 0);
+            reads_nothing(|row| read_with(choices, b"", b"", row), raw::ACCEPTED);
+            reads_nothing(|row| read_with(choices, b"/", b"", row), raw::TOO_FEW);
+            reads_nothing(|row| read_with(choices, b"y", b"", row), raw::NO_NUMBER);
         }
     }
     assert_eq!(read_with(4, b"", b"", &mut []), raw::NO_SUCH_CHOICE);

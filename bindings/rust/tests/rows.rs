@@ -1,8 +1,8 @@
 //! The rows that are lent to the functions as C sees them: where one is too small nothing is altered, of a larger one only the
-//! start is.
+//! start is; and what stands where in a reader's.
 
 use sheet::raw::{self, Reader, Writer};
-use sheet::Fields;
+use sheet::{Fields, ParseUnit};
 
 const MARK: i64 = -77;
 const BYTE: u8 = 255;
@@ -11,7 +11,7 @@ const REST: usize = 3;
 /// The function asks for so many entries: it refuses fewer, and alters all of these and none behind them.
 #[track_caller]
 fn asks_for(entries: usize, number: u32, mut call: impl FnMut(&mut [i64]) -> u32) {
-    for fewer in [0, 1, entries - 1] {
+    for fewer in 0..entries {
         let mut row = vec![MARK; fewer];
         assert_eq!(call(&mut row), raw::ROW_TOO_SMALL);
         assert!(row.iter().all(|entry| *entry == MARK));
@@ -112,8 +112,8 @@ fn of_the_readers() {
     }
 }
 
-fn read_with(choices: u32, text: &[u8], answer: &mut [i64]) -> u32 {
-    let (pattern, answer_len) = (b"dd", answer.len());
+fn read_with(choices: u32, pattern: &[u8], text: &[u8], answer: &mut [i64]) -> u32 {
+    let answer_len = answer.len();
     // SAFETY: each pointer goes with the length of the slice that it comes from.
     unsafe {
         raw::sheet_read_with(
@@ -132,10 +132,54 @@ fn read_with(choices: u32, text: &[u8], answer: &mut [i64]) -> u32 {
 #[test]
 fn of_the_reader_with_choices() {
     for choices in 0..=raw::DATE_PAIR + raw::STRICT {
-        asks_for(raw::READ_ANSWER, raw::ACCEPTED, |row| read_with(choices, b"03", row));
-        asks_for(raw::READ_ANSWER, 8, |row| read_with(choices, b"3", row));
+        asks_for(raw::READ_ANSWER, raw::ACCEPTED, |row| {
+            read_with(choices, b"dd", b"03", row)
+        });
+        asks_for(raw::READ_ANSWER, 8, |row| read_with(choices, b"dd", b"3", row));
         let of_a_rest = if choices & raw::STRICT == 0 { raw::ACCEPTED } else { 16 };
-        asks_for(raw::READ_ANSWER, of_a_rest, |row| read_with(choices, b"03/", row));
+        asks_for(raw::READ_ANSWER, of_a_rest, |row| {
+            read_with(choices, b"dd", b"03/", row)
+        });
+    }
+}
+
+/// What is returned, and a row that was full of marks.
+fn row_left(choices: u32, pattern: &str, text: &str) -> (u32, [i64; raw::READ_ANSWER]) {
+    let mut row = [MARK; raw::READ_ANSWER];
+    let number = read_with(choices, pattern.as_bytes(), text.as_bytes(), &mut row);
+    (number, row)
+}
+
+#[test]
+fn what_a_reading_has_where() {
+    let day = ParseUnit::DayOfMonth as usize;
+    let mut row = [0; raw::READ_ANSWER];
+    row[..raw::READ_VALUES].copy_from_slice(&[4, 1 << day, 1]);
+    row[raw::READ_VALUES + day] = 14;
+    row[raw::READ_STARTS + day] = 2;
+    row[raw::READ_ENDS + day] = 4;
+    for choices in 0..=raw::DATE_PAIR + raw::STRICT {
+        assert_eq!(row_left(choices, "d d", "3 14"), (raw::ACCEPTED, row));
+    }
+}
+
+/// Zeros alone behind the details, whatever was read before.
+#[test]
+fn what_a_refused_read_has_where() {
+    let refused = |number: u32, details: &[i64]| {
+        let mut row = [0; raw::READ_ANSWER];
+        row[..details.len()].copy_from_slice(details);
+        (number, row)
+    };
+    for pair in [0, raw::DATE_PAIR] {
+        for choices in [pair, pair + raw::STRICT] {
+            assert_eq!(row_left(choices, "d/MM", "3/x"), refused(raw::TOO_FEW, &[2, 2]));
+            assert_eq!(row_left(choices, "d/MM", "3/xy"), refused(raw::NO_NUMBER, &[2, 2]));
+            assert_eq!(row_left(choices, "d/MM", "3/+5"), refused(raw::PLUS_SIGN, &[2, 2]));
+        }
+        let strict = pair + raw::STRICT;
+        assert_eq!(row_left(strict, "dd-", "03/"), refused(raw::LITERAL_DIFFERS, &[1, 2]));
+        assert_eq!(row_left(strict, "dd", "03/"), refused(raw::TEXT_LEFT, &[2]));
     }
 }
 
@@ -145,7 +189,7 @@ fn of_no_such_choice() {
     for choices in [4, 5, 7, 8, 1 << 16, u32::MAX] {
         for entries in [0, 1, raw::READ_ANSWER - 1, raw::READ_ANSWER, raw::READ_ANSWER + REST] {
             let mut row = vec![MARK; entries];
-            assert_eq!(read_with(choices, b"03", &mut row), raw::NO_SUCH_CHOICE);
+            assert_eq!(read_with(choices, b"dd", b"03", &mut row), raw::NO_SUCH_CHOICE);
             assert_eq!(row, vec![MARK; entries]);
         }
     }

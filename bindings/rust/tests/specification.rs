@@ -169,6 +169,14 @@ fn all_read(choices: Choices, pattern: &str, text: &str, year: i32, sample: &str
     })
 }
 
+/// Where the part of a unit began and ended.
+fn span_read(choices: Choices, pattern: &str, text: &str, unit: &str) -> String {
+    let place = UNITS.iter().position(|name| *name == unit).expect("the name of a unit");
+    sheet::read_with(choices, pattern, text, 2025).map_or_else(refused, |reading| {
+        format!("{} to {}", reading.starts[place], reading.ends[place])
+    })
+}
+
 fn checked(pattern: &str) -> String {
     match sheet::check(pattern, 2025) {
         Ok(Verdict::Yes) => "yes".to_string(),
@@ -283,6 +291,14 @@ fn of_sheet(row: &[&str]) -> Sample {
     (answer.to_string(), got)
 }
 
+/// Under its own heading a sample is of a strict reading.
+fn choices(heading: &str) -> Choices {
+    match heading {
+        " Strict reading" => Choices::new().strict(),
+        _ => Choices::new(),
+    }
+}
+
 /// The samples of a row, by the columns of its table: none where the table has no samples.
 fn samples(table: &Table, row: &[&str]) -> Vec<Sample> {
     let sample = |i: usize, answer: String| (row[i].to_string(), answer);
@@ -298,12 +314,12 @@ fn samples(table: &Table, row: &[&str]) -> Vec<Sample> {
         }
         (["Pattern", "Text", "Answer"], " Zones") => vec![sample(2, unit_read(&quoted(row[0]), &quoted(row[1])))],
         (["Pattern", "Text", "Answer"], heading) => {
-            let choices = match heading {
-                " Strict reading" => Choices::new().strict(),
-                _ => Choices::new(),
-            };
-            let answer = all_read(choices, &quoted(row[0]), &quoted(row[1]), 2025, row[2]);
+            let answer = all_read(choices(heading), &quoted(row[0]), &quoted(row[1]), 2025, row[2]);
             vec![sample(2, answer)]
+        }
+        (["Pattern", "Text", "Unit", "Span"], heading) => {
+            let answer = span_read(choices(heading), &quoted(row[0]), &quoted(row[1]), row[2]);
+            vec![sample(3, answer)]
         }
         (["Text", "Answer"], _) => {
             let answer = sheet::parse_offset(quoted(row[0])).map_or_else(refused, |offset| offset.to_string());
@@ -350,6 +366,25 @@ fn a_strict_reading_has_its_own_samples() {
     for (heading, right, wrong) in [("Strict reading", strict, plain), ("Zones and others", plain, strict)] {
         assert_eq!(held(&document(heading, right)), (1, vec![]));
         let (_, differing) = held(&document(heading, wrong));
+        assert_eq!(differing, [(wrong.to_string(), right.to_string())]);
+    }
+}
+
+/// Of a unit that was not read both places are 0.
+#[test]
+fn spans_have_their_own_samples() {
+    let document = |heading: &str, given: &str, span: &str| {
+        format!("## {heading}\n\n| Pattern | Text | Unit | Span |\n|---|---|---|---|\n| {given} | {span} |\n")
+    };
+    for (heading, given, right, wrong) in [
+        ("Spans", "`y` | `-5` | year", "0 to 2", "1 to 2"),
+        ("Spans", "`d d` | `3 14` | day", "2 to 4", "0 to 1"),
+        ("Spans", "`d/` | `3-` | hour", "0 to 0", "0 to 1"),
+        ("Spans", "`d/` | `3-` | day", "0 to 1", "refused 15 1 1"),
+        ("Strict reading", "`d/` | `3-` | day", "refused 15 1 1", "0 to 1"),
+    ] {
+        assert_eq!(held(&document(heading, given, right)), (1, vec![]));
+        let (_, differing) = held(&document(heading, given, wrong));
         assert_eq!(differing, [(wrong.to_string(), right.to_string())]);
     }
 }

@@ -1,4 +1,4 @@
-//! Each unit by a pattern that reads it alone: the mask, the count and the value say that one and no other.
+//! Each unit by a pattern that reads it alone: the mask, the count, the value and the span say that one and no other.
 
 use sheet::ParseUnit;
 
@@ -35,6 +35,10 @@ fn alone() {
                 expected.unwrap_or(0),
                 "{pattern}, {other:?}"
             );
+            let span = expected.map(|_| 0..text.len());
+            assert_eq!(reading.span(other), span, "{pattern}, {other:?}");
+            let places = [reading.starts, reading.ends].map(|places| usize::from(places[other as usize]));
+            assert_eq!(places, [0, span.map_or(0, |span| span.end)], "{pattern}, {other:?}");
         }
     }
 }
@@ -47,6 +51,11 @@ fn all_at_once() {
     assert_eq!((reading.taken, reading.units, reading.mask), (text.len(), 15, 0x7fff));
     assert_eq!(reading.values, READ.map(|(.., value)| value));
     assert_eq!(READ.map(|(.., unit, _)| unit), ParseUnit::ALL);
+    let mut start = 0;
+    for (pattern, text, unit, _) in READ {
+        assert_eq!(reading.span(unit), Some(start..start + text.len()), "{pattern}");
+        start += text.len() + 1;
+    }
 }
 
 /// A number above the units, and one below 0 as a mask, are answered too.

@@ -5,19 +5,20 @@ use mathlib.Core.Path.{_≡_, refl}
 use Prim.Native.Nat.{ℕ, suc, _≤_}
 use native.Mathlib.Omega.{arith}
 use lib.Dec.{leb}
+use lib.IntN.{ℤ}
 use lib.ListN.{length}
 use borrow.Author.Tests.{leb-true, le-leb}
-use Rattle.meaning.specs.Answers.{_else_, refuseUnless, within, byteCheck, bytesCheck, endsInLoneQuote, patternCheck, fieldsCheck, roomCheck}
+use Rattle.meaning.specs.Answers.{_else_, refuseUnless, within, byteCheck, bytesCheck, endsInLoneQuote, patternCheck, fieldsCheck, roomCheck, textCheck, currentYearCheck}
 use Rattle.meaning.specs.Bytes.{when}
 use Rattle.meaning.specs.Names.{Book}
 use Rattle.meaning.specs.Splitting.{contents}
-use Rattle.meaning.specs.Whole.{text, writeCheck}
+use Rattle.meaning.specs.Whole.{text, writeCheck, readCheck}
 use Rattle.meaning.specs.declared.Checked.{Checked}
 use Rattle.meaning.specs.declared.Checked.the-variants.{Fine, Refused}
 use Rattle.meaning.specs.declared.Fields.{Fields}
 use Rattle.meaning.specs.declared.Pair.{Pair}
 use Rattle.meaning.specs.declared.Refusal.{Refusal}
-use Rattle.meaning.specs.declared.Refusal.the-variants.{PatternTooLong, PatternByte, NoRoom}
+use Rattle.meaning.specs.declared.Refusal.the-variants.{PatternTooLong, PatternByte, NoRoom, TextTooLong, TextByte}
 use Rattle.laws.proofs.Tests.{by-test, both-true, both-are, every}
 
 not-fine : (why : Refusal) → Refused why ≡ Fine → ⊥
@@ -106,3 +107,12 @@ module _ {pair : Pair} {book : Book} {p : List ℕ} {f : Fields} {room : ℕ} (h
   pub fine-write : writeCheck pair book p f room ≡ Fine
   unfolding writeCheck
   fine-write = rw (h .pattern, h .fields, le-leb (length (text pair book p f)) room (h .fits))
+
+-- what a read whose checks are fine can rely on
+pub read-short : (p s : List ℕ) (current : ℤ) → readCheck p s current ≡ Fine → length s ≤ 2048
+unfolding readCheck textCheck
+read-short p s current h =
+    let a = else-fine (patternCheck p) (currentYearCheck current else textCheck s) h in
+    let b = else-fine (currentYearCheck current) (textCheck s) (a .1) in
+    let short = refuseUnless (leb (length s) 2048) (TextTooLong (length s)) in
+    leb-true (length s) 2048 (fine-unless (leb (length s) 2048) _ (else-fine short (byteCheck TextByte 0 127 0 s) (b .1) .0))

@@ -23,7 +23,7 @@ use Rattle.meaning.specs.Numerals.{Signed, plusFirst, numberOf}
 use Rattle.meaning.specs.Pluses.{numberWithPlus, takeNumberWithPlus, readWithPlus, parseOffsetWithPlus, plusTaken, RefusedAtPlus, OffsetAtPlus}
 use Rattle.meaning.specs.Readers.{Got, got, stopped, Reader, behind, goOn, skip, takenNumber, takeNumber, NumberReader, takeCountWith, takeYearWith, reach, zoneSign, ZoneSign, utc, ahead, behindUtc}
 use Rattle.meaning.specs.Reading.{minusFirst, yearLength, colonLength, zoneBehind, takenYearWith, takeGroupWith, zoneGroupWith, zoneSizeWith, readRuleWith, readStepWith}
-use Rattle.meaning.specs.Whole.{Walk, refusedAt, walkWith, readBy, readCheck, read, offsetBy, hourAndMinute, twoAtWith, parseOffset}
+use Rattle.meaning.specs.Whole.{Gave, Walk, refusedAt, walkWith, readBy, readCheck, read, offsetBy, hourAndMinute, twoAtWith, parseOffset}
 use Rattle.meaning.specs.Writing.{Step, literal, field, steps}
 use Rattle.meaning.specs.declared.Carried.{Carried}
 use Rattle.meaning.specs.declared.Checked.{Checked}
@@ -169,7 +169,7 @@ data WalkPlusOrSame (text : List ℕ) : Walk → Walk → Type 0 where
   same-walk : {w : Walk} → WalkPlusOrSame text w w
 
 -- what follows part i at a place, by what it gave
-abbrev behindPart : ℕ → ℕ → (ℕ → Carried → Walk) → Got Carried → Walk
+abbrev pub behindPart : ℕ → ℕ → (ℕ → Carried → Walk) → Got Carried → Walk
 behindPart i at next g = elim g [ got n c ↦ next n c | stopped why place ↦ refusedAt (Refused (InPart why i (at + place))) ]
 
 module _ (text : List ℕ) (i at : ℕ) (next next′ : ℕ → Carried → Walk) (h : (n : ℕ) (c : Carried) → WalkPlusOrSame text (next n c) (next′ n c)) where
@@ -182,13 +182,14 @@ module _ (text : List ℕ) (i at : ℕ) (next next′ : ℕ → Carried → Walk
   part-plus (same {g}) = same-part g
 
 module _ (choices : Choices) (book : Book) (current : ℕ) (text : List ℕ) where
-  walk-plus : (i at : ℕ) (ss : List Step) (gave : List Carried)
+  walk-plus : (i at : ℕ) (ss : List Step) (gave : List Gave)
       → WalkPlusOrSame text (walkWith takeNumber choices book current i at ss (drop at text) gave)
       (walkWith takeNumberWithPlus choices book current i at ss (drop at text) gave)
   unfolding walkWith
   walk-plus i at [] gave = same-walk
   walk-plus i at (step ∷ ss) gave =
-      part-plus text i at _ _ (λ n c. rw (drop-drop n at text) (walk-plus (suc i) (at + n) ss (c ∷ gave)))
+      part-plus text i at _ _
+      (λ n c. rw (drop-drop n at text) (walk-plus (suc i) (at + n) ss (record { carried = c; start = at; end = at + n } ∷ gave)))
       (step-plus choices book current step (drop at text))
 
 by-check : (s : List ℕ) (checked : Checked) {w v : Walk} → WalkPlusOrSame s w v

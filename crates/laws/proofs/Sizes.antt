@@ -3,7 +3,7 @@
 use mathlib.Core.Bool.{Bool, true, false}
 use mathlib.Core.List.{List, [], _∷_, _++_, map}
 use mathlib.Core.Path.{_≡_, refl}
-use Prim.Native.Nat.{ℕ, zero, suc, _+_, _*_, _-_, _/_, _%_, _^_, _≤_, _<_, max}
+use Prim.Native.Nat.{ℕ, zero, suc, _+_, _*_, _/_, _%_, _^_, _≤_, _<_, max}
 use native.Mathlib.Omega.{arith}
 use lib.Dec.{eqb, leb, ltb}
 use lib.IntN.{ℤ, pos, negsuc, natAbs}
@@ -13,7 +13,7 @@ use Rattle.meaning.specs.Answers.{fieldsCheck, patternCheck}
 use Rattle.meaning.specs.Bytes.{when, both, bytes, num, quote}
 use Rattle.meaning.specs.Names.{Book, english, names}
 use Rattle.meaning.specs.Reading.{colonLength}
-use Rattle.meaning.specs.Rules.{Counts, just, upTo, among, Row, _is_, Otherwise, always, fixedYear, otherwiseRule, pick, Symbol, ruleOf, roleAmong, dateSymbols, timeSymbols, dateRole, timeRole, roleOf, orElse}
+use Rattle.meaning.specs.Rules.{Counts, just, upTo, among, Row, _is_, Otherwise, always, fixedYear, otherwiseRule, pick, Symbol, ruleOf, roleOf}
 use Rattle.meaning.specs.Splitting.{Content, run, quotes, quoted, unclosed, contents, lengthOf, insideLength}
 use Rattle.meaning.specs.Whole.{text}
 use Rattle.meaning.specs.Writing.{quantityOf, signedText, twoDigitText, offsetDigits, offsetText, groupText, isThere, colonText, zoneText, nameText, placeOf, ruleText, isNegative, literal, runStep, stepOf, endsInQuote, steps, stepText, texts}
@@ -22,7 +22,6 @@ use Rattle.meaning.specs.declared.Fields.{Fields}
 use Rattle.meaning.specs.declared.Group.{Group}
 use Rattle.meaning.specs.declared.Group.the-variants.{Never, NotZero, Always}
 use Rattle.meaning.specs.declared.Pair.{Pair}
-use Rattle.meaning.specs.declared.Pair.the-variants.{Full, Date}
 use Rattle.meaning.specs.declared.Quantity.the-variants.{Quarter}
 use Rattle.meaning.specs.declared.Role.{Role}
 use Rattle.meaning.specs.declared.Role.the-variants as role
@@ -33,6 +32,7 @@ use Rattle.laws.proofs.Checks.{pattern-fine}
 use Rattle.laws.proofs.Digits.{length-num, width-at-most}
 use Rattle.laws.proofs.Fields.{Allowed, allowed, quantity-below}
 use Rattle.laws.proofs.Splitting.{total, parts-fill, isSome, runs-are-some}
+use Rattle.laws.proofs.Table.{RoleHas, tablePasses, role-has}
 use Rattle.laws.proofs.Tests.{both-true, every, when-is}
 
 -- what a rule writes
@@ -157,38 +157,21 @@ symbolFits book symbol = rowsFit book 1 (symbol .rows) (symbol .otherwise)
 -- all of the table, in one test
 unfoldable pub tableFits : Book → Bool
 unfolding symbolFits every
-tableFits book = both (every (symbolFits book) dateSymbols) (every (symbolFits book) timeSymbols)
+tableFits book = tablePasses (symbolFits book)
 
 pub english-fits : tableFits english ≡ true
 unfolding tableFits symbolFits every rowsFit mostBytes mostDigits longest names english bytes
 english-fits = refl
 
 -- what a role writes is at most eight times its count
-RoleFits : Book → ℕ → Role → Type 0
-RoleFits book c role.Literal = Unit
-RoleFits book c (role.Symbol rule) = mostBytes book rule ≤ 8 * c
-
-among-fits : (book : Book) (c : ℕ) → 1 ≤ c → (symbols : List Symbol) → every (symbolFits book) symbols ≡ true → (b : ℕ)
-    → RoleFits book c (roleAmong symbols b c)
-unfolding roleAmong every symbolFits RoleFits ruleOf
-among-fits book c h [] e b = tt
-among-fits book c h (symbol ∷ symbols) e b =
-    let t = both-true (symbolFits book symbol) (every (symbolFits book) symbols) e in
-    when-is (RoleFits book c) (eqb b (symbol .letter))
-    (λ _. rows-fit book c 1 (symbol .rows) (symbol .otherwise) h (t .0)) (λ _. among-fits book c h symbols (t .1) b)
-
-or-else-fits : (book : Book) (c : ℕ) (a b : Role) → RoleFits book c a → RoleFits book c b → RoleFits book c (orElse a b)
-or-else-fits book c role.Literal b h k = k
-or-else-fits book c (role.Symbol rule) b h k = h
+abbrev RoleFits : Book → ℕ → Role → Type 0
+RoleFits book c = RoleHas (λ rule. mostBytes book rule ≤ 8 * c)
 
 role-fits : (book : Book) → tableFits book ≡ true → (pair : Pair) (b c : ℕ) → 1 ≤ c → RoleFits book c (roleOf pair b c)
-unfolding tableFits roleOf dateRole timeRole
-role-fits book e Full b c h =
-    let t = both-true (every (symbolFits book) dateSymbols) (every (symbolFits book) timeSymbols) e in
-    or-else-fits book c (dateRole b c) (timeRole b c) (among-fits book c h dateSymbols (t .0) b) (among-fits book c h timeSymbols (t .1) b)
-role-fits book e Date b c h =
-    let t = both-true (every (symbolFits book) dateSymbols) (every (symbolFits book) timeSymbols) e in
-    among-fits book c h dateSymbols (t .0) b
+unfolding tableFits symbolFits ruleOf
+role-fits book e pair b c h =
+    role-has (λ rule. mostBytes book rule ≤ 8 * c) c (symbolFits book)
+    (λ symbol. rows-fit book c 1 (symbol .rows) (symbol .otherwise) h) e pair b
 
 -- what a part writes
 
@@ -198,7 +181,7 @@ literal-length book f s false = omega arith
 literal-length book f s true = rw length-take (omega arith)
 
 run-length : (book : Book) (f : Fields) → Allowed f → (r : Role) (b n : ℕ) → RoleFits book n r → length (stepText book f (runStep r b n)) ≤ 8 * n
-unfolding stepText RoleFits
+unfolding stepText
 run-length book f h role.Literal b n k = rw length-replicate (omega arith)
 run-length book f h (role.Symbol rule) b n k = omega (arith, rule-length book rule f h)
 

@@ -1,3 +1,4 @@
 pub mod Halves
 pub mod Laid
+pub mod Spans
 pub mod Widths

@@ -1,11 +1,11 @@
 -- A strict reading, by samples in the current year 2025: each literal byte is compared, behind 8 for the whole literal; nothing may
 -- be left over, behind the last part; symbols that skip are no literals.
-use mathlib.Core.List.{List, [], _∷_, map}
+use mathlib.Core.List.{List, [], _∷_, _++_}
 use mathlib.Core.Bool.{true}
-use mathlib.Core.Path.{_≡_, refl}
-use Prim.Native.Nat.{ℕ}
+use mathlib.Core.Path.{refl}
+use Prim.Native.Nat.{ℕ, _+_}
 use Prim.Native.String.{String}
-use lib.IntN.{pos}
+use lib.IntN.{ℤ, pos}
 use lib.ListN.{replicate}
 use Rattle.meaning.specs.Answers.{number, details, Answer, accepted, readAnswer}
 use Rattle.meaning.specs.Bytes.{bytes}
@@ -14,6 +14,7 @@ use Rattle.meaning.specs.Readers.{takeNumber}
 use Rattle.meaning.specs.Whole.{read}
 use Rattle.meaning.specs.declared.Pair.{Pair}
 use Rattle.meaning.specs.declared.Pair.the-variants.{Full, Date}
+use Rattle.meaning.proofs.Tables.{Sample, _↦′_, Answered}
 
 pub record Question : Type 0 where
   pub pair : Pair
@@ -38,25 +39,20 @@ abbrev left : ℕ → Answer
 left place = record { number = 16; values = pos place ∷ [] }
 
 abbrev passed : ℕ → Answer
-passed n = accepted (pos n ∷ replicate 17 (pos 0))
+passed n = accepted (pos n ∷ replicate 47 (pos 0))
 
--- a day, from so many bytes
-abbrev day : ℕ → ℕ → Answer
-day n d = accepted (pos n ∷ pos 4 ∷ pos 1 ∷ pos 0 ∷ pos 0 ∷ pos d ∷ replicate 12 (pos 0))
+-- a day, of which the digit stands at a place, from so many bytes
+abbrev byDay : ℕ → List ℤ
+byDay n = pos 0 ∷ pos 0 ∷ pos n ∷ replicate 12 (pos 0)
 
-pub record Sample : Type 0 where
-  pub question : Question
-  pub answer : Answer
+abbrev day : ℕ → ℕ → ℕ → Answer
+day n d place = accepted (pos n ∷ pos 4 ∷ pos 1 ∷ byDay d ++ byDay place ++ byDay (place + 1))
 
-abbrev _↦′_ : Question → Answer → Sample
-q ↦′ a = record { question = q; answer = a }
-
-infix 90 _↦′_
-pub table : List Sample
+pub table : List (Sample Question Answer)
 table =
     full "" "" ↦′ passed 0
     ∷ full "" "x" ↦′ left 0
-    ∷ full "d/" "3/" ↦′ day 2 3
+    ∷ full "d/" "3/" ↦′ day 2 3 0
     ∷ full "d/" "3-" ↦′ refused 15 1 1
     ∷ full "d" "3-" ↦′ left 1
     ∷ full "'ab'd" "a" ↦′ refused 8 0 0
@@ -68,11 +64,11 @@ table =
     ∷ full "'a''" "ab" ↦′ refused 15 0 1
     ∷ full "''" "x" ↦′ refused 15 0 0
     ∷ full "dM" "3x4" ↦′ refused 9 1 1
-    ∷ full "qd" "x3" ↦′ day 2 3
-    ∷ date "Hd" "H3" ↦′ day 2 3
+    ∷ full "qd" "x3" ↦′ day 2 3 1
+    ∷ date "Hd" "H3" ↦′ day 2 3 1
     ∷ date "Hd" "13" ↦′ refused 15 0 0
     ∷ []
 
-pub samples : map (λ s. asked (s .question)) table ≡ map (λ s. s .answer) table
+pub samples : Answered asked table
 unfolding table asked english bytes number details takeNumber
 samples = refl

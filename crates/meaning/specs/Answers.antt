@@ -1,7 +1,7 @@
 -- Specification, "Answer numbers": each refusal's number and what it returns; the number and the values of each kind of answer;
 -- and the checks that give refusals 1 to 7, 14 and 16. The checks of a function stand in its order, in Whole.
 use mathlib.Core.Bool.{Bool, true, false}
-use mathlib.Core.List.{List, [], _∷_}
+use mathlib.Core.List.{List, [], _∷_, _++_, map}
 use Prim.Native.Nat.{ℕ, suc, _-_}
 use lib.Dec.{leb, ltb}
 use lib.IntN.{ℤ, pos, natAbs}
@@ -86,9 +86,11 @@ abbrev pub wroteAnswer : Wrote → Answer
 wroteAnswer (wrote.Length n) = accepted (pos n ∷ [])
 wroteAnswer (wrote.Refused why) = refused why
 
--- the bytes read, the mask, how many units, and the fifteen values
+-- the bytes read, the mask, how many units, the fifteen values, and where the part of each began and where it ended
 abbrev pub readAnswer : Reading → Answer
-readAnswer r = answerBy (r .checked) (pos (r .taken) ∷ pos (r .mask) ∷ pos (r .units) ∷ r .values)
+readAnswer r =
+    answerBy (r .checked)
+    (pos (r .taken) ∷ pos (r .mask) ∷ pos (r .units) ∷ r .values ++ map pos (r .starts) ++ map pos (r .ends))
 
 -- the seconds
 abbrev pub offsetAnswer : Offset → Answer

@@ -84,26 +84,32 @@ output pair book p f out = outputBy (writeCheck pair book p f (length out)) (tex
 abbrev pub plain : Pair → Choices
 plain pair = record { pair = pair; strict = false }
 
+-- what a part gave: the value that it carries, and all the bytes that it took, from the place of the first to that behind the last
+pub record Gave : Type 0 where
+  pub carried : Carried
+  pub start : ℕ
+  pub end : ℕ
+
 -- the bytes read and what the parts gave, the newest first; or the first refusal of a part
 pub data Walk : Type 0 where
-  walked : ℕ → List Carried → Walk
+  walked : ℕ → List Gave → Walk
   refusedAt : Checked → Walk
 
-abbrev pub walkedBy : Checked → ℕ → List Carried → Walk
+abbrev pub walkedBy : Checked → ℕ → List Gave → Walk
 walkedBy Fine at gave = walked at gave
 walkedBy (Refused why) at gave = refusedAt (Refused why)
 
 -- part i and those behind it, from the text that remains at a place
-unfoldable pub walkWith : NumberReader → Choices → Book → ℕ → ℕ → ℕ → List Step → List ℕ → List Carried → Walk
+unfoldable pub walkWith : NumberReader → Choices → Book → ℕ → ℕ → ℕ → List Step → List ℕ → List Gave → Walk
 unfolding readStepWith
 walkWith number choices book current i at [] s gave = walkedBy (restCheck (choices .strict) at s) at gave
 walkWith number choices book current i at (step ∷ steps) s gave =
     elim (readStepWith number choices book current step s) [
-      | got n c ↦ walkWith number choices book current (suc i) (at + n) steps (drop n s) (c ∷ gave)
+      | got n c ↦ walkWith number choices book current (suc i) (at + n) steps (drop n s) (record { carried = c; start = at; end = at + n } ∷ gave)
       | stopped why place ↦ refusedAt (Refused (InPart why i (at + place)))
     ]
 
-unfoldable pub walk : Choices → Book → ℕ → ℕ → ℕ → List Step → List ℕ → List Carried → Walk
+unfoldable pub walk : Choices → Book → ℕ → ℕ → ℕ → List Step → List ℕ → List Gave → Walk
 unfolding walkWith readStep
 walk = walkWith takeNumber
 
@@ -124,16 +130,32 @@ unitNumber unit.Micros = 12
 unitNumber unit.Nanos = 13
 unitNumber unit.Offset = 14
 
--- whether unit k was read, and the last value that it was given
-unfoldable pub wasRead : List Carried → ℕ → Bool
-wasRead [] k = false
-wasRead (Nothing ∷ gave) k = wasRead gave k
-wasRead (Value u z ∷ gave) k = when (eqb (unitNumber u) k) true (wasRead gave k)
+-- whether that is unit k, and the value
+abbrev pub isOf : ℕ → Carried → Bool
+isOf k Nothing = false
+isOf k (Value u z) = eqb (unitNumber u) k
 
-unfoldable pub valueOf : List Carried → ℕ → ℤ
-valueOf [] k = pos 0
-valueOf (Nothing ∷ gave) k = valueOf gave k
-valueOf (Value u z ∷ gave) k = when (eqb (unitNumber u) k) z (valueOf gave k)
+abbrev pub valueIn : Carried → ℤ
+valueIn Nothing = pos 0
+valueIn (Value u z) = z
+
+-- "the last part winning": what there is of the last part that gave unit k, or else this
+unfoldable pub lastOf : {A : Type 0} → (Gave → A) → A → List Gave → ℕ → A
+lastOf of other [] k = other
+lastOf of other (g ∷ gave) k = when (isOf k (g .carried)) (of g) (lastOf of other gave k)
+
+-- whether unit k was read, its value, and where its part began and ended
+abbrev pub wasRead : List Gave → ℕ → Bool
+wasRead = lastOf (λ g. true) false
+
+abbrev pub valueOf : List Gave → ℕ → ℤ
+valueOf = lastOf (λ g. valueIn (g .carried)) (pos 0)
+
+abbrev pub beganAt : List Gave → ℕ → ℕ
+beganAt = lastOf (λ g. g .start) 0
+
+abbrev pub endedAt : List Gave → ℕ → ℕ
+endedAt = lastOf (λ g. g .end) 0
 
 abbrev pub fifteen : List ℕ
 fifteen = 0 ∷ 1 ∷ 2 ∷ 3 ∷ 4 ∷ 5 ∷ 6 ∷ 7 ∷ 8 ∷ 9 ∷ 10 ∷ 11 ∷ 12 ∷ 13 ∷ 14 ∷ []
@@ -151,7 +173,7 @@ howMany (mark ∷ marks) = when mark 1 0 + howMany marks
 unfoldable pub marked : ℕ → ℕ → Bool
 marked mask k = eqb (mask / 2 ^ k % 2) 1
 
-abbrev pub readingOf : Checked → ℕ → List Carried → Reading
+abbrev pub readingOf : Checked → ℕ → List Gave → Reading
 readingOf checked taken gave =
     record {
       checked = checked;
@@ -159,6 +181,8 @@ readingOf checked taken gave =
       values = map (valueOf gave) fifteen;
       mask = bits (map (wasRead gave) fifteen);
       units = howMany (map (wasRead gave) fifteen);
+      starts = map (beganAt gave) fifteen;
+      ends = map (endedAt gave) fifteen;
     }
 
 abbrev pub walkReading : Walk → Reading
@@ -174,7 +198,7 @@ unfolding patternCheck currentYearCheck textCheck
 readCheck p s current = patternCheck p else currentYearCheck current else textCheck s
 
 unfoldable pub readWith : NumberReader → Choices → Book → List ℕ → List ℕ → ℤ → Reading
-unfolding readCheck steps walkWith valueOf wasRead bits howMany
+unfolding readCheck steps walkWith lastOf bits howMany
 readWith number choices book p s current =
     readBy (readCheck p s current) (walkWith number choices book (natAbs current) 0 0 (steps (choices .pair) p) s [])
 

@@ -226,13 +226,16 @@ pub enum Wrote {
     Refused(Refusal),
 }
 
-// The answer of a reader: the bytes read, the values by unit, the mask of the units read and how many they are.
+// The answer of a reader: the bytes read, the values by unit, the mask of the units read and how many they are; and by unit where
+// in the text the part that gave it began, and where it ended.
 pub struct Reading {
     pub checked: Checked,
     pub taken: usize,
     pub values: [i64; 15],
     pub mask: u16,
     pub units: u32,
+    pub starts: [u16; 15],
+    pub ends: [u16; 15],
 }
 
 // The answer of parse_offset.

@@ -1,5 +1,5 @@
 // Specification, "Answer numbers": the record of a reading, with the values by unit, the mask of the units read and how many
-// they are. proofs/Units has the laws by which a reader fills it.
+// they are, and by unit where its part began and ended. proofs/record/Units has the laws by which a reader fills it.
 ghost use mathlib.Core.List.{[]};
 ghost use mathlib.Core.Path.{_≡_};
 ghost use Rattle.meaning.specs.Promises.{TellsRead};
@@ -39,7 +39,7 @@ pub fn was_read(mask: u16, unit: ParseUnit) -> bool
     (mask >> k) & 1 == 1
 }
 
-// A refused reading: "values, mask, counts and bytes read are all 0".
+// A refused reading: "values, mask, counts and bytes read are all 0", and no part began or ended anywhere.
 pub fn no_reading(checked: Checked) -> Reading
     ensures { λ r. ⌜ r ≡ readingOf checked 0 [] ⌝ }
 {
@@ -49,5 +49,7 @@ pub fn no_reading(checked: Checked) -> Reading
         values: [0i64; 15],
         mask: 0,
         units: 0,
+        starts: [0u16; 15],
+        ends: [0u16; 15],
     }
 }

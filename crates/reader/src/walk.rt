@@ -1,7 +1,8 @@
-// Reading: the walk over the parts of a pattern. The cursor moves on through the text, and the values are kept by unit.
+// Reading: the walk over the parts of a pattern. The cursor moves on through the text, and by unit the values are kept, with where
+// their parts began and ended.
 ghost use mathlib.Core.List.{[]};
 ghost use mathlib.Core.Path.{_≡_};
-ghost use Prim.Native.Nat.{_<_};
+ghost use Prim.Native.Nat.{_≤_, _<_};
 ghost use lib.ListN.{length};
 ghost use Rattle.meaning.specs.Names.{english};
 ghost use Rattle.meaning.specs.Whole.{readingOf, walk, walkReading};
@@ -45,12 +46,16 @@ fn compare_part(pair: Pair, pattern: &[u8], place: usize, text: &[u8], end: usiz
     compare(step_of(pair, pattern, part), pattern, text, end)
 }
 
-// All parts in order; the first that can't be read refuses the whole, and so does what a strict reading leaves.
+// All parts in order; the first that can't be read refuses the whole, and so does what a strict reading leaves. A place in a text
+// that passed the checks has 16 bits.
 pub fn parse_parts(choices: Choices, pattern: &[u8], text: &[u8], current_year: u32) -> Reading
+    requires { ⌜ length (now text) ≤ 2048 ⌝ }
     ensures { λ r. ⌜ r ≡ walkReading (walk choices english «current_year» 0 0 (steps (choices .pair) (now (pattern .entry))) (now (text .entry)) []) ⌝ }
 {
     let pair = choices.pair;
     let mut values = [0i64; 15];
+    let mut starts = [0u16; 15];
+    let mut ends = [0u16; 15];
     let mut mask: u16 = 0;
     let mut at = 0;
     let mut place = 0;
@@ -59,17 +64,15 @@ pub fn parse_parts(choices: Choices, pattern: &[u8], text: &[u8], current_year: 
         let part = next_part(pattern, place);
         let step = step_of(pair, pattern, part);
         match parse_step(step, pattern, current_year, text, Cursor { at }) {
-            PartRead::Stopped {
-                trouble,
-                place: stop,
-            } => {
-                return refused_in(i, trouble, stop);
-            }
+            PartRead::Stopped { trouble, place: to } => return refused_in(i, trouble, to),
             PartRead::Got { carried, next } => {
+                let start = at;
                 at = next.at;
                 if let Carried::Value(unit, value) = carried {
                     let k = unit_number(unit);
                     values[k] = value;
+                    starts[k] = start as u16;
+                    ends[k] = at as u16;
                     mask = mask | (1u16 << k);
                 } else if choices.strict {
                     if let Compared::Differs(found) = compare_part(pair, pattern, place, text, at) {
@@ -90,5 +93,7 @@ pub fn parse_parts(choices: Choices, pattern: &[u8], text: &[u8], current_year: 
         values,
         mask,
         units: u16::count_ones(mask),
+        starts,
+        ends,
     }
 }

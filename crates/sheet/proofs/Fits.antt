@@ -13,6 +13,7 @@ use mir.Syntax.{w32}
 use mir.Val.{SFits}
 use Rattle.laws.proofs.Checks.{write-fine}
 use Rattle.laws.proofs.Fields.{allowed}
+use Rattle.laws.proofs.Pluses.{behindPart}
 use Rattle.laws.proofs.Sizes as sizes
 use Rattle.laws.proofs.Tests.{when-is}
 use Rattle.meaning.specs.Answers.{_else_, refuseUnless, within, byteCheck, bytesCheck, endsInLoneQuote, patternCheck, fieldsCheck, roomCheck, textCheck, currentYearCheck, restCheck, details}
@@ -23,7 +24,7 @@ use Rattle.meaning.specs.Readers.{Got, got, stopped}
 use Rattle.meaning.specs.Reading.{readStep}
 use Rattle.meaning.specs.Splitting.{contents}
 use Rattle.meaning.specs.Trust.{SaysOf, Says, trustCheck}
-use Rattle.meaning.specs.Whole.{text, writeCheck, wroteBy, write, Walk, walked, refusedAt, walkedBy, walk, readBy, readCheck, read, offsetBy, seconds, hourAndMinute, twoAt, parseOffset}
+use Rattle.meaning.specs.Whole.{text, writeCheck, wroteBy, write, Gave, Walk, walked, refusedAt, walkedBy, walk, readBy, readCheck, read, offsetBy, seconds, hourAndMinute, twoAt, parseOffset}
 use Rattle.meaning.specs.Writing.{Step, steps, isNegative}
 use Rattle.meaning.specs.declared.Carried.{Carried}
 use Rattle.meaning.specs.declared.Checked.{Checked}
@@ -35,7 +36,7 @@ use Rattle.meaning.specs.declared.Offset.{Offset}
 use Rattle.meaning.specs.declared.Offset.the-variants as offset
 use Rattle.meaning.specs.declared.Pair.{Pair}
 use Rattle.meaning.specs.declared.Pair.the-variants.{Full}
-use Rattle.meaning.specs.declared.Refusal.the-variants.{LoneQuote, FieldRange, NoRoom, TextTooLong, TextByte, InPart, OffsetLength, OffsetRange, CurrentYear}
+use Rattle.meaning.specs.declared.Refusal.the-variants.{LoneQuote, FieldRange, NoRoom, TextTooLong, TextByte, OffsetLength, OffsetRange, CurrentYear}
 use Rattle.meaning.specs.declared.Verdict.{Verdict}
 use Rattle.meaning.specs.declared.Verdict.the-variants as verdict
 use Rattle.sheet.proofs.entries.Fits.{else-fits, unless-fits, byte-fits, bytes-fit}
@@ -121,7 +122,7 @@ abbrev WalkFits : Walk → Type 0
 WalkFits (walked taken gave) = NumberFits taken
 WalkFits (refusedAt checked) = CheckedFits checked
 
-rest-fits : (strict : Bool) (at : ℕ) (s : List ℕ) (gave : List Carried) → NumberFits at → WalkFits (walkedBy (restCheck strict at s) at gave)
+rest-fits : (strict : Bool) (at : ℕ) (s : List ℕ) (gave : List Gave) → NumberFits at → WalkFits (walkedBy (restCheck strict at s) at gave)
 unfolding details
 rest-fits strict at s gave h =
     when-is (λ (checked : Checked). WalkFits (walkedBy checked at gave)) (both strict (ltb 0 (length s))) (λ _. (h, tt)) (λ _. h)
@@ -130,19 +131,18 @@ module _ (choices : Choices) (book : Book) (current : ℕ) where
   -- by what a part gave
   part-fits : (i at room : ℕ) (g : Got Carried) (next : ℕ → Carried → Walk) → NumberFits i → NumberFits (at + room) → Within room g
       → ((n : ℕ) (c : Carried) → n ≤ room → WalkFits (next n c))
-      → WalkFits (elim g as (λ x. Walk) [ got n c ↦ next n c | stopped why place ↦ refusedAt (Refused (InPart why i (at + place))) ])
+      → WalkFits (behindPart i at next g)
   unfolding details
   part-fits i at room (got n c) next h k w on = on n c w
   part-fits i at room (stopped why place) next h k w on = (h, (omega arith, tt))
 
-  walk-fits : (i at : ℕ) (ss : List Step) (s : List ℕ) (gave : List Carried) → NumberFits (i + length ss) → NumberFits (at + length s)
+  walk-fits : (i at : ℕ) (ss : List Step) (s : List ℕ) (gave : List Gave) → NumberFits (i + length ss) → NumberFits (at + length s)
       → WalkFits (walk choices book current i at ss s gave)
   unfolding walk
   walk-fits i at [] s gave h k = rest-fits (choices .strict) at s gave (omega arith)
   walk-fits i at (step ∷ ss) s gave h k =
-      part-fits i at (length s) (readStep choices book current step s) (λ n c. walk choices book current (suc i) (at + n) ss (drop n s) (c ∷ gave))
-      (omega arith) k (within-step choices book current step s)
-      (λ n c l. walk-fits (suc i) (at + n) ss (drop n s) (c ∷ gave) (omega arith) (omega (arith, length-drop n s)))
+      part-fits i at (length s) (readStep choices book current step s) _ (omega arith) k (within-step choices book current step s)
+      (λ n c l. walk-fits (suc i) (at + n) ss (drop n s) _ (omega arith) (omega (arith, length-drop n s)))
 
 read-by-fits : (checked : Checked) (w : Walk) → CheckedFits checked → WalkFits w → ReadFits (readBy checked w)
 read-by-fits Fine (walked taken gave) h k = (k, tt)

@@ -37,7 +37,7 @@ SheetWrites pair p f out row r outAfter rowAfter =
 
 -- the answer of a read
 abbrev pub readOf : Choices → List ℕ → List ℕ → ℤ → List ℤ → Answer
-readOf choices p s current row = ifRoom (has 18 row) (inRow 18 (readAnswer (read choices english p s current)))
+readOf choices p s current row = ifRoom (has 48 row) (inRow 48 (readAnswer (read choices english p s current)))
 
 abbrev pub SheetReads : Choices → List ℕ → List ℕ → ℤ → List ℤ → ℕ → List ℤ → Type 0
 SheetReads choices p s current row r rowAfter = Given (readOf choices p s current row) row rowAfter r

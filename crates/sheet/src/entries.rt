@@ -1,4 +1,5 @@
 // Numbers laid into a lent row.
+ghost use mathlib.Core.List.{map};
 ghost use mathlib.Core.Path.{_≡_};
 ghost use Prim.Native.Nat.{_+_, _≤_};
 ghost use lib.IntN.{pos};
@@ -13,6 +14,18 @@ pub fn lay(numbers: &[i64], row: &mut [i64], at: usize)
     let mut j = 0;
     while j < numbers.len() {
         row[at + j] = numbers[j];
+        j += 1;
+    }
+}
+
+// Places in a text, as numbers.
+pub fn lay_places(places: &[u16], row: &mut [i64], at: usize)
+    requires { ⌜ at + length (now places) ≤ length (now row) ⌝ }
+    ensures { λ _. ⌜ now (row .exit) ≡ sets (now (row .entry)) at (map pos (now (places .entry))) ⌝ }
+{
+    let mut j = 0;
+    while j < places.len() {
+        row[at + j] = places[j] as i64;
         j += 1;
     }
 }

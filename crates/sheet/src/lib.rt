@@ -38,7 +38,7 @@ fn write(pair: Pair, pattern: &[u8], f: Fields, out: &mut [u8], row: &mut [i64])
 fn read(choices: Choices, pattern: &[u8], text: &[u8], year: i32, row: &mut [i64]) -> u32
     ensures { λ r. ⌜ SheetReads choices (now (pattern .entry)) (now (text .entry)) year (now (row .entry)) r (now (row .exit)) ⌝ }
 {
-    if row.len() < 18 {
+    if row.len() < 48 {
         return 100;
     }
     give_reading(parse_with(choices, pattern, text, year), row)
@@ -104,8 +104,8 @@ pub extern "C" fn sheet_write_date(
     write(Pair::Date, pattern, f, out, answer)
 }
 
-// The full pair's reader. The row: the bytes read, the mask, how many units, and the fifteen values; or the refusal's
-// details and zeros, 18 numbers in all.
+// The full pair's reader. The row: the bytes read, the mask, how many units, the fifteen values, and for each unit where its part
+// began, from 18 on, and where it ended, from 33 on; or the refusal's details and zeros, 48 numbers in all.
 #[no_mangle]
 pub extern "C" fn sheet_read(pattern: &[u8], text: &[u8], year: i32, answer: &mut [i64]) -> u32
     ensures { λ r. ⌜ SheetReads (plain Pair.Full) (now (pattern .entry)) (now (text .entry)) year (now (answer .entry)) r (now (answer .exit)) ⌝ }

@@ -1,5 +1,5 @@
 // Readings as rows of numbers, the choices of one as a number, and the mask of one looked at.
-ghost use mathlib.Core.List.{_∷_};
+ghost use mathlib.Core.List.{_∷_, _++_, map};
 ghost use mathlib.Core.Path.{_≡_};
 ghost use Prim.Native.Nat.{_≤_};
 ghost use lib.IntN.{pos};
@@ -11,6 +11,7 @@ ghost use Rattle.sheet.specs.Rows.{inRow, Given, choicesOf, isMarked};
 use crate::answers::give_refusal;
 use crate::entries::entry;
 use crate::entries::lay;
+use crate::entries::lay_places;
 use meaning::Checked;
 use meaning::Choices;
 use meaning::Pair;
@@ -19,26 +20,30 @@ use meaning::Reading;
 use reader::record::was_read;
 
 fn give_values(reading: Reading, row: &mut [i64]) -> u32
-    requires { ⌜ (18 ≤ length (now row)) × NumberFits (reading .taken) ⌝ }
-    ensures { λ r. ⌜ Given (accepted (pos (reading .taken) ∷ pos (reading .mask) ∷ pos (reading .units) ∷ reading .values)) (now (row .entry)) (now (row .exit)) r ⌝ }
+    requires { ⌜ (48 ≤ length (now row)) × NumberFits (reading .taken) ⌝ }
+    ensures { λ r. ⌜ Given (accepted (pos (reading .taken) ∷ pos (reading .mask) ∷ pos (reading .units) ∷ reading .values ++ map pos (reading .starts) ++ map pos (reading .ends))) (now (row .entry)) (now (row .exit)) r ⌝ }
 {
     let taken = entry(reading.taken as u64);
     let mask = entry(reading.mask as u64);
     let units = entry(reading.units as u64);
     let values = reading.values;
+    let starts = reading.starts;
+    let ends = reading.ends;
     lay(&[taken, mask, units], row, 0);
     lay(&values, row, 3);
+    lay_places(&starts, row, 18);
+    lay_places(&ends, row, 33);
     0
 }
 
 pub fn give_reading(reading: Reading, row: &mut [i64]) -> u32
-    requires { ⌜ (18 ≤ length (now row)) × ReadFits reading ⌝ }
-    ensures { λ r. ⌜ Given (inRow 18 (readAnswer reading)) (now (row .entry)) (now (row .exit)) r ⌝ }
+    requires { ⌜ (48 ≤ length (now row)) × ReadFits reading ⌝ }
+    ensures { λ r. ⌜ Given (inRow 48 (readAnswer reading)) (now (row .entry)) (now (row .exit)) r ⌝ }
 {
     let checked = reading.checked;
     match checked {
         Checked::Fine => give_values(reading, row),
-        Checked::Refused(why) => give_refusal(why, 18, row),
+        Checked::Refused(why) => give_refusal(why, 48, row),
     }
 }
 

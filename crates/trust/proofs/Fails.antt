@@ -7,19 +7,19 @@ use Prim.Native.Nat.{ℕ, _+_, _*_, _-_, _/_, _%_, _≤_, _<_}
 use native.Mathlib.Omega.{arith}
 use lib.Dec.{eqb, leb, ltb}
 use lib.IntN.{ℤ, pos, natAbs}
-use lib.ListN.{length, drop, length-append}
+use lib.ListN.{length, length-append}
 use borrow.Author.Tests.{leb-false, ltb-true, ltb-false, ne-eqb}
 use Rattle.meaning.specs.Bytes.{when, isDigit, digitAt, num, plus, minus}
 use Rattle.meaning.specs.Names.{english}
 use Rattle.meaning.specs.Numerals.{Signed, allDigits, numberOf}
-use Rattle.meaning.specs.Readers.{Reader, got, _>>=_, done, skip, takeCount, takeYear, takeNumber, reach, ahead, behindUtc, zoneSign}
-use Rattle.meaning.specs.Reading.{colonLength, millennium, takenYear, zoneBehind, zoneGroup, zoneSizeWith, zoneSize, takenZone, yearLength, digitRun, minusFirst, readRule, carriedRule}
+use Rattle.meaning.specs.Readers.{Reader, got, _>>=_, done, takeCount, reach, ahead, behindUtc, zoneSign}
+use Rattle.meaning.specs.Reading.{colonLength, millennium, zoneBehind, zoneGroup, zoneSizeWith, zoneSize, takenZone, yearLength, digitRun, minusFirst, readRule, carriedRule}
 use Rattle.meaning.specs.Writing.{quantityOf, groupText, offsetDigits, isMinus, offsetText, ruleText, twoDigitText, zoneText}
 use Rattle.meaning.specs.declared.Carried.{Carried}
 use Rattle.meaning.specs.declared.Carried.the-variants as carried
 use Rattle.meaning.specs.declared.Group.{Group}
 use Rattle.meaning.specs.declared.Group.the-variants.{Never, NotZero, Always}
-use Rattle.meaning.specs.declared.Numeral.the-variants.{Count, Year}
+use Rattle.meaning.specs.declared.Numeral.the-variants.{Year}
 use Rattle.meaning.specs.declared.ParseUnit.{ParseUnit}
 use Rattle.meaning.specs.declared.ParseUnit.the-variants as unit
 use Rattle.meaning.specs.declared.Quantity.{Quantity}
@@ -27,6 +27,7 @@ use Rattle.meaning.specs.declared.Rule.{Rule}
 use Rattle.meaning.specs.declared.Rule.the-variants.{Number, SkippedNumber, LetterQuarter, SkippedName, MatchedName, Letters, Years, FixedYear, TwoDigitYear, Zone}
 use Rattle.laws.proofs.Digits.{all-num, digit-behind, digit-in, length-num, num-some}
 use Rattle.laws.proofs.Readers.{take-goes-on}
+use Rattle.laws.proofs.Takes.{Takes, takes-got, takes-both, takes-then, takes-done, takes-unit, takes-full-year, takes-passed, takes-group, reach-bounds, reach-past}
 use Rattle.laws.proofs.Tests.{both-no, both-true, by-test, when-is, true-is-not-false}
 use Rattle.laws.proofs.Years.{no-minus}
 use Rattle.laws.proofs.Zones.{group-comes-back, sign-read, two-digits}
@@ -34,7 +35,6 @@ use Rattle.laws.specs.Widths.{mostDigits}
 use Rattle.trust.proofs.RulesAhead.{seven-digits}
 use Rattle.trust.proofs.Sound.{Back}
 use Rattle.trust.proofs.Table.{numberFits, zoneFits, fits, number-fits}
-use Rattle.trust.proofs.Takes.{Takes, takes-got, takes-skip, takes-number, takes-both, takes-then, takes-done, reach-bounds, reach-past}
 use Rattle.trust.proofs.Witness.{of-witness}
 use Rattle.trust.specs.Check.{shortNumbers, longNumbers, witness}
 use Rattle.trust.specs.Needs.{numberNeed, groupNeed, lastGroup, ruleNeed}
@@ -92,7 +92,7 @@ module _ (q : Quantity) (least most : ℕ) (fit : numberFits q least most ≡ tr
       let s = num least (quantityOf q (witness (numberNeed q least most))) ++ r in
       let k = reach (most - least) least s in
       number-cut shown
-      (takes-got k (takes-done k (takeCount k) _ s (takes-done k (takeNumber Count k) _ s (takes-number Count k s))) e)
+      (takes-got k (takes-unit u z k s) e)
 
   skipped-number-fails : (current : ℕ) → Shown (numberNeed q least most) r
       → Back current (SkippedNumber q least most) (witness (numberNeed q least most)) r → ⊥
@@ -100,7 +100,7 @@ module _ (q : Quantity) (least most : ℕ) (fit : numberFits q least most ≡ tr
   skipped-number-fails current shown e =
       let s = num least (quantityOf q (witness (numberNeed q least most))) ++ r in
       let k = reach (most - least) least s in
-      number-cut shown (takes-got k (takes-done k (skip k) _ s (takes-skip k s)) e)
+      number-cut shown (takes-got k (takes-passed k s) e)
 
 -- years
 
@@ -112,9 +112,6 @@ run-past (b ∷ s) r all h =
     let t = both-true (isDigit b) (allDigits s) all in
     rw (t .0) (omega (arith, run-past s r (t .1) h))
 
-takes-year : (k : ℕ) (s : List ℕ) → Takes k (takenYear k s)
-takes-year k s = takes-done k (takeYear k) _ s (takes-done k (takeNumber Year k) _ s (takes-number Year k s))
-
 no-minus-first : (k : ℕ) (r : List ℕ) → minusFirst (num k 1000001 ++ r) ≡ 0
 no-minus-first k r = no-minus (num k 1000001) r (all-num k 1000001) (num-some k 1000001)
 
@@ -123,7 +120,7 @@ unfolding readRule ruleText
 years-fail current k r digit e =
     let s = num k 1000001 in
     let taken : length s ≡ 0 + digitRun (s ++ r)
-    = rw (no-minus-first k r) at (takes-got (yearLength (s ++ r)) (takes-year (yearLength (s ++ r)) (s ++ r)) e) in
+    = rw (no-minus-first k r) at (takes-got (yearLength (s ++ r)) (takes-full-year (yearLength (s ++ r)) (s ++ r)) e) in
     omega (arith, run-past s r (all-num k 1000001) digit)
 
 fixed-year-fails : (current k : ℕ) (r : List ℕ) → k < 7 → Back current (FixedYear k) longNumbers r → ⊥
@@ -131,7 +128,7 @@ unfolding readRule ruleText
 fixed-year-fails current k r short e =
     let s = num k 1000001 in
     let taken : length s ≡ 0 + k
-    = rw (no-minus-first k r) at (takes-got (minusFirst (s ++ r) + k) (takes-year (minusFirst (s ++ r) + k) (s ++ r)) e) in
+    = rw (no-minus-first k r) at (takes-got (minusFirst (s ++ r) + k) (takes-full-year (minusFirst (s ++ r) + k) (s ++ r)) e) in
     omega (arith, seven-digits k)
 
 -- yy reads 01 as the first year of a millennium
@@ -154,11 +151,8 @@ two-digit-year-fails current small r e =
 -- zones: whole hours, with no minutes and no seconds
 
 -- a group that is missing, where a digit stands in its place
-takes-group : (colon : Bool) (r : List ℕ) → digitAt (colonLength colon) r ≡ true → Takes (colonLength colon + 2) (zoneGroup colon NotZero r)
-takes-group colon r digit =
-    rw digit
-    (takes-both (colonLength colon) 2 (skip (colonLength colon)) (λ _. takeCount 2) r (takes-skip (colonLength colon) r)
-    (λ n a _. takes-done 2 (takeNumber Count 2) _ (drop n r) (takes-number Count 2 (drop n r))))
+takes-missing : (colon : Bool) (r : List ℕ) → digitAt (colonLength colon) r ≡ true → Takes (colonLength colon + 2) (zoneGroup colon NotZero r)
+takes-missing colon r digit = rw digit (takes-group colon r)
 
 takes-behind-sign : (negative : Bool) (k : ℕ) (size : Reader ℕ) (s : List ℕ) → Takes k (size s)
     → Takes k (zoneBehind size (when negative behindUtc ahead) s)
@@ -175,14 +169,14 @@ missing-minutes : (colon : Bool) (r : List ℕ) → digitAt (colonLength colon) 
 unfolding MissingTaken
 missing-minutes colon r digit h =
     let e : 0 + (colonLength colon + 2) ≡ (colonLength colon + 2) + 0 = omega arith in
-    rw e (takes-both (colonLength colon + 2) 0 (zoneGroup colon NotZero) _ r (takes-group colon r digit) (λ n a _. refl))
+    rw e (takes-both (colonLength colon + 2) 0 (zoneGroup colon NotZero) _ r (takes-missing colon r digit) (λ n a _. refl))
 
 missing-seconds : (colon : Bool) (r : List ℕ) → digitAt (colonLength colon) r ≡ true → MissingTaken colon Always NotZero r
 unfolding MissingTaken
 missing-seconds colon r digit h =
     takes-then (colonLength colon + 2) (zoneGroup colon Always) _ (groupText colon Always 0) r
     (group-comes-back colon Always 0 r (omega arith) tt)
-    (takes-done (colonLength colon + 2) (zoneGroup colon NotZero) _ r (takes-group colon r digit))
+    (takes-done (colonLength colon + 2) (zoneGroup colon NotZero) _ r (takes-missing colon r digit))
 
 -- an offset of some whole hours
 record WholeHours (z : ℤ) : Type 0 where

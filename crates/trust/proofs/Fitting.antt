@@ -17,8 +17,9 @@ use Rattle.meaning.specs.declared.Role.{Role}
 use Rattle.meaning.specs.declared.Role.the-variants as role
 use Rattle.meaning.specs.declared.Rule.{Rule}
 use Rattle.laws.proofs.Splitting.{elements-step, elements-escaped}
+use Rattle.laws.proofs.Table.{RoleHas}
 use Rattle.laws.proofs.Tests.{by-test, when-is}
-use Rattle.trust.proofs.Table.{fits, roleFits, role-fits}
+use Rattle.trust.proofs.Table.{fits, role-fits}
 
 pub data Fitting : List Step → Type 0 where
   no-parts : Fitting []
@@ -140,7 +141,7 @@ mutual
 times-some : (n b : ℕ) → 0 < n → 0 < length (replicate n b)
 times-some n b h = rw length-replicate h
 
-run-fitting : (r : Role) (b n : ℕ) {ss : List Step} → roleFits r ≡ true → 0 < n → Fitting ss → Fitting (runStep r b n ∷ ss)
+run-fitting : (r : Role) (b n : ℕ) {ss : List Step} → RoleHas (λ rule. fits rule ≡ true) r → 0 < n → Fitting ss → Fitting (runStep r b n ∷ ss)
 run-fitting role.Literal b n e h rest = literal-first (times-some n b h) rest
 run-fitting (role.Symbol rule) b n e h rest = symbol-first e rest
 

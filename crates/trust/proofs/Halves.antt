@@ -1,19 +1,20 @@
 -- Two half patterns and the check. The answer for the join is that for the first, before two bytes that begin as the second can,
 -- and then that for the second. Where the check says yes to the join, the two texts side by side are read part by part as each
--- half reads its own.
+-- half reads its own, the second's further on.
 use mathlib.Core.Bool.{Bool, false}
-use mathlib.Core.List.{List, [], _++_, map, reverse, append-nil, map-append, reverse-append}
+use mathlib.Core.List.{List, [], _∷_, _++_, map, reverse, append-nil, reverse-append}
 use mathlib.Core.Path.{_≡_, refl, sym, ap, _∙_}
 use Prim.Native.Nat.{ℕ, _+_}
+use mathlib.Mathlib.Data.List.Basic.{map-reverseAux}
+use native.Mathlib.Nat.{add-zero}
 use native.Mathlib.Omega.{arith}
 use lib.IntN.{ℤ, natAbs}
 use lib.ListN.{length, length-append}
 use Rattle.meaning.specs.Answers.{currentYearCheck, patternCheck, fieldsCheck}
-use Rattle.meaning.specs.Names.{english}
-use Rattle.meaning.specs.Reading.{carriedStep}
+use Rattle.meaning.specs.Names.{Book, english}
 use Rattle.meaning.specs.Trust.{trustCheck, fullPair, Says}
 use Rattle.meaning.specs.Whole.{Walk, walked, walk, text}
-use Rattle.meaning.specs.Writing.{Step, steps}
+use Rattle.meaning.specs.Writing.{Step, steps, stepText, texts}
 use Rattle.meaning.specs.declared.Checked.{Checked}
 use Rattle.meaning.specs.declared.Checked.the-variants as checked
 use Rattle.meaning.specs.declared.Fields.{Fields}
@@ -28,8 +29,8 @@ use Rattle.trust.proofs.Verdicts.{verdict-says, told-as-checked}
 use Rattle.trust.proofs.Walks.{walk-yes}
 use Rattle.trust.specs.Ahead.{digitFirst, digitSecond}
 use Rattle.trust.specs.Check.{firstFailing, verdictBy, verdictOf}
-use Rattle.trust.specs.Halves.{standIn, verdictBefore, later, andThen}
-use Rattle.trust.specs.ReadBack.{carriedBy}
+use Rattle.trust.specs.Halves.{standIn, verdictBefore, later, andThen, furtherOn}
+use Rattle.trust.specs.ReadBack.{gaveFrom, gaveBy}
 
 -- a yes of two answers
 
@@ -66,6 +67,24 @@ says-yes p current h =
 
 yes-says : (p : List ℕ) (current : ℤ) → verdictOf p current ≡ Yes → Says english p current Yes
 yes-says p current e = rw e at (verdict-says p current)
+
+-- what parts give of their texts, one after the other, and behind k bytes more
+
+gave-append : (book : Book) (f : Fields) (at : ℕ) (ss ts : List Step)
+    → gaveFrom book f at (ss ++ ts) ≡ gaveFrom book f at ss ++ gaveFrom book f (at + length (texts book f ss)) ts
+unfolding gaveFrom texts
+gave-append book f at [] ts = rw add-zero
+gave-append book f at (s ∷ ss) ts =
+    let own = stepText book f s in
+    let e : at + length (own ++ texts book f ss) ≡ at + length own + length (texts book f ss) = omega (arith, length-append own (texts book f ss)) in
+    rw (e, gave-append book f (at + length own) ss ts)
+
+gave-further : (book : Book) (f : Fields) (k at : ℕ) (ss : List Step) → gaveFrom book f (k + at) ss ≡ map (furtherOn k) (gaveFrom book f at ss)
+unfolding gaveFrom
+gave-further book f k at [] = refl
+gave-further book f k at (s ∷ ss) =
+    let e : k + at + length (stepText book f s) ≡ k + (at + length (stepText book f s)) = omega arith in
+    rw (e, gave-further book f k (at + length (stepText book f s)) ss)
 
 -- the answer for the join
 
@@ -126,8 +145,8 @@ module _ {p q : List ℕ} (beside : Beside p q) (current : ℤ) where
   says-join first second a b =
       yes-says (p ++ q) current (verdict-no-digit first second ∙ rw (says-yes p current a, says-yes q current b))
 
-  -- Where the check says yes to the join, each half is read from its own text, and the join as the one and then the other, by a
-  -- strict reading and by a plain one.
+  -- Where the check says yes to the join, each half is read from its own text, and the join as the one and then the other, which
+  -- stands behind the first's text, by a strict reading and by a plain one.
   module _ (strict : Bool) (says : Says english (p ++ q) current Yes) (f : Fields) (fine : fieldsCheck f ≡ checked.Fine) where
     abbrev reading : List ℕ → List ℕ → Walk
     reading pattern s = walk (fullPair strict) english (natAbs current) 0 0 (steps Full pattern) s []
@@ -138,17 +157,23 @@ module _ {p q : List ℕ} (beside : Beside p q) (current : ℤ) where
     abbrev other : List ℕ
     other = text Full english q f
 
-    carried-join : carriedBy f (steps Full (p ++ q)) ≡ carriedBy f (steps Full q) ++ carriedBy f (steps Full p)
-    carried-join =
-        ap (carriedBy f) (steps-join beside Full) ∙ ap reverse (map-append (λ s. carriedStep s f) (steps Full p) (steps Full q))
-        ∙ reverse-append (map (λ s. carriedStep s f) (steps Full p)) (map (λ s. carriedStep s f) (steps Full q))
+    gave-join : gaveBy english f 0 (steps Full (p ++ q))
+        ≡ map (furtherOn (length one)) (gaveBy english f 0 (steps Full q)) ++ gaveBy english f 0 (steps Full p)
+    unfolding text
+    gave-join =
+        let start : 0 + length one ≡ length one + 0 = omega arith in
+        ap (gaveBy english f 0) (steps-join beside Full) ∙ ap reverse (gave-append english f 0 (steps Full p) (steps Full q))
+        ∙ reverse-append (gaveFrom english f 0 (steps Full p)) (gaveFrom english f (0 + length one) (steps Full q))
+        ∙ rw (start, gave-further english f (length one) 0 (steps Full q), map-reverseAux (furtherOn (length one)) (gaveFrom english f 0 (steps Full q)) [])
 
-    pub walk-join : (reading p one ≡ walked (length one) (carriedBy f (steps Full p)))
-        × (reading q other ≡ walked (length other) (carriedBy f (steps Full q)))
-        × (reading (p ++ q) (one ++ other) ≡ walked (length one + length other) (carriedBy f (steps Full q) ++ carriedBy f (steps Full p)))
+    pub walk-join : (reading p one ≡ walked (length one) (gaveBy english f 0 (steps Full p)))
+        × (reading q other ≡ walked (length other) (gaveBy english f 0 (steps Full q)))
+        × (reading (p ++ q) (one ++ other)
+        ≡ walked (length one + length other)
+        (map (furtherOn (length one)) (gaveBy english f 0 (steps Full q)) ++ gaveBy english f 0 (steps Full p)))
     walk-join =
         let halves = says-halves says in (
           walk-yes (fullPair strict) english p current (halves .0 strict) f fine,
           walk-yes (fullPair strict) english q current (halves .1 strict) f fine,
-          rw (text-join beside Full english f, length-append one other, carried-join) at (walk-yes (fullPair strict) english (p ++ q) current (says strict) f fine),
+          rw (text-join beside Full english f, length-append one other, gave-join) at (walk-yes (fullPair strict) english (p ++ q) current (says strict) f fine),
         )

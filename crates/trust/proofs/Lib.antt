@@ -13,7 +13,6 @@ pub mod Samples
 pub mod Sound
 pub mod Steps
 pub mod Table
-pub mod Takes
 pub mod Turns
 pub mod Verdicts
 pub mod Walks

@@ -1,5 +1,5 @@
 -- Where the check says yes, a read of what was written for an allowed record, strict or not, is accepted, takes all of it, and
--- gives every unit that the pattern carries with the record's value.
+-- gives every unit that the pattern carries with the record's value, and with where the text of its part stands.
 use mathlib.Core.Bool.{Bool}
 use mathlib.Core.List.{List}
 use mathlib.Core.Path.{_≡_}
@@ -18,7 +18,7 @@ use Rattle.meaning.specs.declared.Verdict.the-variants as verdict
 use Rattle.laws.proofs.Ascii.{written-checks}
 use Rattle.laws.proofs.Checks.{else-fine}
 use Rattle.trust.proofs.Walks.{walk-yes}
-use Rattle.trust.specs.ReadBack.{carriedBy}
+use Rattle.trust.specs.ReadBack.{gaveBy}
 
 -- no check of the read refuses the written text
 written-is-read : (p : List ℕ) (current : ℤ) (f : Fields) → trustCheck p current ≡ Fine → fieldsCheck f ≡ Fine
@@ -30,7 +30,7 @@ written-is-read p current f h k =
 
 pub read-back : (strict : Bool) (p : List ℕ) (current : ℤ) (f : Fields) → SaysOf (fullPair strict) english p current verdict.Yes → fieldsCheck f ≡ Fine
     → read (fullPair strict) english p (text Full english p f) current
-    ≡ readingOf Fine (length (text Full english p f)) (carriedBy f (steps Full p))
+    ≡ readingOf Fine (length (text Full english p f)) (gaveBy english f 0 (steps Full p))
 unfolding read SaysOf
 read-back strict p current f says fine =
     rw (written-is-read p current f (says .0) fine, walk-yes (fullPair strict) english p current says f fine)

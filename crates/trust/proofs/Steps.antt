@@ -8,7 +8,7 @@ use native.Mathlib.Omega.{arith}
 use lib.ListN.{length, take, length-append, length-take}
 use borrow.Author.Tests.{not-true, not-false}
 use Rattle.meaning.specs.Names.{english}
-use Rattle.meaning.specs.Readers.{got, skip, same}
+use Rattle.meaning.specs.Readers.{got, same}
 use Rattle.meaning.specs.Reading.{literalRead, readStep, carriedStep}
 use Rattle.meaning.specs.Writing.{Step, endsInQuote, stepText, texts}
 use Rattle.meaning.specs.declared.Carried.the-variants as carried
@@ -16,12 +16,12 @@ use Rattle.meaning.specs.declared.Choices.{Choices}
 use Rattle.meaning.specs.declared.Fields.{Fields}
 use Rattle.laws.proofs.Fields.{Allowed, allowed}
 use Rattle.laws.proofs.Readers.{skip-goes-on, same-goes-on}
+use Rattle.laws.proofs.Takes.{Takes, takes-got, takes-same, takes-done, takes-passed}
 use Rattle.laws.proofs.Tests.{true-is-not-false}
 use Rattle.trust.proofs.Ahead.{first-byte, no-first-digit, second-byte, no-second-digit}
 use Rattle.trust.proofs.Fails.{Shown, rule-fails}
 use Rattle.trust.proofs.Fitting.{Fitting, symbol-first, literal-first, open-last}
 use Rattle.trust.proofs.Sound.{Met, rule-comes-back}
-use Rattle.trust.proofs.Takes.{Takes, takes-got, takes-skip, takes-same, takes-done}
 use Rattle.trust.proofs.Witness.{witness-fine}
 use Rattle.trust.specs.Ahead.{digitFirst, digitSecond}
 use Rattle.trust.specs.Check.{meets, witness, shortNumbers}
@@ -70,7 +70,7 @@ has-a-quote (b ∷ s) e = omega arith
 
 takes-literal : (strict : Bool) (s t : List ℕ) → Takes (length s) (literalRead strict s t)
 takes-literal true s t = takes-done (length s) (same s) _ t (takes-same s t)
-takes-literal false s t = takes-done (length s) (skip (length s)) _ t (takes-skip (length s) t)
+takes-literal false s t = takes-passed (length s) t
 
 lost-fails : (strict : Bool) (s r : List ℕ) → endsInQuote s ≡ true
     → literalRead strict s (take (length s - 1) s ++ r) ≡ got (length (take (length s - 1) s)) carried.Nothing → ⊥

@@ -1,7 +1,7 @@
 -- The table's rules are in order: one test of a rule, computed for each row, lifted to whatever a run of bytes does. The laws
 -- of the check ask for nothing else of a rule.
 use mathlib.Core.Bool.{Bool, true, false, not}
-use mathlib.Core.List.{List, [], _∷_}
+use mathlib.Core.List.{List}
 use mathlib.Core.Path.{_≡_, refl}
 use Prim.Native.Nat.{ℕ, _≤_, _<_}
 use lib.Dec.{eqb, leb, ltb}
@@ -9,7 +9,7 @@ use lib.ListN.{length}
 use borrow.Author.Tests.{leb-true, lt-ltb, ltb-true}
 use Rattle.meaning.specs.Bytes.{when, both, digitAt, num}
 use Rattle.meaning.specs.Names.{english, names}
-use Rattle.meaning.specs.Rules.{Row, _is_, among, Otherwise, always, fixedYear, Symbol, otherwiseRule, pick, dateSymbols, timeSymbols, roleAmong, dateRole, timeRole, orElse, roleOf}
+use Rattle.meaning.specs.Rules.{roleOf}
 use Rattle.meaning.specs.Writing.{quantityOf, nameText}
 use Rattle.meaning.specs.declared.Group.{Group}
 use Rattle.meaning.specs.declared.Group.the-variants.{Never, NotZero, Always}
@@ -17,12 +17,11 @@ use Rattle.meaning.specs.declared.NameList.{NameList}
 use Rattle.meaning.specs.declared.Pair.the-variants.{Full}
 use Rattle.meaning.specs.declared.Quantity.{Quantity}
 use Rattle.meaning.specs.declared.Quantity.the-variants.{Month, Quarter, Week, Day, DayOfYear, Weekday, WeekdayFromMonday, Hour1To12, Hour0To11, Hour0To23, Hour1To24, Minute, Second, Fraction}
-use Rattle.meaning.specs.declared.Role.{Role}
-use Rattle.meaning.specs.declared.Role.the-variants as role
 use Rattle.meaning.specs.declared.Rule.{Rule}
 use Rattle.meaning.specs.declared.Rule.the-variants.{Number, SkippedNumber, LetterQuarter, SkippedName, MatchedName, Letters, Years, FixedYear, TwoDigitYear, Zone}
 use Rattle.laws.proofs.Names.{allApart}
-use Rattle.laws.proofs.Tests.{both-true, every, when-is}
+use Rattle.laws.proofs.Table.{RoleHas, tablePasses, symbolPasses, role-passes}
+use Rattle.laws.proofs.Tests.{both-true, every}
 use Rattle.laws.specs.Widths.{mostDigits}
 use Rattle.trust.specs.Ahead.{opening, nameFirst, hasLetters}
 use Rattle.trust.specs.Check.{shortNumbers, longNumbers}
@@ -114,57 +113,14 @@ number-fits q least most h =
 
 -- the whole table
 
-abbrev rowFits : Row → Bool
-rowFits (counts is rule) = fits rule
-
-abbrev otherwiseFits : Otherwise → Bool
-otherwiseFits (always rule) = fits rule
-otherwiseFits fixedYear = true
-
-abbrev symbolFits : Symbol → Bool
-symbolFits symbol = both (every rowFits (symbol .rows)) (otherwiseFits (symbol .otherwise))
-
-abbrev pub roleFits : Role → Bool
-roleFits role.Literal = true
-roleFits (role.Symbol rule) = fits rule
-
-date-symbols-fit : every symbolFits dateSymbols ≡ true
+table-fits : tablePasses (symbolPasses fits) ≡ true
 unfolding fits numberFits namesFit sameLength allApart english opening nameFirst hasLetters mostDigits quantityOf num digitAt nameText
-date-symbols-fit = refl
+table-fits = refl
 
-time-symbols-fit : every symbolFits timeSymbols ≡ true
-unfolding fits numberFits namesFit sameLength allApart opening nameFirst hasLetters mostDigits quantityOf num digitAt nameText
-time-symbols-fit = refl
-
--- what is picked from it
-
-otherwise-fits : (c : ℕ) (o : Otherwise) → otherwiseFits o ≡ true → fits (otherwiseRule c o) ≡ true
-unfolding otherwiseRule fits
-otherwise-fits c (always rule) h = h
-otherwise-fits c fixedYear h = refl
-
-pick-fits : (c : ℕ) (rows : List Row) (o : Otherwise) → every rowFits rows ≡ true → otherwiseFits o ≡ true → fits (pick c rows o) ≡ true
-unfolding pick every
-pick-fits c [] o h k = otherwise-fits c o k
-pick-fits c (counts is rule ∷ rows) o h k =
-    let t = both-true (fits rule) (every rowFits rows) h in
-    when-is (λ r. fits r ≡ true) (among c counts) (λ e. t .0) (λ e. pick-fits c rows o (t .1) k)
-
-among-fits : (symbols : List Symbol) (b c : ℕ) → every symbolFits symbols ≡ true → roleFits (roleAmong symbols b c) ≡ true
-unfolding roleAmong every
-among-fits [] b c h = refl
-among-fits (symbol ∷ symbols) b c h =
-    let t = both-true (symbolFits symbol) (every symbolFits symbols) h in
-    let s = both-true (every rowFits (symbol .rows)) (otherwiseFits (symbol .otherwise)) (t .0) in
-    when-is (λ r. roleFits r ≡ true) (eqb b (symbol .letter))
-    (λ e. pick-fits c (symbol .rows) (symbol .otherwise) (s .0) (s .1)) (λ e. among-fits symbols b c (t .1))
-
-or-else-fits : (r s : Role) → roleFits r ≡ true → roleFits s ≡ true → roleFits (orElse r s) ≡ true
-or-else-fits role.Literal s h k = k
-or-else-fits (role.Symbol rule) s h k = h
+fixed-fits : (c : ℕ) → fits (FixedYear c) ≡ true
+unfolding fits
+fixed-fits c = refl
 
 -- the rule of any run of a pattern is in order
-pub role-fits : (b c : ℕ) → roleFits (roleOf Full b c) ≡ true
-unfolding roleOf
-role-fits b c =
-    or-else-fits (dateRole b c) (timeRole b c) (among-fits dateSymbols b c date-symbols-fit) (among-fits timeSymbols b c time-symbols-fit)
+pub role-fits : (b c : ℕ) → RoleHas (λ rule. fits rule ≡ true) (roleOf Full b c)
+role-fits b c = role-passes fits fixed-fits table-fits Full b c

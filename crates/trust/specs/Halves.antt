@@ -7,6 +7,7 @@ use Prim.Native.Nat.{ℕ, _+_}
 use lib.IntN.{ℤ}
 use Rattle.meaning.specs.Bytes.{when}
 use Rattle.meaning.specs.Trust.{trustCheck}
+use Rattle.meaning.specs.Whole.{Gave}
 use Rattle.meaning.specs.Writing.{Step, literal, steps}
 use Rattle.meaning.specs.declared.Pair.the-variants.{Full}
 use Rattle.meaning.specs.declared.Verdict.{Verdict}
@@ -39,3 +40,7 @@ abbrev pub andThen : Verdict → Verdict → Verdict
 andThen Yes next = next
 andThen (No part f) next = No part f
 andThen (Refused why) next = Refused why
+
+-- what a part gave, of a text with so many bytes more before it
+abbrev pub furtherOn : ℕ → Gave → Gave
+furtherOn k g = record { carried = g .carried; start = k + g .start; end = k + g .end }

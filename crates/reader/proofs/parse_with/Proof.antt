@@ -1,7 +1,10 @@
 -- What the checks say, and else the walk.
 use borrow.Author.Needs.{needs}
+use denote.Ref.{now}
+use mathlib.Core.Path.{sym, _∙_}
 use mir.Syntax.{w32}
 use mir.ValLaws.{toZ-ofZ}
+use Rattle.laws.proofs.Checks.{read-short}
 use Rattle.laws.proofs.Told.{by-whole}
 use Rattle.meaning.specs.Whole.{read}
 use Rattle.reader.proofs.parse_with.Statement.{statement}
@@ -17,7 +20,9 @@ size-requires : tie.Need-size-requires
 size-requires c κs = search needs
 
 parse-parts-requires : tie.Need-parse-parts-requires
-parse-parts-requires c κs = search needs
+parse-parts-requires c κs =
+    let a = c .before .before .before .before .before .before .args in
+    read-short (now (a .pattern)) (now (a .text)) _ (sym (c .before .before .before .read-check .ensures) ∙ c .before .enum-told .given .1)
 
 enum-told-2 : tie.Need-enum-told-2
 enum-told-2 c = search needs

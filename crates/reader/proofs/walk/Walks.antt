@@ -9,23 +9,27 @@ use native.Mathlib.Omega.{arith}
 use lib.ListN.{length, drop, length-drop}
 use lib.Seq.{drop-drop}
 use borrow.Author.Tests.{lt-ltb}
+use Rattle.laws.proofs.Pluses.{behindPart}
 use Rattle.laws.proofs.Readers.{none-left}
 use Rattle.meaning.specs.Answers.{restCheck}
 use Rattle.meaning.specs.Bytes.{when}
 use Rattle.meaning.specs.Names.{english}
 use Rattle.meaning.specs.Readers.{Got, got, stopped}
 use Rattle.meaning.specs.Reading.{readStep}
-use Rattle.meaning.specs.Whole.{Walk, walked, refusedAt, walkedBy, walk}
+use Rattle.meaning.specs.Whole.{plain, Gave, Walk, walked, refusedAt, walkedBy, walk}
 use Rattle.meaning.specs.Writing.{Step, steps}
 use Rattle.meaning.specs.declared.Carried.{Carried}
 use Rattle.meaning.specs.declared.Checked.the-variants.{Refused}
 use Rattle.meaning.specs.declared.Choices.{Choices}
 use Rattle.meaning.specs.declared.Pair.{Pair}
+use Rattle.meaning.specs.declared.Pair.the-variants.{Full}
 use Rattle.meaning.specs.declared.Part.{Part}
 use Rattle.meaning.specs.declared.Refusal.the-variants.{InPart, TextLeft}
 use Rattle.meaning.specs.declared.Trouble.{Trouble}
 use Rattle.meaning.specs.declared.Trouble.the-variants.{LiteralDiffers}
 use Rattle.parse.proofs.literals.Strict.{strictBy, compared-read}
+use Rattle.parse.proofs.rule.Within.{within-step}
+use Rattle.parse.proofs.steps.Within.{part-stays}
 use Rattle.parse.specs.Literals.{compared}
 use Rattle.parse.specs.Steps.{partAt, plainRead}
 use Rattle.parse.specs.declared.cursor.Cursor.{Cursor}
@@ -43,24 +47,29 @@ pub step-here : {pair : Pair} {p : List ℕ} {place : ℕ} {part : Part} {k : ru
     → stepAt pair p place ≡ means p k
 step-here {pair} {p} {place} {part} n chosen = rw (steps-next pair p place part n, chosen .meant)
 
-module _ (choices : Choices) (current i : ℕ) (text : List ℕ) (gave : List Carried) where
-  -- what follows a part, by what it gave
-  abbrev pub walkBy : List Step → PartRead → Walk
-  walkBy ss (read.Stopped why place) = refusedAt (Refused (InPart why i place))
-  walkBy ss (read.Got c next) = walk choices english current (i + 1) (next .at) ss (drop (next .at) text) (c ∷ gave)
+-- a cursor that a part moves on stays in the text
+pub part-inside : (text : List ℕ) (at current : ℕ) (step : Step) {c : Carried} {next : Cursor}
+    → partAt at (plainRead current step (drop at text)) ≡ read.Got c next → at ≤ length text → next .at ≤ length text
+part-inside text at current step e h =
+    let rest = drop at text in
+    part-stays at text (plainRead current step rest) h (within-step (plain Full) english current step rest) e
+
+module _ (choices : Choices) (current i : ℕ) (text : List ℕ) (gave : List Gave) where
+  -- what follows a part that began at a place, by what it gave
+  abbrev walkBy : ℕ → List Step → PartRead → Walk
+  walkBy at ss (read.Stopped why place) = refusedAt (Refused (InPart why i place))
+  walkBy at ss (read.Got c next) =
+      walk choices english current (i + 1) (next .at) ss (drop (next .at) text) (record { carried = c; start = at; end = next .at } ∷ gave)
 
   by-part : (at : ℕ) (ss : List Step) (g : Got Carried)
-      → (elim g as (λ x. Walk) [
-        | got n c ↦ walk choices english current (suc i) (at + n) ss (drop n (drop at text)) (c ∷ gave)
-        | stopped why place ↦ refusedAt (Refused (InPart why i (at + place)))
-      ])
-      ≡ walkBy ss (partAt at g)
+      → behindPart i at (λ n c. walk choices english current (suc i) (at + n) ss (drop n (drop at text)) (record { carried = c; start = at; end = at + n } ∷ gave)) g
+      ≡ walkBy at ss (partAt at g)
   by-part at ss (got n c) = rw (drop-drop n at text, add-one i)
   by-part at ss (stopped why place) = refl
 
   walk-on : (at : ℕ) (step : Step) (ss : List Step)
       → walk choices english current i at (step ∷ ss) (drop at text) gave
-      ≡ walkBy ss (partAt at (readStep choices english current step (drop at text)))
+      ≡ walkBy at ss (partAt at (readStep choices english current step (drop at text)))
   unfolding walk
   walk-on at step ss = by-part at ss (readStep choices english current step (drop at text))
 
@@ -69,26 +78,26 @@ module _ (choices : Choices) (current i : ℕ) (text : List ℕ) (gave : List Ca
     abbrev Walked : Walk → Type 0
     Walked w = walk choices english current i at (steps (choices .pair) (drop place p)) (drop at text) gave ≡ w
 
-    abbrev Gave : PartRead → Type 0
-    Gave g = partAt at (plainRead current (means p k) (drop at text)) ≡ g
+    abbrev Gives : PartRead → Type 0
+    Gives g = partAt at (plainRead current (means p k) (drop at text)) ≡ g
 
-    walk-step : {g : PartRead} → Gave g
-        → Walked (walkBy (steps (choices .pair) (drop (place + part .length) p)) (strictBy (choices .strict) (means p k) text g))
+    walk-step : {g : PartRead} → Gives g
+        → Walked (walkBy at (steps (choices .pair) (drop (place + part .length) p)) (strictBy (choices .strict) (means p k) text g))
     walk-step e =
         let pair = choices .pair in
         rw (← e, steps-next pair p place part n, ← chosen .meant, ← compared-read text at choices current (means p k))
         (walk-on at (means p k) (steps pair (drop (place + part .length) p)))
 
-    pub walk-stops : {why : Trouble} {stop : ℕ} → Gave (read.Stopped why stop) → Walked (refusedAt (Refused (InPart why i stop)))
+    pub walk-stops : {why : Trouble} {stop : ℕ} → Gives (read.Stopped why stop) → Walked (refusedAt (Refused (InPart why i stop)))
     walk-stops e = walk-step e
 
-    pub walk-differs : {c : Carried} {next : Cursor} {found : ℕ} → Gave (read.Got c next) → choices .strict ≡ true
+    pub walk-differs : {c : Carried} {next : Cursor} {found : ℕ} → Gives (read.Got c next) → choices .strict ≡ true
         → compared (means p k) text (next .at) ≡ Differs found → Walked (refusedAt (Refused (InPart LiteralDiffers i found)))
     walk-differs e strict differs = walk-step e ∙ rw (strict, differs)
 
-    pub walk-goes-on : {c : Carried} {next : Cursor} → Gave (read.Got c next)
+    pub walk-goes-on : {c : Carried} {next : Cursor} → Gives (read.Got c next)
         → when (choices .strict) (compared (means p k) text (next .at)) Same ≡ Same
-        → Walked (walkBy (steps (choices .pair) (drop (place + part .length) p)) (read.Got c next))
+        → Walked (walkBy at (steps (choices .pair) (drop (place + part .length) p)) (read.Got c next))
     walk-goes-on e same = walk-step e ∙ rw same
 
   -- behind the last part, where text is left over and where none is

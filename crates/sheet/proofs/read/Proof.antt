@@ -15,7 +15,7 @@ use Rattle.sheet.proofs.read.Tie as tie
 returns : tie.Need-returns
 returns c =
     let a = c .before .before .before .args in
-    no-room 18 (now (a .row)) (readAnswer (read (a .choices) english (now (a .pattern)) (now (a .text)) (a .year))) (omega arith)
+    no-room 48 (now (a .row)) (readAnswer (read (a .choices) english (now (a .pattern)) (now (a .text)) (a .year))) (omega arith)
 
 parse-with-requires : tie.Need-parse-with-requires
 parse-with-requires c κs = search needs
@@ -33,7 +33,7 @@ returns-2 : tie.Need-returns-2
 returns-2 c =
     let s = c .before .before .before .before .before .before .before in
     let reads = rw (toZ-ofZ w32 (s .args .year) (s .fits .year)) at (c .before .before .before .parse-with .ensures .whole) in
-    room 18 (now (s .args .row)) (readAnswer (read (s .args .choices) english (now (s .args .pattern)) (now (s .args .text)) (s .args .year))) (omega (arith, c .before .before .before .before .if1 .left))
+    room 48 (now (s .args .row)) (readAnswer (read (s .args .choices) english (now (s .args .pattern)) (now (s .args .text)) (s .args .year))) (omega (arith, c .before .before .before .before .if1 .left))
     (rw (← reads) (c .before .give-reading .ensures))
 
 pub read-spec : {M : Type 1} → statement M

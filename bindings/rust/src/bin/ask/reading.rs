@@ -39,7 +39,11 @@ fn answer_by(reader: Reader, pattern: &[u8], text: &[u8], current_year: i32) -> 
 
 fn read(reading: &Reading) -> String {
     let counts = format!("read {} {} {}", reading.taken, reading.mask, reading.units);
-    numbered(&counts, &reading.values)
+    let mut line = numbered(&counts, &reading.values);
+    for (start, end) in reading.starts.iter().zip(reading.ends) {
+        line += &format!(" {start}:{end}");
+    }
+    line
 }
 
 /// A refused read gives only the refusal: where the record behind the details is not zeros alone, that is the answer.
@@ -90,7 +94,7 @@ mod tests {
         let mut row = reader.row_left(b"d'", b"3", 2025);
         assert_eq!(refused_read(&refusal, &row), "refused 3 1");
         row[1] = 4;
-        let shown = "read 1 4 0 0 0 0 0 0 0 0 0 0 0 0 0 0 0 0";
+        let shown = format!("read 1 4{}", " 0".repeat(46));
         assert_eq!(refused_read(&refusal, &row), shown);
     }
 
@@ -114,6 +118,20 @@ mod tests {
         }
         assert!(answer(Pair::Full, "642f48 332f37 2025 strict").starts_with("read 3 20 2 "));
         assert_eq!(answer(Pair::Date, "642f48 332f37 2025 strict"), "refused 15 2 2");
+    }
+
+    /// `d d` on `3 14`, and `y` on `-5`.
+    #[test]
+    fn spans_stand_behind_the_values() {
+        let answer = |pair, words: &str| answer(pair, Words::of(words.as_bytes())).expect("a request");
+        let day = format!("read 4 4 1 0 0 14{} 0:0 0:0 2:4{}", " 0".repeat(12), " 0:0".repeat(12));
+        let year = format!("read 2 1 1 -5{} 0:2{}", " 0".repeat(14), " 0:0".repeat(14));
+        for pair in [Pair::Full, Pair::Date] {
+            for word in ["", " strict"] {
+                assert_eq!(answer(pair, &format!("642064 33203134 2025{word}")), day);
+                assert_eq!(answer(pair, &format!("79 2d35 2025{word}")), year);
+            }
+        }
     }
 
     #[test]

@@ -11,33 +11,28 @@ use mir.Syntax.{w64}
 use mir.ValLaws.{toZ-ofZ}
 use native.Mathlib.Omega.{arith}
 use Rattle.meaning.specs.Names.{english}
-use Rattle.meaning.specs.Whole.{plain, walk}
+use Rattle.meaning.specs.Whole.{Gave, walk}
 use Rattle.meaning.specs.Writing.{steps}
 use Rattle.meaning.specs.declared.Carried.the-variants.{Nothing, Value}
-use Rattle.meaning.specs.declared.Carried.{Carried}
-use Rattle.meaning.specs.declared.Pair.the-variants.{Full}
 use Rattle.parse.proofs.literals.Strict.{same-either, value-same, ended}
-use Rattle.parse.proofs.steps.Within.{part-stays}
-use Rattle.parse.proofs.rule.Within.{within-step}
-use Rattle.parse.specs.Steps.{plainRead}
 use Rattle.pattern.proofs.parts.Next.{next, starts-here}
 use Rattle.rules.specs.Steps.{means}
-use Rattle.reader.proofs.walk.Walks.{step-here, walk-stops, walk-differs, walk-goes-on, walk-left, walk-done}
+use Rattle.reader.proofs.walk.Walks.{step-here, part-inside, walk-stops, walk-differs, walk-goes-on, walk-left, walk-done}
 use Rattle.reader.proofs.walk.parse_parts.Statement.{statement}
 use Rattle.reader.proofs.walk.parse_parts.Tie as tie
 use Rattle.reader.proofs.record.Units.{Holds, holds-none, unit-below, holds-nothing, holds-value, holds-reading}
 
 abbrev Inv-loop : tie.InvT-loop
-Inv-loop choices pattern text current-year pair values₀ mask₀ at₀ place₀ i₀ values mask at place i =
-    (gave : List Carried)
-    × (Holds gave values mask)
+Inv-loop choices pattern text current-year pair values₀ starts₀ ends₀ mask₀ at₀ place₀ i₀ values starts ends mask at place i =
+    (gave : List Gave)
+    × (Holds gave values starts ends mask)
     × (walk choices english current-year i at (steps (choices .pair) (drop place pattern)) (drop at text) gave
     ≡ walk choices english current-year 0 0 (steps (choices .pair) pattern) text [])
     × (at ≤ length text)
     × (i ≤ place)
 
 abbrev μ-loop : tie.MeasureT-loop
-μ-loop choices pattern text current-year pair values₀ mask₀ at₀ place₀ i₀ values mask at place i = length pattern - place
+μ-loop choices pattern text current-year pair values₀ starts₀ ends₀ mask₀ at₀ place₀ i₀ values starts ends mask at place i = length pattern - place
 
 loop-holds : tie.Need-loop-holds Inv-loop μ-loop
 loop-holds c = ([], holds-none, refl, omega arith, omega arith)
@@ -65,10 +60,8 @@ returns c =
     let m = c .before .before .before .before .before in
     let L = m .before .before .before .loop in
     let a = m .before .before .before .before .before .before .args in
-    let found = m .before .next-part in
-    let n = next (now (a .pattern)) (L .place) (found .result) (m .before .before .loop-test .taken) (found .ensures) in
-    let read = c .before .before .before .before .parse-step .ensures in
-    let gave = sym read ∙ c .before .before .trouble .given .1 in
+    let n = next (now (a .pattern)) (L .place) (m .before .next-part .result) (m .before .before .loop-test .taken) (m .before .next-part .ensures) in
+    let gave = sym (c .before .before .before .before .parse-step .ensures) ∙ c .before .before .trouble .given .1 in
     let stops = walk-stops (a .choices) (a .current-year) (L .i) (now (a .text)) (L .inv .0) (L .at) (L .place) n (m .step-of .ensures) gave in
     rw (← rw stops at (L .inv .2)) (c .refused-in .ensures)
 
@@ -87,6 +80,32 @@ mul-values c = omega (arith, c .unit-number .ensures, unit-below (c .before .bef
 array-set-from-values : tie.Need-array-set-from-values Inv-loop μ-loop
 array-set-from-values c = omega (arith, c .unit-number .ensures, unit-below (c .before .before .carried2 .given .0 .0))
 
+cast-starts : tie.Need-cast-starts Inv-loop μ-loop
+cast-starts c =
+    let m = c .before .before .before .before .before .before .before .before in
+    omega (arith, m .before .before .before .loop .inv .3, m .before .before .before .before .before .before .pre)
+
+mul-starts : tie.Need-mul-starts Inv-loop μ-loop
+mul-starts c = omega (arith, c .unit-number .ensures, unit-below (c .before .before .carried2 .given .0 .0))
+
+array-write-starts : tie.Need-array-write-starts Inv-loop μ-loop
+array-write-starts c = omega (arith, c .unit-number .ensures, unit-below (c .before .before .carried2 .given .0 .0))
+
+cast-ends : tie.Need-cast-ends Inv-loop μ-loop
+cast-ends c =
+    let m = c .before .before .before .before .before .before .before .before in
+    let L = m .before .before .before .loop in
+    let a = m .before .before .before .before .before .before .args in
+    let gave = sym (c .before .before .before .before .before .before .before .parse-step .ensures) ∙ c .before .before .before .before .before .carried .given .1 in
+    let inside = part-inside (now (a .text)) (L .at) (a .current-year) (means (now (a .pattern)) (m .step-of .result)) gave (L .inv .3) in
+    omega (arith, inside, m .before .before .before .before .before .before .pre)
+
+mul-ends : tie.Need-mul-ends Inv-loop μ-loop
+mul-ends c = omega (arith, c .unit-number .ensures, unit-below (c .before .before .carried2 .given .0 .0))
+
+array-write-ends : tie.Need-array-write-ends Inv-loop μ-loop
+array-write-ends c = omega (arith, c .unit-number .ensures, unit-below (c .before .before .carried2 .given .0 .0))
+
 cast-mask : tie.Need-cast-mask Inv-loop μ-loop
 cast-mask c = omega (arith, c .unit-number .ensures, unit-below (c .before .before .carried2 .given .0 .0))
 
@@ -102,10 +121,8 @@ compare-part-requires c κs =
     let L = m .before .before .before .loop in
     let a = m .before .before .before .before .before .before .args in
     let p = now (a .pattern) in
-    let found = m .before .next-part in
-    let n = next p (L .place) (found .result) (m .before .before .loop-test .taken) (found .ensures) in
-    let read = c .before .before .before .before .before .before .parse-step .ensures in
-    let gave = sym read ∙ c .before .before .before .before .carried .given .1 in
+    let n = next p (L .place) (m .before .next-part .result) (m .before .before .loop-test .taken) (m .before .next-part .ensures) in
+    let gave = sym (c .before .before .before .before .before .before .parse-step .ensures) ∙ c .before .before .before .before .carried .given .1 in
     let end = ended (now (a .text)) (L .at) (a .current-year) (means p (m .step-of .result)) gave (L .inv .3) in
     (m .before .before .loop-test .taken, rw (step-here n (m .step-of .ensures)) end)
 
@@ -121,14 +138,13 @@ returns-2 c =
     let L = m .before .before .before .loop in
     let a = m .before .before .before .before .before .before .args in
     let p = now (a .pattern) in
-    let found = m .before .next-part in
-    let n = next p (L .place) (found .result) (m .before .before .loop-test .taken) (found .ensures) in
+    let text = now (a .text) in
+    let n = next p (L .place) (m .before .next-part .result) (m .before .before .loop-test .taken) (m .before .next-part .ensures) in
     let g = c .before .before .before .before .before in
-    let read = g .before .before .before .before .before .before .parse-step .ensures in
-    let gave = sym read ∙ g .before .before .before .before .carried .given .1 in
+    let gave = sym (g .before .before .before .before .before .before .parse-step .ensures) ∙ g .before .before .before .before .carried .given .1 in
     let seen = rw (step-here n (m .step-of .ensures)) at (c .before .before .before .before .compare-part .ensures) in
-    let differs = walk-differs (a .choices) (a .current-year) (L .i) (now (a .text)) (L .inv .0) (L .at) (L .place) n (m .step-of .ensures) in
-    let stops = differs gave (g .if1 .taken) (sym seen ∙ c .before .before .found .given .1) in
+    let differs = sym seen ∙ c .before .before .found .given .1 in
+    let stops = walk-differs (a .choices) (a .current-year) (L .i) text (L .inv .0) (L .at) (L .place) n (m .step-of .ensures) gave (g .if1 .taken) differs in
     rw (← rw stops at (L .inv .2)) (c .refused-in2 .ensures)
 
 enum-told-2 : tie.Need-enum-told-2 Inv-loop μ-loop
@@ -160,22 +176,20 @@ loop-again c =
     let a = m .before .before .before .before .before .before .args in
     let p = now (a .pattern) in
     let text = now (a .text) in
-    let found = m .before .next-part in
-    let n = next p (L .place) (found .result) (m .before .before .loop-test .taken) (found .ensures) in
+    let n = next p (L .place) (m .before .next-part .result) (m .before .before .loop-test .taken) (m .before .next-part .ensures) in
     let k = means p (m .step-of .result) in
-    let rest = drop (L .at) text in
-    let read = c .before .before .before .before .before .parse-step .ensures in
-    let gave = sym read ∙ c .before .before .before .carried .given .1 in
+    let gave = sym (c .before .before .before .before .before .parse-step .ensures) ∙ c .before .before .before .carried .given .1 in
     let moved = walk-goes-on (a .choices) (a .current-year) (L .i) text (L .inv .0) (L .at) (L .place) n (m .step-of .ensures) gave in
-    let within = within-step (plain Full) english (a .current-year) k rest in
-    let inside = part-stays (L .at) text (plainRead (a .current-year) k rest) (L .inv .3) within gave in
+    let inside = part-inside text (L .at) (a .current-year) k gave (L .inv .3) in
+    let from = L .at in
+    let to = c .before .before .before .carried .given .0 .1 .0 .at in
     ⊎-elim
     (λ l.
     let u = l .1 .given .0 .0 in
     let z = l .1 .given .0 .1 .0 in
     let same = value-same text (L .at) (a .current-year) k (rw (l .1 .given .1) at gave) in (
-      Value u z ∷ L .inv .0,
-      rw (l .4, l .5, l .3 .ensures, toZ-ofZ w64 z (search needs)) (holds-value (L .inv .1) u z),
+      record { carried = Value u z; start = from; end = to } ∷ L .inv .0,
+      rw (l .4, l .5, l .6, l .7, l .3 .ensures, toZ-ofZ w64 z (search needs)) (holds-value (L .inv .1) from to u z),
       rw (l .1 .given .1) at (sym (moved (rw same (same-either (a .choices .strict)))) ∙ L .inv .2),
       inside,
       omega (arith, n .some),
@@ -183,15 +197,15 @@ loop-again c =
     (λ r. ⊎-elim
     (λ t.
     let seen = rw (step-here n (m .step-of .ensures)) at (t .3 .ensures) in (
-      Nothing ∷ L .inv .0,
-      rw (t .6, t .7) (holds-nothing (L .inv .1)),
+      record { carried = Nothing; start = from; end = to } ∷ L .inv .0,
+      rw (t .6, t .7, t .8, t .9) (holds-nothing (L .inv .1) from to),
       rw (t .1 .given .1) at (sym (moved (rw (t .2 .taken) (sym seen ∙ t .5 .given .1))) ∙ L .inv .2),
       inside,
       omega (arith, n .some),
     ))
     (λ e. (
-      Nothing ∷ L .inv .0,
-      rw (e .3, e .4) (holds-nothing (L .inv .1)),
+      record { carried = Nothing; start = from; end = to } ∷ L .inv .0,
+      rw (e .3, e .4, e .5, e .6) (holds-nothing (L .inv .1) from to),
       rw (e .1 .given .1) at (sym (moved (rw (e .2 .left))) ∙ L .inv .2),
       inside,
       omega (arith, n .some),
@@ -207,21 +221,16 @@ returns-3 c =
     let m = c .before .before .before in
     let a = m .before .before .before .before .args in
     let L = m .before .loop in
-    let p = now (a .pattern) in
-    let text = now (a .text) in
-    let ends = walk-left (a .choices) (a .current-year) (L .i) text (L .inv .0) (L .at) (L .place) p (m .loop-test .left) in
-    let left = ltb-true (L .at) (length text) (c .before .if3 .taken) in
-    rw (← rw (ends (c .before .before .if2 .taken) left) at (L .inv .2)) (c .no-reading .ensures)
+    let ends = walk-left (a .choices) (a .current-year) (L .i) (now (a .text)) (L .inv .0) (L .at) (L .place) (now (a .pattern)) (m .loop-test .left) in
+    rw (← rw (ends (c .before .before .if2 .taken) (ltb-true (L .at) (length (now (a .text))) (c .before .if3 .taken))) at (L .inv .2)) (c .no-reading .ensures)
 
 returns-4 : tie.Need-returns-4 Inv-loop μ-loop
 returns-4 c =
     let m = c .before in
     let a = m .before .before .before .before .args in
     let L = m .before .loop in
-    let p = now (a .pattern) in
-    let text = now (a .text) in
-    let ends = walk-done (a .choices) (a .current-year) (L .i) text (L .inv .0) (L .at) (L .place) p (m .loop-test .left) in
-    let none-left = ⊎-elim (λ t. inr (ltb-false (L .at) (length text) (t .1 .left))) (λ e. inl (e .left)) (c .if2 .came) in
+    let ends = walk-done (a .choices) (a .current-year) (L .i) (now (a .text)) (L .inv .0) (L .at) (L .place) (now (a .pattern)) (m .loop-test .left) in
+    let none-left = ⊎-elim (λ t. inr (ltb-false (L .at) (length (now (a .text))) (t .1 .left))) (λ e. inl (e .left)) (c .if2 .came) in
     rw (← rw (ends none-left) at (L .inv .2)) (holds-reading (L .inv .1) (L .at))
 
 pub parse-parts-spec : {M : Type 1} → statement M
@@ -242,6 +251,12 @@ parse-parts-spec =
     unit-number-requires
     mul-values
     array-set-from-values
+    cast-starts
+    mul-starts
+    array-write-starts
+    cast-ends
+    mul-ends
+    array-write-ends
     cast-mask
     shl-mask
     enum-told

@@ -1,9 +1,8 @@
 -- Each kind of answer has its own way to be given.
 use mathlib.Core.Path.{_≡_}
-use native.Mathlib.Omega.{arith}
 use borrow.Author.Needs.{needs}
 use lib.ListN.{length}
-use Rattle.sheet.proofs.Rooms.{full}
+use Rattle.sheet.proofs.Rooms.{full, row-long}
 use Rattle.sheet.proofs.readings.give_reading.Statement.{statement}
 use Rattle.sheet.proofs.readings.give_reading.Tie as tie
 
@@ -24,9 +23,12 @@ same-length c = search needs
 
 returns : tie.Need-returns
 returns c =
-    let values = c .before .before .before .before .before .args .reading .values in
-    let long : length values ≡ 15 = search needs in
-    rw (c .before .before .before .enum-told .given .1) (full 18 (omega arith) (c .before .give-values .ensures))
+    let s = c .before .before .before .before .before in
+    let r = s .args .reading in
+    let values : length (r .values) ≡ 15 = search (needs, s .good .0) in
+    let starts : length (r .starts) ≡ 15 = search (needs, s .good .0) in
+    let ends : length (r .ends) ≡ 15 = search (needs, s .good .0) in
+    rw (c .before .before .before .enum-told .given .1) (full 48 (row-long r values starts ends) (c .before .give-values .ensures))
 
 same-length-2 : tie.Need-same-length-2
 same-length-2 c = search needs

@@ -1,4 +1,5 @@
--- How many bytes a reader takes where it goes on, whatever they give: by this a failing part is told from its own text.
+-- How many bytes a reader takes where it goes on, whatever they give. By this a failing part is told from its own text, and a text may be
+-- cut behind what was taken.
 use mathlib.Core.Bool.{Bool, true, false}
 use mathlib.Core.List.{List, _++_}
 use mathlib.Core.Option.{Option, none, some}
@@ -11,10 +12,13 @@ use lib.Seq.{drop-append-seam}
 use borrow.Author.Tests.{ltb-true, ltb-false}
 use Rattle.meaning.specs.Bytes.{digitAt}
 use Rattle.meaning.specs.Numerals.{Signed, plusFirst, numberOf}
-use Rattle.meaning.specs.Readers.{Got, got, stopped, Reader, behind, goOn, _>>=_, done, skip, firstDiffering, sameBy, same, takenNumber, takeNumber, reach}
+use Rattle.meaning.specs.Readers.{Got, got, stopped, Reader, behind, goOn, _>>=_, done, skip, firstDiffering, sameBy, same, takenNumber, takeNumber, takeCount, takeYear, reach}
+use Rattle.meaning.specs.Reading.{colonLength, passed, takenYear, takeGroup, takenUnit}
 use Rattle.meaning.specs.declared.Numeral.{Numeral}
+use Rattle.meaning.specs.declared.Numeral.the-variants.{Count, Year}
+use Rattle.meaning.specs.declared.ParseUnit.{ParseUnit}
 use Rattle.laws.proofs.Readers.{reach-on, reach-ends}
 use Rattle.laws.proofs.Tests.{by-test, when-is}
 
 abbrev pub Takes : {A : Type 0} → ℕ → Got A → Type 0
 Takes k (got n a) = n ≡ k
@@ -72,6 +76,27 @@ pub takes-done : {A B : Type 0} (k : ℕ) (first : Reader A) (g : A → B) (s : 
 takes-done k first g s h =
     let e : k + 0 ≡ k = omega arith in
     rw e at (takes-both k 0 first (λ a. done (g a)) s h (λ n a _. refl))
+
+-- numbers, years and bytes that are passed, of k bytes; a group of a zone
+
+pub takes-count : (k : ℕ) (s : List ℕ) → Takes k (takeCount k s)
+takes-count k s = takes-done k (takeNumber Count k) _ s (takes-number Count k s)
+
+pub takes-unit : (u : ParseUnit) (z k : ℕ) (s : List ℕ) → Takes k (takenUnit u z k s)
+takes-unit u z k s = takes-done k (takeCount k) _ s (takes-count k s)
+
+pub takes-year : (k : ℕ) (s : List ℕ) → Takes k (takeYear k s)
+takes-year k s = takes-done k (takeNumber Year k) _ s (takes-number Year k s)
+
+pub takes-full-year : (k : ℕ) (s : List ℕ) → Takes k (takenYear k s)
+takes-full-year k s = takes-done k (takeYear k) _ s (takes-year k s)
+
+pub takes-passed : (k : ℕ) (s : List ℕ) → Takes k (passed k s)
+takes-passed k s = takes-done k (skip k) _ s (takes-skip k s)
+
+pub takes-group : (colon : Bool) (s : List ℕ) → Takes (colonLength colon + 2) (takeGroup colon s)
+takes-group colon s =
+    takes-both (colonLength colon) 2 (skip (colonLength colon)) (λ _. takeCount 2) s (takes-skip (colonLength colon) s) (λ n a _. takes-count 2 (drop n s))
 
 -- how far a greedy number goes
 
