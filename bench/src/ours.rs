@@ -3,7 +3,9 @@
 use crate::contender::Contender;
 use crate::records::{Record, CURRENT_YEAR, RECORDS};
 use harness::Fields;
-use sheet::raw::{sheet_check, sheet_read, sheet_write, CHECK_ANSWER, READ_ANSWER, READ_VALUES, WRITE_ANSWER};
+use sheet::raw::{
+    sheet_check, sheet_read, sheet_write, CHECK_ANSWER, READ_ANSWER, READ_STARTS, READ_VALUES, WRITE_ANSWER,
+};
 use std::hint::black_box;
 
 /// Always enough: 8 bytes for each of the longest pattern.
@@ -56,7 +58,9 @@ pub fn read(pattern: &[u8], text: &[u8]) -> Result<Reading, u32> {
     accepted(number, || Reading {
         taken: answer[0] as usize,
         mask: answer[1] as u16,
-        values: answer[READ_VALUES..].try_into().expect("as many values as units"),
+        values: answer[READ_VALUES..READ_STARTS]
+            .try_into()
+            .expect("as many values as units"),
     })
 }
 
