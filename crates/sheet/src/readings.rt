@@ -14,6 +14,7 @@ use crate::entries::lay;
 use crate::entries::lay_places;
 use meaning::Checked;
 use meaning::Choices;
+use meaning::Edition;
 use meaning::Pair;
 use meaning::ParseUnit;
 use meaning::Reading;
@@ -58,6 +59,11 @@ pub fn choices_of(number: u32) -> Choices
             Pair::Full
         },
         strict: number / 2 % 2 == 1,
+        edition: if number / 4 % 2 == 1 {
+            Edition::Second
+        } else {
+            Edition::First
+        },
     }
 }
 

@@ -9,17 +9,17 @@ use Rattle.trust.specs.Check.{verdictOf}
 use Rattle.sheet.proofs.Fits.{verdict-fits}
 use Rattle.sheet.proofs.Rooms.{room, no-room}
 use borrow.Author.Needs.{needs}
-use Rattle.sheet.proofs.sheet_check.Statement.{statement}
-use Rattle.sheet.proofs.sheet_check.Tie as tie
+use Rattle.sheet.proofs.check.Statement.{statement}
+use Rattle.sheet.proofs.check.Tie as tie
 
 returns : tie.Need-returns
 returns c =
     let a = c .before .before .args in
     let p = now (a .pattern) in
     record {
-      verdict = verdictOf p (a .year);
-      says = verdict-says p (a .year);
-      given = no-room 10 (now (a .answer)) (verdictAnswer (verdictOf p (a .year))) (omega arith);
+      verdict = verdictOf (a .edition) p (a .year);
+      says = verdict-says (a .edition) p (a .year);
+      given = no-room 10 (now (a .row)) (verdictAnswer (verdictOf (a .edition) p (a .year))) (omega arith);
     }
 
 verdict-on-requires : tie.Need-verdict-on-requires
@@ -30,7 +30,7 @@ give-verdict-requires c κs =
     let s = c .before .before .before .before in
     let v = c .before .verdict-on in
     let says = rw (toZ-ofZ w32 (s .args .year) (s .fits .year)) at (v .ensures) in
-    (search needs, verdict-fits (now (s .args .pattern)) (s .args .year) (v .result) (omega (arith, s .good .0 .1)) (s .fits .year) says)
+    (search needs, verdict-fits (s .args .edition) (now (s .args .pattern)) (s .args .year) (v .result) (omega (arith, s .good .0 .1)) (s .fits .year) says)
 
 same-length : tie.Need-same-length
 same-length c = search needs
@@ -42,9 +42,9 @@ returns-2 c =
     record {
       verdict = v .result;
       says = rw (toZ-ofZ w32 (s .args .year) (s .fits .year)) at (v .ensures);
-      given = room 10 (now (s .args .answer)) (verdictAnswer (v .result)) (omega (arith, c .before .before .before .before .if1 .left)) (c .before .give-verdict .ensures);
+      given = room 10 (now (s .args .row)) (verdictAnswer (v .result)) (omega (arith, c .before .before .before .before .if1 .left)) (c .before .give-verdict .ensures);
     }
 
-pub sheet-check-spec : {M : Type 1} → statement M
-sheet-check-spec =
+pub check-spec : {M : Type 1} → statement M
+check-spec =
     tie.close (tie.spec returns verdict-on-requires give-verdict-requires same-length returns-2)
