@@ -19,7 +19,7 @@ use Rattle.meaning.specs.declared.Fields.{Fields}
 use Rattle.meaning.specs.declared.Pair.{Pair}
 use Rattle.meaning.specs.declared.Verdict.{Verdict}
 use Rattle.meaning.specs.declared.Verdict.the-variants.{Yes, No, Refused}
-use Rattle.sheet.specs.Rows.{inRow, Given, choicesOf, ofCheck}
+use Rattle.sheet.specs.Rows.{inRow, Given, editionOf, ofCheck}
 use Rattle.sheet.specs.Sheet.{has, ifRoom, ifChoices, verdictIn, SheetWrites, SheetReads, SheetReadsWith, SheetTellsRead, SheetParsesOffset, SheetSplits, SheetUnits, SheetChecks, SheetChecksWith}
 use Rattle.trust.proofs.Agreement.{SameButRecord, answers-coincide}
 
@@ -128,5 +128,5 @@ checks-with-coincide n p current row {r} {r′} {rowAfter} {rowAfter′} a b = g
         → Given (ifChoices stands (verdictIn row (b .verdict))) row rowAfter′ r′ → SameCheck r r′ rowAfter rowAfter′
     go true x y =
         checks-by (has 10 row) (a .verdict) (b .verdict) (leb-true 10 (length row))
-        (answers-coincide (choicesOf n .edition) english p current (a .verdict) (b .verdict) (a .says) (b .says)) x y
+        (answers-coincide (editionOf n) english p current (a .verdict) (b .verdict) (a .says) (b .says)) x y
     go false x y = same-check (given-coincide x y)

@@ -17,7 +17,7 @@ use Rattle.meaning.specs.declared.Edition.{Edition}
 use Rattle.meaning.specs.declared.Fields.{Fields}
 use Rattle.meaning.specs.declared.Pair.{Pair}
 use Rattle.meaning.specs.declared.Verdict.{Verdict}
-use Rattle.sheet.specs.Rows.{inRow, Given, laid, choicesOf, ofReading, ofCheck, isMarked, splitNumbers, unitEntries}
+use Rattle.sheet.specs.Rows.{inRow, Given, laid, editionOf, choicesOf, ofReading, ofCheck, isMarked, splitNumbers, unitEntries}
 
 -- whether a row has so many entries
 abbrev pub has : {A : Type 0} → ℕ → List A → Bool
@@ -81,4 +81,4 @@ SheetChecks edition p current row = Checks edition p current (verdictIn row) row
 -- with choices by their number, where it is one of a check
 abbrev pub SheetChecksWith : ℕ → List ℕ → ℤ → List ℤ → ℕ → List ℤ → Type 0
 SheetChecksWith n p current row =
-    Checks (choicesOf n .edition) p current (λ verdict. ifChoices (ofCheck n) (verdictIn row verdict)) row
+    Checks (editionOf n) p current (λ verdict. ifChoices (ofCheck n) (verdictIn row verdict)) row

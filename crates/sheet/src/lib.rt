@@ -12,6 +12,7 @@ ghost use Rattle.sheet.specs.Sheet.{SheetWrites, SheetReads, SheetReadsW
 use crate::answers::give_offset;
 use crate::answers::give_wrote;
 use crate::readings::choices_of;
+use crate::readings::edition_of;
 use crate::readings::give_reading;
 use crate::readings::is_marked;
 use crate::splits::give_split;
@@ -213,5 +214,5 @@ pub extern "C" fn sheet_check_with(
     if 7 < choices || choices % 2 == 1 {
         return 101;
     }
-    check(choices_of(choices).edition, pattern, year, answer)
+    check(edition_of(choices), pattern, year, answer)
 }

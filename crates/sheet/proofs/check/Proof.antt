@@ -30,7 +30,7 @@ give-verdict-requires c κs =
     let s = c .before .before .before .before in
     let v = c .before .verdict-on in
     let says = rw (toZ-ofZ w32 (s .args .year) (s .fits .year)) at (v .ensures) in
-    (search needs, verdict-fits (s .args .edition) (now (s .args .pattern)) (s .args .year) (v .result) (omega (arith, s .good .0 .1)) (s .fits .year) says)
+    (search needs, verdict-fits (s .args .edition) (now (s .args .pattern)) (s .args .year) (v .result) (omega (arith, s .good .1 .0 .1)) (s .fits .year) says)
 
 same-length : tie.Need-same-length
 same-length c = search needs
