@@ -6,10 +6,10 @@ use Prim.Native.Char.{Char, code}
 use Prim.Native.Nat.{ℕ, zero, suc, _+_, _-_, _%_, _^_, _≤_, _<_}
 use native.Mathlib.Nat.{add-zero, lt-of-lt-of-le, pow-le-pow-right}
 use native.Mathlib.Omega.{arith}
-use lib.Dec.{eqb, leb, ltb}
+use lib.Dec.{leb, ltb}
 use lib.IntN.{pos}
 use lib.ListN.{length, length-append}
-use borrow.Author.Tests.{eq-eqb, ne-eqb, eqb-true, leb-true, ltb-false}
+use borrow.Author.Tests.{eq-eqb, ne-eqb, leb-true, ltb-false}
 use Rattle.meaning.specs.Bytes.{when, digitAt, num}
 use Rattle.meaning.specs.Names.{english, names}
 use Rattle.meaning.specs.Readers.{got, reach}
