@@ -165,13 +165,15 @@ impl Iterator for CheckGenerator {
     type Item = CheckRequest;
 
     fn next(&mut self) -> Option<CheckRequest> {
-        let edition = self.editions[self.made % self.editions.len()];
-        let is_next = self.made % self.editions.len() == 0;
-        let number = self.made / self.editions.len();
+        let (number, place) = (
+            self.made / self.editions.len(),
+            self.made % self.editions.len(),
+        );
         self.made += 1;
+        let edition = self.editions[place];
         let (round, turn) = (number / EVERY, number % EVERY);
         let listed = (turn < EVERY - 1).then_some(round * (EVERY - 1) + turn);
-        if is_next {
+        if place == 0 {
             self.pattern = match listed {
                 Some(step) => self.listed(step),
                 None => random_pattern(round, &mut self.random),
