@@ -1,3 +1,4 @@
+pub mod Calendar
 pub mod Minus
 pub mod Names
 pub mod Pluses
@@ -6,3 +7,4 @@ pub mod Spans
 pub mod Strict
 pub mod Tables
 pub mod Units
+pub mod Weeks
