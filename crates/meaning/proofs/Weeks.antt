@@ -1,6 +1,6 @@
 -- Weeks that anyone can look up, each with its Thursday's year and how many days of it were before the first Thursday.
 use mathlib.Core.Path.{_≡_, refl}
-use Prim.Native.Nat.{ℕ, suc, _+_, _*_, _<_}
+use Prim.Native.Nat.{ℕ, _+_, _*_, _<_}
 use native.Mathlib.Omega.{arith}
 use lib.IntN.{ℤ, pos, negsuc, natAbs, _+ℤ_}
 use Rattle.meaning.specs.Calendar.{leap, leapYear, yearLength, daysOn, daysBack, newYear, dateNumber}

@@ -2,7 +2,7 @@
 use mathlib.Core.Path.{_≡_}
 use Prim.Native.Nat.{ℕ, _+_, _*_, _-_, _%_, _<_}
 use lib.IntN.{ℤ, pos, negsuc, _+ℤ_, _-ℤ_}
-use Rattle.meaning.specs.Calendar.{leap, leapYear, yearLength, newYear}
+use Rattle.meaning.specs.Calendar.{leapYear, yearLength, newYear}
 
 -- the days since the last Monday
 unfoldable pub sinceMonday : ℤ → ℕ
