@@ -1,7 +1,7 @@
 -- The days before a year, in closed form.
-use mathlib.Core.Bool.{Bool, true}
+use mathlib.Core.Bool.{Bool, true, false}
 use mathlib.Core.Path.{_≡_, refl, ap, _∙_}
-use Prim.Native.Nat.{ℕ, zero, suc, _+_, _*_, _/_, _%_}
+use Prim.Native.Nat.{ℕ, zero, suc, _+_, _*_, _/_, _%_, _≤_}
 use native.Mathlib.Omega.{arith}
 use borrow.Author.Tests.{eqb-true, eqb-false, eq-eqb}
 use Rattle.meaning.specs.Calendar.{divides, leap, yearLength, daysOn, daysBack}
@@ -11,6 +11,14 @@ use Rattle.laws.proofs.Tests.{by-test}
 -- one for a true test
 abbrev pub one : Bool → ℕ
 one t = when t 1 0
+
+pub year-short : (l : Bool) → yearLength l ≤ 366
+year-short true = omega arith
+year-short false = omega arith
+
+pub year-long : (l : Bool) → 365 ≤ yearLength l
+year-long true = omega arith
+year-long false = omega arith
 
 -- what divides by 400 divides by 100, and so by 4
 by-hundred : (n : ℕ) → divides 400 n ≡ true → divides 100 n ≡ true

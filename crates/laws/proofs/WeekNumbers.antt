@@ -13,17 +13,9 @@ use Rattle.meaning.specs.Weeks.{weekday, IsWeek}
 use Rattle.laws.proofs.CalendarCycles.{year-after}
 use Rattle.laws.proofs.CalendarDates.{one-place}
 use Rattle.laws.proofs.CalendarLine.{OnLine, in-year, leap-place, line-dayAt, line-next, thursday-at, line-room, since-monday, sub-add, sub-neg, sub-short}
-use Rattle.laws.proofs.CalendarYears.{days-on, days-back}
+use Rattle.laws.proofs.CalendarYears.{year-short, year-long, days-on, days-back}
 use Rattle.laws.proofs.Tests.{by-test}
 use Rattle.laws.specs.CalendarLine.{Short, line, dayAt, place, WeekOn}
-
-pub year-short : (l : Bool) → yearLength l ≤ 366
-year-short true = omega arith
-year-short false = omega arith
-
-year-long : (l : Bool) → 365 ≤ yearLength l
-year-long true = omega arith
-year-long false = omega arith
 
 pub week-range : (z : ℤ) (w : ℕ) → IsWeek z w → (1 ≤ w) × (w ≤ 53)
 week-range z w i =
@@ -61,8 +53,8 @@ near-place : (y : ℤ) → OnLine y → place y < 11760000
 near-place (pos n) h = omega (arith, h .near)
 near-place (negsuc n) h = omega arith
 
--- a week on the line
-week-on : (z : ℤ) (w : ℕ) → Short z → IsWeek z w → WeekOn (line z) w
+-- a week by its Thursday on the line
+week-on : (z : ℤ) (w : ℕ) → Short z → IsWeek z w → WeekOn (line z - line z % 7 + 3) w
 week-on z w short i =
     let n = line z - line z % 7 + 3 in
     let past = i .first + 7 * i .later in
@@ -83,13 +75,13 @@ week-on z w short i =
       count = omega (arith, i .early, i .count);
     }
 
-same-on : (n m w v : ℕ) → n - n % 7 ≡ m - m % 7 → WeekOn n w → WeekOn m v → w ≡ v
-same-on n m w v e a b =
-    let s = one-place (a .at) (b .at) (a .past) (b .past) (a .found .inside) (b .found .inside) (omega (arith, a .found .here, b .found .here)) in
+same-on : (t w v : ℕ) → WeekOn t w → WeekOn t v → w ≡ v
+same-on t w v a b =
+    let s = one-place (a .at) (b .at) (a .past) (b .past) (a .found .inside) (b .found .inside) (a .found .here ∙ sym (b .found .here)) in
     a .count ∙ ap (λ (k : ℕ). k / 7 + 1) (s .since) ∙ sym (b .count)
 
 pub one-week : (z : ℤ) (w v : ℕ) → Short z → IsWeek z w → IsWeek z v → w ≡ v
-one-week z w v short a b = same-on (line z) (line z) w v refl (week-on z w short a) (week-on z v short b)
+one-week z w v short a b = same-on (line z - line z % 7 + 3) w v (week-on z w short a) (week-on z v short b)
 
 -- the week of the next day
 
@@ -105,11 +97,11 @@ pub same-week : (z : ℤ) (w v : ℕ) → Short z → Short (z +ℤ pos 1) → I
 same-week z w v short next a b h =
     let e = line-next z short in
     let k : suc (line z) % 7 ≡ 0 → ⊥ = λ f. no-monday (z +ℤ pos 1) next h (ap (λ (n : ℕ). n % 7) e ∙ f) in
-    let d : suc (line z) - suc (line z) % 7 ≡ line z - line z % 7 = omega arith in
-    same-on (suc (line z)) (line z) v w d (rw e at (week-on (z +ℤ pos 1) v next b)) (week-on z w short a)
+    let d : suc (line z) - suc (line z) % 7 + 3 ≡ line z - line z % 7 + 3 = omega arith in
+    same-on (line z - line z % 7 + 3) v w (rw (e, d) at (week-on (z +ℤ pos 1) v next b)) (week-on z w short a)
 
-next-on : (n w v : ℕ) → suc n % 7 ≡ 0 → WeekOn n w → WeekOn (suc n) v → (v ≡ w + 1) ⊎ ((v ≡ 1) × (52 ≤ w))
-next-on n w v m a b =
+next-on : (t w v : ℕ) → WeekOn t w → WeekOn (t + 7) v → (v ≡ w + 1) ⊎ ((v ≡ 1) × (52 ≤ w))
+next-on t w v a b =
     let p = a .at in
     let l = yearLength (leap (suc p)) in
     let long = year-long (leap (suc p)) in
@@ -128,4 +120,5 @@ pub next-week : (z : ℤ) (w v : ℕ) → Short z → Short (z +ℤ pos 1) → I
 next-week z w v short next a b h =
     let e = line-next z short in
     let k : suc (line z) % 7 ≡ 0 = sym (ap (λ (n : ℕ). n % 7) e) ∙ is-monday (z +ℤ pos 1) next h in
-    next-on (line z) w v k (week-on z w short a) (rw e at (week-on (z +ℤ pos 1) v next b))
+    let d : suc (line z) - suc (line z) % 7 + 3 ≡ line z - line z % 7 + 3 + 7 = omega arith in
+    next-on (line z - line z % 7 + 3) w v (week-on z w short a) (rw (e, d) at (week-on (z +ℤ pos 1) v next b))

@@ -3,7 +3,7 @@
 -- years of that line stand before it. Both are whole weeks and whole cycles, so weekdays and leap years stay as they are.
 use mathlib.Core.Bool.{Bool}
 use mathlib.Core.Path.{_≡_}
-use Prim.Native.Nat.{ℕ, suc, _+_, _-_, _/_, _%_, _^_, _≤_, _<_}
+use Prim.Native.Nat.{ℕ, suc, _+_, _-_, _/_, _^_, _≤_, _<_}
 use lib.Dec.{leb}
 use lib.IntN.{ℤ, pos, negsuc, subℕ}
 use lib.Signed.{mag}
@@ -44,9 +44,9 @@ pub record InMonth (l : Bool) (past month day : ℕ) : Type 0 where
   pub fits : day ≤ monthLength l month
   pub here : beforeMonth l month + day ≡ past + 1
 
--- the Thursday of day n's week, its year, and how many Thursdays of that year there are to it
-pub record WeekOn (n week : ℕ) : Type 0 where
+-- the week of a Thursday: its year, and how many Thursdays of that year there are to it
+pub record WeekOn (thursday week : ℕ) : Type 0 where
   pub at : ℕ
   pub past : ℕ
-  pub found : InYear 11760000 (n - n % 7 + 3) at past
+  pub found : InYear 11760000 thursday at past
   pub count : week ≡ past / 7 + 1

@@ -1,0 +1,4 @@
+// Request [2], the calendar: the day of a number, and the number of a day.
+pub mod cycle;
+pub mod months;
+pub mod table;
