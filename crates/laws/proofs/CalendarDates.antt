@@ -3,8 +3,6 @@ use mathlib.Core.Bool.{Bool, true}
 use mathlib.Core.Path.{_≡_, sym, ap, _∙_, subst}
 use Prim.Native.Nat.{ℕ, zero, suc, _+_, _-_, _≤_, _<_}
 use native.Mathlib.Omega.{arith}
-use borrow.Author.Tests.{leb-true}
-use lib.Dec.{leb}
 use lib.IntN.{ℤ, pos, natAbs, _+ℤ_}
 use Rattle.meaning.specs.Answers.{within}
 use Rattle.meaning.specs.Bytes.{both}
@@ -12,6 +10,7 @@ use Rattle.meaning.specs.Calendar.{leap, leapYear, yearLength, daysOn, newYear,
 use Rattle.laws.proofs.CalendarCycles.{year-after}
 use Rattle.laws.proofs.CalendarLine.{OnLine, in-year, leap-place, yearAt-place, line-dayAt}
 use Rattle.laws.proofs.CalendarMonths.{month-after, year-end}
+use Rattle.laws.proofs.Checks.{within-is}
 use Rattle.laws.proofs.Increasing.{one-step, never-falls}
 use Rattle.laws.proofs.Tests.{both-true}
 use Rattle.laws.specs.CalendarLine.{line, place, yearAt}
@@ -84,9 +83,8 @@ pub record RealDate (y : ℤ) (m d : ℕ) : Type 0 where
 pub date-year : (y : ℤ) (m d : ℕ) → isDate y m d ≡ true → (1 ≤ natAbs y) × (natAbs y ≤ 5879611)
 unfolding isDate
 date-year y m d t =
-    let a = both-true (within 1 5879611 (natAbs y)) (both (within 1 12 m) (within 1 (monthLength (leapYear y) m) d)) t in
-    let b = both-true (leb 1 (natAbs y)) (leb (natAbs y) 5879611) (a .0) in
-    (leb-true 1 (natAbs y) (b .0), leb-true (natAbs y) 5879611 (b .1))
+    within-is 1 5879611 (natAbs y)
+    (both-true (within 1 5879611 (natAbs y)) (both (within 1 12 m) (within 1 (monthLength (leapYear y) m) d)) t .0)
 
 pub is-date : (y : ℤ) (m d : ℕ) → isDate y m d ≡ true → RealDate y m d
 unfolding isDate
@@ -94,15 +92,15 @@ is-date y m d t =
     let l = monthLength (leapYear y) m in
     let a = both-true (within 1 5879611 (natAbs y)) (both (within 1 12 m) (within 1 l d)) t in
     let b = both-true (within 1 12 m) (within 1 l d) (a .1) in
-    let n = date-year y m d t in
-    let m₁ = both-true (leb 1 m) (leb m 12) (b .0) in
-    let d₁ = both-true (leb 1 d) (leb d l) (b .1) in
+    let year = within-is 1 5879611 (natAbs y) (a .0) in
+    let month = within-is 1 12 m (b .0) in
+    let day = within-is 1 l d (b .1) in
     record {
-      year = record { some = n .0; near = omega arith };
-      first = leb-true 1 m (m₁ .0);
-      last = leb-true m 12 (m₁ .1);
-      some = leb-true 1 d (d₁ .0);
-      fits = leb-true d l (d₁ .1);
+      year = record { some = year .0; near = omega arith };
+      first = month .0;
+      last = month .1;
+      some = day .0;
+      fits = day .1;
     }
 
 pub record SameDate (y y′ : ℤ) (m m′ d d′ : ℕ) : Type 0 where

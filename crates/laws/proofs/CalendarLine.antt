@@ -67,6 +67,10 @@ pub record OnLine (y : ℤ) : Type 0 where
   pub some : 1 ≤ natAbs y
   pub near : natAbs y ≤ 5880000
 
+pub near-place : (y : ℤ) → OnLine y → place y < 11760000
+near-place (pos n) h = omega (arith, h .near)
+near-place (negsuc n) h = omega arith
+
 pub place-yearAt : (p : ℕ) → place (yearAt p) ≡ p
 place-yearAt p =
     by-test (leb 5880000 p) (λ t. let h = leb-true 5880000 p t in rw t (omega arith))

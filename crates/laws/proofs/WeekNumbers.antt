@@ -1,6 +1,5 @@
 -- Weeks: they are 1 to 53, a day is in one alone, and the next day is in the same week but for a Monday, which is in the next one
 -- or in week 1.
-use mathlib.Core.Bool.{Bool, true, false}
 use mathlib.Core.Logic.{_⊎_, inl, inr}
 use mathlib.Core.Path.{_≡_, refl, sym, ap, _∙_}
 use Prim.Native.Nat.{ℕ, zero, suc, _+_, _-_, _*_, _/_, _%_, _≤_, _<_}
@@ -12,7 +11,7 @@ use Rattle.meaning.specs.Calendar.{leap, leapYear, yearLength, daysOn, daysBack
 use Rattle.meaning.specs.Weeks.{weekday, IsWeek}
 use Rattle.laws.proofs.CalendarCycles.{year-after}
 use Rattle.laws.proofs.CalendarDates.{one-place}
-use Rattle.laws.proofs.CalendarLine.{OnLine, in-year, leap-place, line-dayAt, line-next, thursday-at, line-room, since-monday, sub-add, sub-neg, sub-short}
+use Rattle.laws.proofs.CalendarLine.{OnLine, near-place, in-year, leap-place, line-dayAt, line-next, thursday-at, line-room, since-monday, sub-add, sub-neg, sub-short}
 use Rattle.laws.proofs.CalendarYears.{year-short, year-long, days-on, days-back}
 use Rattle.laws.proofs.Tests.{by-test}
 use Rattle.laws.specs.CalendarLine.{Short, line, dayAt, place, WeekOn}
@@ -48,10 +47,6 @@ near (pos (suc n)) past N s h k t e =
     record { some = omega arith; near = omega (arith, near-on (suc n) past N t e, days-on (suc n - 1)) }
 near (negsuc n) past N s h k t e =
     record { some = omega arith; near = far-back (daysBack (suc n)) (suc n) (days-back (suc n)) (near-back n past N h k e) }
-
-near-place : (y : ℤ) → OnLine y → place y < 11760000
-near-place (pos n) h = omega (arith, h .near)
-near-place (negsuc n) h = omega arith
 
 -- a week by its Thursday on the line
 week-on : (z : ℤ) (w : ℕ) → Short z → IsWeek z w → WeekOn (line z - line z % 7 + 3) w
