@@ -1,6 +1,6 @@
 -- The year of a day of the cycle is the guess, or the one before.
 use mathlib.Core.Path.{_≡_}
-use Prim.Native.Nat.{ℕ, zero, suc, _+_, _-_, _*_, _/_, _≤_, _<_}
+use Prim.Native.Nat.{ℕ, zero, suc, _-_, _/_, _≤_, _<_}
 use native.Mathlib.Omega.{arith}
 use Rattle.calendar.specs.Guesses.{Guess}
 use Rattle.laws.proofs.CalendarCycles.{cycles-on, days-bound, year-after}

@@ -1,59 +1,83 @@
+-- What is found on the line is the day.
+use mathlib.Core.Path.{_≡_, ap, _∙_}
+use Prim.Native.Nat.{suc, _≤_}
+use native.Mathlib.Numerals.{add-one}
+use native.Mathlib.Omega.{arith}
+use mir.Facts.{toZ-ofZ}
+use Rattle.calendar.proofs.Found.{near-places, day-found}
+use Rattle.calendar.proofs.line.Signed.{year-fits}
+use Rattle.laws.proofs.CalendarLine.{line-room}
+use Rattle.laws.proofs.CalendarYears.{year-short}
+use Rattle.laws.specs.CalendarLine.{line, InYear}
+use Rattle.meaning.specs.Calendar.{leap}
 use borrow.Author.Needs.{needs}
 use Rattle.calendar.proofs.day_of.Statement.{statement}
 use Rattle.calendar.proofs.day_of.Tie as tie
-use Rattle.calendar.proofs.day_of.Reads as reads
-use Rattle.calendar.proofs.day_of.Lts as lts
-use Rattle.calendar.proofs.cycle.is_leap.Reads as is-leap-reads
-use Rattle.calendar.proofs.line.on_line.Reads as on-line-reads
-use Rattle.calendar.proofs.line.since_monday.Reads as since-monday-reads
-use Rattle.calendar.proofs.line.year_at.Reads as year-at-reads
-use Rattle.calendar.proofs.line.year_on_line.Reads as year-on-line-reads
-use Rattle.calendar.proofs.months.month_of.Reads as month-of-reads
-use Rattle.calendar.proofs.weeks.week_of.Reads as week-of-reads
 
--- src/lib.rt:29:9
+module _ (c : tie.After-on-line) where
+  line-is : c .on-line .result ≡ line (c .before .args .number)
+  line-is = rw (toZ-ofZ (c .before .fits .number)) at (c .on-line .ensures)
+
+module _ (c : tie.After-year-on-line) where
+  found : InYear 11760000 (line (c .before .before .args .number)) (c .year-on-line .result .place) (c .year-on-line .result .past)
+  found = rw (line-is (c .before)) at (c .year-on-line .ensures)
+
+  near : (389 ≤ c .year-on-line .result .place) × (c .year-on-line .result .place ≤ 11759610)
+  near =
+      near-places (c .before .before .args .number) (c .year-on-line .result .place) (c .year-on-line .result .past)
+      (c .before .before .fits .number .sfits) found
+
+module _ (c : tie.After-is-leap) where
+  leap-is : c .is-leap .result ≡ leap (suc (c .before .before .year-on-line .result .place))
+  leap-is = c .is-leap .ensures ∙ ap leap (add-one (c .before .before .year-on-line .result .place))
+
 on-line-requires : tie.Need-on-line-requires
 on-line-requires c κs = search needs
 
--- src/lib.rt:30:9
 year-on-line-requires : tie.Need-year-on-line-requires
-year-on-line-requires c κs = ?
+year-on-line-requires c κs = omega (arith, line-is c, line-room (c .before .args .number) (c .before .fits .number .sfits))
 
--- src/lib.rt:31:24
 add-is-leap : tie.Need-add-is-leap
 add-is-leap c = search needs
 
--- src/lib.rt:31:9
 is-leap-requires : tie.Need-is-leap-requires
 is-leap-requires c κs = search needs
 
--- src/lib.rt:32:9
 month-of-requires : tie.Need-month-of-requires
-month-of-requires c κs = ?
+month-of-requires c κs = rw (leap-is c) (c .before .before .year-on-line .ensures .inside)
 
--- src/lib.rt:33:9
 since-monday-requires : tie.Need-since-monday-requires
 since-monday-requires c κs = search needs
 
--- src/lib.rt:35:15
 year-at-requires : tie.Need-year-at-requires
 year-at-requires c κs = search needs
 
--- src/lib.rt:38:14
 add-t7 : tie.Need-add-t7
-add-t7 c = ?
+add-t7 c =
+    let y = c .before .before .before .before .before .before .year-on-line in
+    omega (arith, y .ensures .inside, year-short (leap (suc (y .result .place))))
 
--- src/lib.rt:39:15
 week-of-requires : tie.Need-week-of-requires
-week-of-requires c κs = ?
+week-of-requires c κs =
+    let y = c .before .before .before .before .before .before in
+    let l = leap-is (c .before .before .before .before) in
+    (omega (arith, near y), omega (arith, near y), l, rw l (y .year-on-line .ensures .inside), omega (arith, c .before .before .since-monday .ensures))
 
--- src/lib.rt:40:16
 add-t10 : tie.Need-add-t10
 add-t10 c = search needs
 
--- src/lib.rt:26:1
 returns : tie.Need-returns
-returns c = ?
+returns c =
+    let start = c .before .before .before .before .before .before .before .before .before in
+    let z = start .args .number in
+    let y = c .before .before .before .before .before .before .before in
+    let r = y .year-on-line .result in
+    let m = c .before .before .before .before .month-of in
+    let n = line-is (y .before) in
+    let s = c .before .before .before .since-monday .ensures in
+    rw (c .before .before .year-at .ensures, toZ-ofZ (year-fits (r .place) (y .year-on-line .ensures .known)), s, n)
+    (day-found z (start .fits .number .sfits) (r .place) (r .past) (m .result .month) (m .result .day) (c .week-of .result) (found y)
+    (rw (leap-is (c .before .before .before .before .before)) at (m .ensures)) (rw (s, n) at (c .week-of .ensures)))
 
 pub day-of-spec : {M : Type 1} → statement M
 day-of-spec =

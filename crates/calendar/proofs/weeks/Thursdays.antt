@@ -1,10 +1,9 @@
 -- Where the Thursday of a week is, by the days of the year before it.
-use mathlib.Core.Bool.{Bool}
-use mathlib.Core.Path.{_≡_, refl, ap, _∙_}
+use mathlib.Core.Path.{refl}
 use Prim.Native.Nat.{ℕ, zero, suc, _+_, _-_, _/_, _≤_, _<_}
 use native.Mathlib.Omega.{arith}
 use Rattle.laws.proofs.CalendarCycles.{year-after}
-use Rattle.laws.proofs.CalendarYears.{year-short, year-long}
+use Rattle.laws.proofs.CalendarYears.{year-long}
 use Rattle.laws.specs.CalendarLine.{WeekOn}
 use Rattle.meaning.specs.Calendar.{leap, yearLength, daysOn}
 

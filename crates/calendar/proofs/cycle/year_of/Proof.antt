@@ -1,5 +1,4 @@
 -- The year of the guess, or the one before.
-use native.Mathlib.Omega.{arith}
 use Rattle.calendar.proofs.cycle.Years.{Before, guess-stands, guess-late}
 use borrow.Author.Needs.{needs}
 use Rattle.calendar.proofs.cycle.year_of.Statement.{statement}

@@ -1,6 +1,5 @@
 -- Between the two limits the difference fits 32 signed bits.
-use mathlib.Core.Bool.{Bool}
-use mathlib.Core.Path.{_≡_, sym, ap}
+use mathlib.Core.Path.{_≡_}
 use native.Mathlib.Omega.{arith}
 use lib.IntN.{pos}
 use mir.Facts.{toZ-pos, toZ-ofZ, sfits-widen}

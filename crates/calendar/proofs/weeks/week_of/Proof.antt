@@ -1,5 +1,6 @@
 -- The Thursday is in the year before, in this one or in the next.
 use mathlib.Core.Path.{_≡_, ap, _∙_}
+use Prim.Native.Nat.{suc, _<_}
 use native.Mathlib.Omega.{arith}
 use Rattle.calendar.proofs.weeks.Thursdays.{here, next, before}
 use Rattle.laws.proofs.CalendarYears.{year-short, year-long}
@@ -46,10 +47,17 @@ add-result-3 : tie.Need-add-result-3
 add-result-3 c = search needs
 
 returns-2 : tie.Need-returns-2
-returns-2 c = ?
+returns-2 c =
+    let a = c .before .before .before .args in
+    let e : a .leap ≡ leap (suc (a .place)) = search needs in
+    here (a .place) (a .past) (a .since) (omega arith) (omega arith) (omega arith) (rw (c .before .year-length2 .ensures, e) at (c .if2 .taken))
 
 returns-3 : tie.Need-returns-3
-returns-3 c = ?
+returns-3 c =
+    let a = c .before .before .before .args in
+    let e : a .leap ≡ leap (suc (a .place)) = search needs in
+    let i : a .past < yearLength (a .leap) = search needs in
+    next (a .place) (a .past) (a .since) (omega arith) (omega arith) (rw e at i) (omega arith) (rw (c .before .year-length2 .ensures, e) at (c .if2 .left))
 
 pub week-of-spec : {M : Type 1} → statement M
 week-of-spec =
