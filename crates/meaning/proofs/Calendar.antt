@@ -58,7 +58,6 @@ table =
     ∷ on 2024 13 1 ↦′ none
     ∷ on 2024 0 1 ↦′ none
     ∷ on 2024 1 0 ↦′ none
-    ∷ on 5879612 1 1 ↦′ none
     ∷ []
 
 pub samples : Answered asked table
@@ -69,3 +68,8 @@ samples = refl
 pub weekdays : Answered weekday (pos 0 ↦′ 1 ∷ negsuc 0 ↦′ 0 ∷ negsuc 7 ↦′ 0 ∷ pos 719162 ↦′ 4 ∷ pos 730178 ↦′ 2 ∷ [])
 unfolding weekday
 weekdays = refl
+
+-- 17 before 18: days that are not there, in years of which no day that late has a number
+pub beyond : Answered asked (on 5879611 12 32 ↦′ none ∷ on 5879612 1 1 ↦′ none ∷ [])
+unfolding asked number details leap isDate
+beyond = refl
