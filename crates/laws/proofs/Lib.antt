@@ -1,6 +1,12 @@
 pub mod Ascii
+pub mod CalendarCycles
+pub mod CalendarDates
+pub mod CalendarLine
+pub mod CalendarMonths
+pub mod CalendarYears
 pub mod Carried
 pub mod Checks
+pub mod DayNumbers
 pub mod Determined
 pub mod Digits
 pub mod Editions
@@ -8,11 +14,13 @@ pub mod Elements
 pub mod Entries
 pub mod Fields
 pub mod Halves
+pub mod Increasing
 pub mod Laid
 pub mod Marks
 pub mod Minus
 pub mod Names
 pub mod Needed
+pub mod NextDays
 pub mod Numbers
 pub mod OwnReaders
 pub mod OwnText
@@ -29,6 +37,7 @@ pub mod Takes
 pub mod Tests
 pub mod Texts
 pub mod Told
+pub mod WeekNumbers
 pub mod Writes
 pub mod Years
 pub mod Zones

@@ -1,0 +1,22 @@
+-- A year of the cycle, so many cycles on.
+use mathlib.Core.Path.{_≡_, sym, ap, _∙_}
+use Prim.Native.Nat.{ℕ, suc, _+_, _*_, _/_, _%_, _<_}
+use native.Mathlib.Omega.{arith}
+use Rattle.laws.proofs.CalendarCycles.{cycles-on, leap-on}
+use Rattle.laws.specs.CalendarLine.{InYear}
+use Rattle.meaning.specs.Calendar.{daysOn}
+
+pub cycle-on : (n k past : ℕ) → n < 4295251800 → InYear 400 (n % 146097) k past → InYear 11760000 n (400 * (n / 146097) + k) past
+cycle-on n k past h i =
+    let c = n / 146097 in
+    let e : suc (400 * c + k) ≡ 400 * c + suc k = omega arith in
+    record {
+      known = omega (arith, i .known);
+      here = omega (arith, i .here, cycles-on c k);
+      inside = rw (e, leap-on c (suc k)) (i .inside);
+    }
+
+pub before-is : (p : ℕ) → 146097 * (p / 400) + daysOn (p % 400) ≡ daysOn p
+before-is p =
+    let e : 400 * (p / 400) + p % 400 ≡ p = omega arith in
+    sym (cycles-on (p / 400) (p % 400)) ∙ ap daysOn e
