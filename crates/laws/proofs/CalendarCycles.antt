@@ -69,10 +69,6 @@ leap-back j le =
 pub table-is : (k : ℕ) → k < 400 → 365 * k + k / 4 - k / 100 ≡ daysOn k
 table-is k h = let e : k / 400 ≡ 0 = omega arith in omega (arith, days-on k)
 
--- a year begins at most 97 days later than 365 days a year say
-pub days-bound : (k : ℕ) → k ≤ 400 → (365 * k ≤ daysOn k) × (daysOn k ≤ 365 * k + 97)
-days-bound k h = (omega (arith, days-on k), omega (arith, days-on k))
-
 pub year-after : (k : ℕ) → daysOn (suc k) ≡ daysOn k + yearLength (leap (suc k))
 unfolding daysOn
 year-after k = refl

@@ -1,6 +1,6 @@
 -- What is found on the line is the day.
-use mathlib.Core.Path.{_≡_, sym}
-use Prim.Native.Nat.{suc, _≤_, _<_}
+use mathlib.Core.Path.{_≡_}
+use Prim.Native.Nat.{_≤_, _<_}
 use native.Mathlib.Omega.{arith}
 use mir.Facts.{toZ-ofZ}
 use Rattle.calendar.proofs.Found.{near-places, day-found}

@@ -1,6 +1,6 @@
 -- The year of the guess, or the one after.
 use mathlib.Core.Path.{_≡_, refl, ap, _∙_}
-use Prim.Native.Nat.{suc, _+_, _*_, _/_, _<_}
+use Prim.Native.Nat.{suc, _+_, _*_, _/_}
 use native.Mathlib.Numerals.{add-one}
 use native.Mathlib.Omega.{arith}
 use Rattle.calendar.proofs.cycle.Years.{guess-begun, guess-stands, year-next}
