@@ -31,7 +31,7 @@ pub struct YearDay {
     pub past: u32,
 }
 
-// With 1461 days to four years the year found is the right one, or for some days of a century's end the one before.
+// With 1461 days to four years the year found is the right one or, for the first days of a later century's years, the one before.
 pub fn year_of(day: u32) -> YearDay
     requires { ⌜ day < 146097 ⌝ }
     ensures { λ r. ⌜ InYear 400 day (r .place) (r .past) × (r .leap ≡ calendar.leap (suc (r .place))) ⌝ }
