@@ -9,7 +9,6 @@ pub mod numbers;
 pub mod table;
 pub mod weeks;
 
-use crate::cycle::is_leap;
 use crate::line::on_line;
 use crate::line::since_monday;
 use crate::line::year_at;
@@ -28,15 +27,14 @@ pub fn day_of(number: i32) -> Day
 {
     let n = on_line(number);
     let found = year_on_line(n);
-    let leap = is_leap(found.place + 1);
-    let in_month = month_of(leap, found.past);
+    let in_month = month_of(found.leap, found.past);
     let since = since_monday(n);
     Day {
         year: year_at(found.place),
         month: in_month.month,
         day: in_month.day,
         doy: found.past + 1,
-        week: week_of(found.place, leap, found.past, since),
+        week: week_of(found.place, found.leap, found.past, since),
         wday: (since + 1) % 7,
     }
 }

@@ -1,8 +1,8 @@
 // Days and years on the line, on which nothing is negative: 14,700 cycles are added.
 ghost use mathlib.Core.Path.{_≡_};
-ghost use Prim.Native.Nat.{_%_, _<_};
+ghost use Prim.Native.Nat.{suc, _%_, _<_};
 ghost use Rattle.laws.specs.CalendarLine.{line, yearAt, InYear};
-ghost use Rattle.meaning.specs.Calendar.{daysOn};
+ghost use Rattle.meaning.specs.Calendar.{leap, daysOn};
 use crate::cycle::YearDay;
 use crate::cycle::year_of;
 use crate::table::days_before;
@@ -16,12 +16,13 @@ pub fn on_line(z: i32) -> u64
 
 pub fn year_on_line(n: u64) -> YearDay
     requires { ⌜ n < 4295251800 ⌝ }
-    ensures { λ r. ⌜ InYear 11760000 n (r .place) (r .past) ⌝ }
+    ensures { λ r. ⌜ InYear 11760000 n (r .place) (r .past) × (r .leap ≡ leap (suc (r .place))) ⌝ }
 {
     let found = year_of((n % 146097) as u32);
     let cycles = (n / 146097) as u32;
     YearDay {
         place: 400 * cycles + found.place,
+        leap: found.leap,
         past: found.past,
     }
 }

@@ -16,7 +16,7 @@ pub enum Place {
     At(u32),
 }
 
-// By the year's number as if it were a day's, which is not negative.
+// By the year's number as if it were a day's, which is not negative: 2147625900 for year 0, which is not there.
 pub fn place_of(year: i32) -> Place
     ensures { λ r. ⌜ r ≡ placeOf year ⌝ }
 {
@@ -36,7 +36,7 @@ pub fn place_of(year: i32) -> Place
     Place::At((n - 2141745901) as u32)
 }
 
-// 18.
+// 18: on the line the numbers of 32 signed bits are 142252 to 4295109547.
 fn short(n: u64) -> DayNumber
     ensures { λ r. ⌜ r ≡ shortAt n ⌝ }
 {

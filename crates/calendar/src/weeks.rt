@@ -4,12 +4,7 @@ ghost use Prim.Native.Nat.{suc, _+_, _-_, _≤_, _<_};
 ghost use Rattle.laws.specs.CalendarLine.{WeekOn};
 ghost use Rattle.meaning.specs.Calendar as calendar;
 use crate::cycle::is_leap;
-
-fn year_length(leap: bool) -> u32
-    ensures { λ r. ⌜ r ≡ calendar.yearLength leap ⌝ }
-{
-    if leap { 366 } else { 365 }
-}
+use crate::cycle::year_length;
 
 // The week of a day, by its year's place, the days of the year past, and the days since Monday: that of the Thursday, which is in
 // the same year, or in the one before, or within the first days of the next.

@@ -1,7 +1,7 @@
 -- The months of a year, by computed tables of the thirteen days at which one begins or the last one ends.
 use mathlib.Core.Bool.{Bool, true, false}
 use mathlib.Core.Path.{_≡_, refl}
-use Prim.Native.Nat.{ℕ, suc, _+_, _-_, _*_, _≤_, _<_}
+use Prim.Native.Nat.{ℕ, suc, _+_, _-_, _≤_, _<_}
 use native.Mathlib.Omega.{arith}
 use Rattle.meaning.specs.Calendar.{yearLength, total, monthLength, beforeMonth}
 use Rattle.laws.proofs.Tests.{tabulate, tables-agree}
@@ -14,19 +14,6 @@ pub month-after : (l : Bool) (m : ℕ) → m < 12 → beforeMonth l (suc (suc m)
 unfolding ends tabulate total beforeMonth monthLength
 month-after true m h = tables-agree (λ (m : ℕ). beforeMonth true (suc (suc m))) (ends true) 12 m refl h
 month-after false m h = tables-agree (λ (m : ℕ). beforeMonth false (suc (suc m))) (ends false) 12 m refl h
-
--- months of 31 days would begin at most 7 days later: how much too early or too late each is
-far : Bool → ℕ → ℕ
-far l m = (beforeMonth l (suc m) - 31 * m) + (31 * m - (beforeMonth l (suc m) + 7))
-
-not-far : (l : Bool) (m : ℕ) → m < 13 → far l m ≡ 0
-unfolding far tabulate total beforeMonth
-not-far true m h = tables-agree (far true) (λ (m : ℕ). 0) 13 m refl h
-not-far false m h = tables-agree (far false) (λ (m : ℕ). 0) 13 m refl h
-
-pub month-near : (l : Bool) (m : ℕ) → m < 13 → (beforeMonth l (suc m) ≤ 31 * m) × (31 * m ≤ beforeMonth l (suc m) + 7)
-unfolding far
-month-near l m h = let e = not-far l m h in (omega arith, omega arith)
 
 pub month-long : (l : Bool) (m : ℕ) → m < 12 → 28 ≤ monthLength l (suc m)
 unfolding tabulate monthLength

@@ -1,16 +1,12 @@
--- The days before a year, in closed form.
+-- The days of so many years, on from 1 January of year 1 and back from it, in closed form.
 use mathlib.Core.Bool.{Bool, true, false}
-use mathlib.Core.Path.{_≡_, refl, ap, _∙_}
+use mathlib.Core.Path.{_≡_, refl}
 use Prim.Native.Nat.{ℕ, zero, suc, _+_, _*_, _/_, _%_, _≤_}
 use native.Mathlib.Omega.{arith}
-use borrow.Author.Tests.{eqb-true, eqb-false, eq-eqb}
+use borrow.Author.Tests.{eqb-true, eq-eqb}
 use Rattle.meaning.specs.Calendar.{divides, leap, yearLength, daysOn, daysBack}
-use Rattle.meaning.specs.Bytes.{when}
+use Rattle.laws.proofs.Quotients.{one, next-div, next-up}
 use Rattle.laws.proofs.Tests.{by-test}
-
--- one for a true test
-abbrev pub one : Bool → ℕ
-one t = when t 1 0
 
 pub year-short : (l : Bool) → yearLength l ≤ 366
 year-short true = omega arith
@@ -36,37 +32,6 @@ length-is n =
     (λ e. by-test (divides 100 n) (λ f. rw (e, f, by-four n f))
     (λ f. by-test (divides 4 n) (λ g. rw (e, f, g)) (λ g. rw (e, f, g))))
 
--- the quotient of the next number
-next-4 : (a : ℕ) → (a + 4) / 4 ≡ (a + 3) / 4 + one (divides 4 a)
-next-4 a =
-    by-test (divides 4 a) (λ e. let h = eqb-true (a % 4) 0 e in rw e (omega arith))
-    (λ e. let h = eqb-false (a % 4) 0 e in rw e (omega arith))
-
-next-100 : (a : ℕ) → (a + 100) / 100 ≡ (a + 99) / 100 + one (divides 100 a)
-next-100 a =
-    by-test (divides 100 a) (λ e. let h = eqb-true (a % 100) 0 e in rw e (omega arith))
-    (λ e. let h = eqb-false (a % 100) 0 e in rw e (omega arith))
-
-next-400 : (a : ℕ) → (a + 400) / 400 ≡ (a + 399) / 400 + one (divides 400 a)
-next-400 a =
-    by-test (divides 400 a) (λ e. let h = eqb-true (a % 400) 0 e in rw e (omega arith))
-    (λ e. let h = eqb-false (a % 400) 0 e in rw e (omega arith))
-
-up-4 : (a : ℕ) → suc a / 4 ≡ a / 4 + one (divides 4 (suc a))
-up-4 a =
-    by-test (divides 4 (suc a)) (λ e. let h = eqb-true (suc a % 4) 0 e in rw e (omega arith))
-    (λ e. let h = eqb-false (suc a % 4) 0 e in rw e (omega arith))
-
-up-100 : (a : ℕ) → suc a / 100 ≡ a / 100 + one (divides 100 (suc a))
-up-100 a =
-    by-test (divides 100 (suc a)) (λ e. let h = eqb-true (suc a % 100) 0 e in rw e (omega arith))
-    (λ e. let h = eqb-false (suc a % 100) 0 e in rw e (omega arith))
-
-up-400 : (a : ℕ) → suc a / 400 ≡ a / 400 + one (divides 400 (suc a))
-up-400 a =
-    by-test (divides 400 (suc a)) (λ e. let h = eqb-true (suc a % 400) 0 e in rw e (omega arith))
-    (λ e. let h = eqb-false (suc a % 400) 0 e in rw e (omega arith))
-
 -- one year more, with the quotients as plain numbers, which `omega` would take apart
 more : (a d l q q′ h h′ c c′ x y z : ℕ) → d + h ≡ 365 * a + q + c → l + y ≡ 365 + x + z → q′ ≡ q + x → h′ ≡ h + y → c′ ≡ c + z → d + l + h′ ≡ 365 * suc a + q′ + c′
 more a d l q q′ h h′ c c′ x y z e f e₁ e₂ e₃ = omega arith
@@ -76,7 +41,7 @@ unfolding daysOn
 days-on zero = refl
 days-on (suc a) =
     more a (daysOn a) (yearLength (leap (suc a))) (a / 4) (suc a / 4) (a / 100) (suc a / 100) (a / 400) (suc a / 400) (one (divides 4 (suc a)))
-    (one (divides 100 (suc a))) (one (divides 400 (suc a))) (days-on a) (length-is (suc a)) (up-4 a) (up-100 a) (up-400 a)
+    (one (divides 100 (suc a))) (one (divides 400 (suc a))) (days-on a) (length-is (suc a)) (next-div 4 (omega arith) a) (next-div 100 (omega arith) a) (next-div 400 (omega arith) a)
 
 pub days-back : (a : ℕ) → daysBack a + (a + 99) / 100 ≡ 365 * a + (a + 3) / 4 + (a + 399) / 400
 unfolding daysBack
@@ -84,5 +49,4 @@ days-back zero = refl
 days-back (suc a) =
     more a (daysBack a) (yearLength (leap a)) ((a + 3) / 4) ((suc a + 3) / 4) ((a + 99) / 100) ((suc a + 99) / 100) ((a + 399) / 400)
     ((suc a + 399) / 400) (one (divides 4 a)) (one (divides 100 a)) (one (divides 400 a)) (days-back a) (length-is a)
-    (ap (λ (n : ℕ). n / 4) (omega arith) ∙ next-4 a) (ap (λ (n : ℕ). n / 100) (omega arith) ∙ next-100 a)
-    (ap (λ (n : ℕ). n / 400) (omega arith) ∙ next-400 a)
+    (next-up 4 (omega arith) 3 (omega arith) a) (next-up 100 (omega arith) 99 (omega arith) a) (next-up 400 (omega arith) 399 (omega arith) a)

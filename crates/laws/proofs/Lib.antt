@@ -26,6 +26,7 @@ pub mod OwnReaders
 pub mod OwnText
 pub mod Places
 pub mod Pluses
+pub mod Quotients
 pub mod Readers
 pub mod Seams
 pub mod Sizes

@@ -1,5 +1,5 @@
--- Days that anyone can look up: the numbers of dates, and what refuses one; weekdays of numbers. The first and the last day that
--- have a number, and the weeks, are in `laws`, in `DayNumbers` and `WeekNumbers`.
+-- Days that anyone can look up: the numbers of dates, what refuses one, and the weekdays of numbers. Weeks are in Weeks; the first and
+-- the last day that have a number are in `laws`, in `DayNumbers`.
 use mathlib.Core.List.{List, [], _∷_}
 use mathlib.Core.Path.{refl}
 use Prim.Native.Nat.{ℕ}

@@ -1,49 +1,82 @@
--- The month of a day of a year is the guess, or the next.
-use mathlib.Core.Bool.{Bool}
-use mathlib.Core.Path.{_≡_, ap}
-use Prim.Native.Nat.{ℕ, zero, suc, _+_, _-_, _/_, _≤_, _<_}
+-- The arithmetic of months, by a computed test of each month and of each day of both kinds of year.
+use mathlib.Core.Bool.{Bool, true, false}
+use mathlib.Core.Path.{_≡_, refl, subst}
+use Prim.Native.Nat.{ℕ, zero, suc, _+_, _-_, _*_, _/_, _≤_, _<_}
 use native.Mathlib.Omega.{arith}
-use borrow.Author.Tests.{ltb-true, ltb-false}
+use borrow.Author.Tests.{lt-ltb, le-ltb}
 use lib.Dec.{ltb}
-use Rattle.laws.proofs.CalendarMonths.{month-after, month-near, year-end}
-use Rattle.laws.proofs.CalendarYears.{year-short}
-use Rattle.laws.proofs.Tests.{by-test}
+use Rattle.calendar.specs.Months.{lost, Begun}
+use Rattle.laws.proofs.CalendarMonths.{month-after}
+use Rattle.laws.proofs.Tests.{tabulate, tables-agree}
 use Rattle.laws.specs.CalendarLine.{InMonth}
-use Rattle.meaning.specs.Calendar.{yearLength, beforeMonth, monthLength}
+use Rattle.meaning.specs.Bytes.{when}
+use Rattle.meaning.specs.Calendar.{yearLength, total, beforeMonth, monthLength}
 
-in-month : (l : Bool) (past m month day : ℕ) → month ≡ suc m → m < 12 → beforeMonth l (suc m) + day ≡ past + 1 → 1 ≤ day → past < beforeMonth l (suc (suc m)) → InMonth l past month day
-in-month l past m month day e h here some below =
-    rw e
-    (record { first = omega arith; last = omega arith; some = some; fits = omega (arith, month-after l m h); here = here })
+-- where months begin
 
-below-year : (l : Bool) (g past : ℕ) → past < yearLength l → g ≤ 12 → beforeMonth l (suc g) ≤ past → g < 12
-below-year l g past h top le =
-    by-test (ltb g 12) (λ e. ltb-true g 12 e)
-    (λ e. let d : g ≡ 12 = omega (arith, ltb-false g 12 e) in absurd (omega (arith, year-end l, ap (λ (m : ℕ). beforeMonth l (suc m)) d)))
+begins : Bool → ℕ → ℕ
+begins l m = when (ltb m 2) ((367 * m + 5) / 12) ((367 * m + 5) / 12 - lost l)
+
+begins-is : (l : Bool) (m : ℕ) → m < 13 → begins l m ≡ beforeMonth l (suc m)
+unfolding begins tabulate total beforeMonth
+begins-is true m h = tables-agree (begins true) (λ (m : ℕ). beforeMonth true (suc m)) 13 m refl h
+begins-is false m h = tables-agree (begins false) (λ (m : ℕ). beforeMonth false (suc m)) 13 m refl h
+
+pub early : (l : Bool) (m : ℕ) → m < 2 → (367 * m + 5) / 12 ≡ beforeMonth l (suc m)
+unfolding begins
+early l m h = rw (lt-ltb m 2 h) at (begins-is l m (omega arith))
+
+pub later : (l : Bool) (m : ℕ) → m < 13 → 2 ≤ m → (367 * m + 5) / 12 - lost l ≡ beforeMonth l (suc m)
+unfolding begins
+later l m h k = rw (le-ltb m 2 k) at (begins-is l m h)
+
+-- the month of a day
+
+over : Bool → ℕ → ℕ
+over l past = when (ltb past (61 - lost l)) ((12 * past + 6) / 367) ((12 * (past + lost l) + 6) / 367)
+
+-- by how much it is past December, begins too late or ends too early
+wrong : Bool → ℕ → ℕ
+wrong l past =
+    (over l past - 11) + (beforeMonth l (suc (over l past)) - past) + (suc past - beforeMonth l (suc (suc (over l past))))
+
+not-wrong : (l : Bool) (past : ℕ) → past < yearLength l → wrong l past ≡ 0
+unfolding over wrong tabulate total beforeMonth
+not-wrong true past h = tables-agree (wrong true) (λ (n : ℕ). 0) 366 past refl h
+not-wrong false past h = tables-agree (wrong false) (λ (n : ℕ). 0) 365 past refl h
+
+over-is : (l : Bool) (past : ℕ) → past < yearLength l → Begun l past (over l past)
+unfolding wrong
+over-is l past h =
+    let e = not-wrong l past h in
+    record { known = omega arith; begun = omega arith; lasts = omega arith }
 
 module _ (l : Bool) (past : ℕ) (h : past < yearLength l) where
-  pub few-months : past / 31 ≤ 11
-  few-months = omega (arith, year-short l)
+  pub over-early : past < 61 - lost l → Begun l past ((12 * past + 6) / 367)
+  unfolding over
+  over-early k = rw (lt-ltb past (61 - lost l) k) at (over-is l past h)
 
-  pub month-next : beforeMonth l (suc (past / 31 + 1)) ≤ past → InMonth l past (past / 31 + 2) (past - beforeMonth l (suc (past / 31 + 1)) + 1)
-  month-next le =
-      let g = past / 31 in
-      let top = few-months in
-      let k = below-year l (g + 1) past h (omega arith) le in
-      let n = month-near l (suc (g + 1)) (omega arith) .1 in
-      in-month l past (g + 1) (g + 2) (past - beforeMonth l (suc (g + 1)) + 1) (omega arith) k (omega arith) (omega arith) (omega arith)
+  pub over-later : 61 - lost l ≤ past → Begun l past ((12 * (past + lost l) + 6) / 367)
+  unfolding over
+  over-later k = rw (le-ltb past (61 - lost l) k) at (over-is l past h)
 
-  pub month-begun : beforeMonth l (suc (past / 31)) ≤ past
-  month-begun = let top = few-months in omega (arith, month-near l (past / 31) (omega arith) .0)
+pub few-lost : (l : Bool) → lost l ≤ 2
+few-lost true = omega arith
+few-lost false = omega arith
 
-  pub month-here : past < beforeMonth l (suc (past / 31 + 1)) → InMonth l past (past / 31 + 1) (past - beforeMonth l (suc (past / 31)) + 1)
-  month-here below =
-      let g = past / 31 in
-      let top = few-months in
-      let begun = month-begun in
-      let n : suc (g + 1) ≡ suc (suc g) = omega arith in
-      let b : past < beforeMonth l (suc (suc g)) = rw n at below in
-      in-month l past g (g + 1) (past - beforeMonth l (suc g) + 1) (omega arith) (omega arith) (omega arith) (omega arith) b
+pub in-month : (l : Bool) (past m : ℕ) → Begun l past m → InMonth l past (m + 1) (past - beforeMonth l (suc m) + 1)
+in-month l past m h =
+    let e : suc m ≡ m + 1 = omega arith in
+    let k = h .known in
+    let b = h .begun in
+    subst (λ (n : ℕ). InMonth l past n (past - beforeMonth l (suc m) + 1)) e
+    (record {
+      first = omega arith;
+      last = omega arith;
+      some = omega arith;
+      fits = omega (arith, h .lasts, month-after l m k);
+      here = omega arith;
+    })
 
 pub month-ends : (l : Bool) (m : ℕ) → 1 ≤ m → m ≤ 12 → beforeMonth l (suc m) ≡ beforeMonth l (suc (m - 1)) + monthLength l m
 month-ends l zero h k = absurd (omega arith)

@@ -1,5 +1,6 @@
 -- The year of the cycle, so many cycles on.
-use Rattle.calendar.proofs.line.Cycles.{cycle-on}
+use mathlib.Core.Path.{sym, _∙_}
+use Rattle.calendar.proofs.line.Cycles.{same-leap, cycle-on}
 use borrow.Author.Needs.{needs}
 use Rattle.calendar.proofs.line.year_on_line.Statement.{statement}
 use Rattle.calendar.proofs.line.year_on_line.Tie as tie
@@ -21,8 +22,11 @@ add-t6 c = search needs
 
 returns : tie.Need-returns
 returns c =
-    let f = c .before .year-of in
-    cycle-on (c .before .before .args .n) (f .result .place) (f .result .past) (search needs) (f .ensures)
+    let n = c .before .before .args .n in
+    let f = c .before .year-of in (
+      cycle-on n (f .result .place) (f .result .past) (search needs) (f .ensures .0),
+      f .ensures .1 ∙ sym (same-leap n (f .result .place) (f .result .past)),
+    )
 
 pub year-on-line-spec : {M : Type 1} → statement M
 year-on-line-spec =

@@ -1,39 +1,30 @@
--- One computed test of each table.
-use mathlib.Core.Bool.{Bool, true, false}
-use mathlib.Core.Path.{sym, ap, _∙_}
-use Prim.Native.Nat.{ℕ, suc}
+-- The days of so many months, before March and from it on.
 use native.Mathlib.Omega.{arith}
-use Rattle.laws.proofs.Tests.{tabulate, tabulated}
-use Rattle.meaning.specs.Calendar.{total, beforeMonth}
+use Rattle.calendar.proofs.months.Finding.{early, later, few-lost}
 use borrow.Author.Needs.{needs}
 use Rattle.calendar.proofs.months.days_of.Statement.{statement}
 use Rattle.calendar.proofs.months.days_of.Tie as tie
 
-mul-result : tie.Need-mul-result
-mul-result c = search needs
+mul-days : tie.Need-mul-days
+mul-days c = search needs
 
-array-read-result : tie.Need-array-read-result
-array-read-result c = search needs
-
-mul-result-2 : tie.Need-mul-result-2
-mul-result-2 c = search needs
-
-array-read-result-2 : tie.Need-array-read-result-2
-array-read-result-2 c = search needs
+add-days : tie.Need-add-days
+add-days c = search needs
 
 returns : tie.Need-returns
-unfolding tabulate total beforeMonth
-returns c =
-    tabulated (λ (m : ℕ). beforeMonth true (suc m)) 13 (c .before .args .months) (omega arith)
-    ∙ sym (ap (λ (l : Bool). beforeMonth l (suc (c .before .args .months))) (c .if1 .taken))
+returns c = early (c .before .args .leap) (c .before .args .months) (c .if1 .taken)
+
+lost-days-requires : tie.Need-lost-days-requires
+lost-days-requires c κs = search needs
+
+sub-result : tie.Need-sub-result
+sub-result c = omega (arith, c .lost-days .ensures, few-lost (c .before .before .args .leap))
 
 returns-2 : tie.Need-returns-2
-unfolding tabulate total beforeMonth
 returns-2 c =
-    tabulated (λ (m : ℕ). beforeMonth false (suc m)) 13 (c .before .args .months) (omega arith)
-    ∙ sym (ap (λ (l : Bool). beforeMonth l (suc (c .before .args .months))) (c .if1 .left))
+    let a = c .before .before .args in
+    rw (c .lost-days .ensures) (later (a .leap) (a .months) (omega arith) (c .before .if1 .left))
 
 pub days-of-spec : {M : Type 1} → statement M
 days-of-spec =
-    tie.close
-    (tie.spec mul-result array-read-result mul-result-2 array-read-result-2 returns returns-2)
+    tie.close (tie.spec mul-days add-days returns lost-days-requires sub-result returns-2)
