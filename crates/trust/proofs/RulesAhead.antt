@@ -151,13 +151,9 @@ two-digit-first z t e =
     when-is (λ (s : List ℕ). digitAt 0 (s ++ t) ≡ true) (ltb (natAbs z) (when (isNegative z) 10 100)) (λ _. year-first 2 z t e)
     (λ _. num-first 2 (natAbs z % 100) t)
 
-pub seven-digits : (k : ℕ) → 7 ≤ length (num k 1000001)
-unfolding width
-seven-digits k = rw length-num (omega arith)
-
-year-second : (k : ℕ) (t : List ℕ) → digitAt 1 (signedText k (pos 1000001) ++ t) ≡ true
-unfolding signedText
-year-second k t = num-second k 1000001 t (omega (arith, seven-digits k))
+year-second : (k : ℕ) (t : List ℕ) → digitAt 1 (signedText k (longNumbers .year) ++ t) ≡ true
+unfolding signedText width
+year-second k t = num-second k 2024 t (rw length-num (omega arith))
 
 zone-first : (utc colon : Bool) (minutes seconds : Group) (z : ℤ) (t : List ℕ) → digitAt 0 (zoneText utc colon minutes seconds z ++ t) ≡ false
 unfolding digitAt offsetText
