@@ -5,7 +5,6 @@ ghost use Rattle.laws.specs.CalendarLine.{line, yearAt, InYear};
 ghost use Rattle.meaning.specs.Calendar.{leap, daysOn};
 use crate::cycle::YearDay;
 use crate::cycle::year_of;
-use crate::table::days_before;
 
 // Any number as a day of the line.
 pub fn on_line(z: i32) -> u64
@@ -44,10 +43,11 @@ pub fn year_at(place: u32) -> i32
     0 - ((5880000 - place) as i32)
 }
 
+// By the leap years among them, which takes less time than a look at the table.
 pub fn before_year(place: u32) -> u64
     requires { ⌜ place < 11760000 ⌝ }
     ensures { λ r. ⌜ r ≡ daysOn place ⌝ }
 {
-    let cycles = (place / 400) as u64;
-    146097 * cycles + days_before(place % 400) as u64
+    let n = place as u64;
+    365 * n + n / 4 + n / 400 - n / 100
 }

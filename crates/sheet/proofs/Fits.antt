@@ -18,6 +18,8 @@ use Rattle.laws.proofs.Sizes as sizes
 use Rattle.laws.proofs.Tests.{when-is}
 use Rattle.meaning.specs.Answers.{_else_, refuseUnless, within, byteCheck, bytesCheck, endsInLoneQuote, patternCheck, fieldsCheck, roomCheck, textCheck, firstCurrentYear, currentYearCheck, restCheck, details}
 use Rattle.meaning.specs.Bytes.{when, both, plus}
+use Rattle.meaning.specs.Calendar.{isDate, dateNumber}
+use Rattle.meaning.specs.Days.{isShort, dayCheck, dayNumberBy, dayNumber}
 use Rattle.meaning.specs.Names.{Book, english}
 use Rattle.meaning.specs.Numerals.{Signed}
 use Rattle.meaning.specs.Readers.{Got, got, stopped}

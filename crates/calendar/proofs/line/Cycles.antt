@@ -1,10 +1,10 @@
 -- A year of the cycle, so many cycles on.
-use mathlib.Core.Path.{_≡_, sym, ap, _∙_}
+use mathlib.Core.Path.{_≡_, ap, _∙_}
 use Prim.Native.Nat.{ℕ, suc, _+_, _*_, _/_, _%_, _<_}
 use native.Mathlib.Omega.{arith}
 use Rattle.laws.proofs.CalendarCycles.{cycles-on, leap-on}
 use Rattle.laws.specs.CalendarLine.{InYear}
-use Rattle.meaning.specs.Calendar.{leap, daysOn}
+use Rattle.meaning.specs.Calendar.{leap}
 
 module _ (n k past : ℕ) where
   pub same-leap : leap (suc (400 * (n / 146097) + k)) ≡ leap (suc k)
@@ -19,8 +19,3 @@ module _ (n k past : ℕ) where
         here = omega (arith, i .here, cycles-on (n / 146097) k);
         inside = rw same-leap (i .inside);
       }
-
-pub before-is : (p : ℕ) → 146097 * (p / 400) + daysOn (p % 400) ≡ daysOn p
-before-is p =
-    let e : 400 * (p / 400) + p % 400 ≡ p = omega arith in
-    sym (cycles-on (p / 400) (p % 400)) ∙ ap daysOn e
