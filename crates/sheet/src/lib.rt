@@ -239,7 +239,7 @@ pub extern "C" fn sheet_day(number: i32, answer: &mut [i64]) -> u32
 pub extern "C" fn sheet_day_number(year: i32, month: u32, day: u32, answer: &mut [i64]) -> u32
     ensures { λ r. ⌜ SheetDayNumber year month day (now (answer .entry)) r (now (answer .exit)) ⌝ }
 {
-    if answer.len() < 2 {
+    if answer.len() <= 1 {
         return 100;
     }
     give_day_number(day_number(year, month, day), answer)
