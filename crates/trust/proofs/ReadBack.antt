@@ -1,5 +1,6 @@
--- Where the check says yes, which it says of real days, a read of what was written for any allowed record, strict or not, in the same edition, is accepted, takes all of it, and
--- gives every unit that the pattern carries with the record's value, and with where the text of its part stands.
+-- Where the check says yes, which it says of real days, a read of what was written for any allowed record, strict or not, in the
+-- same edition, is accepted, takes all of it, and gives every unit that the pattern carries with the record's value, and with where
+-- the text of its part stands.
 use mathlib.Core.Bool.{Bool}
 use mathlib.Core.List.{List}
 use mathlib.Core.Path.{_≡_}

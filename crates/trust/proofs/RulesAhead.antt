@@ -7,7 +7,7 @@ use Prim.Native.Nat.{ℕ, _%_, _^_, _≤_, _<_}
 use native.Mathlib.Nat.{lt-of-lt-of-le, pow-le-pow-right}
 use native.Mathlib.Omega.{arith}
 use lib.Dec.{eqb, leb, ltb}
-use lib.IntN.{ℤ, pos, natAbs}
+use lib.IntN.{ℤ, natAbs}
 use lib.ListN.{length, List·getD-append}
 use borrow.Author.Tests.{eqb-true, leb-true, ltb-true, ltb-false, not-true}
 use Rattle.meaning.specs.Bytes.{when, both, digitAt, num, width, widthIn, digits}
