@@ -12,7 +12,7 @@ mod writing;
 
 pub mod raw;
 
-pub use checking::{check, check_with, Verdict};
+pub use checking::{check, check_with, explain_check, explain_check_with, Verdict};
 pub use choices::{Choices, Edition};
 pub use explaining::{explain, explain_date, explain_with};
 pub use fields::Fields;
