@@ -1,5 +1,5 @@
 /* Writes a record by a pattern, reads it back, underlines what was read, shows what the parts of a pattern are, checks a pattern,
- * reads strictly and shows a refusal. */
+ * reads strictly, reads and checks in the second edition and shows a refusal. */
 #include "sheet.h"
 
 #include <inttypes.h>
@@ -100,6 +100,24 @@ static void read_strictly(const char *pattern, const char *text) {
         printf("%s does not read %s strictly: at place %" PRId64 " %s\n", pattern, text, answer[1], sheet_refusal_text(number));
 }
 
+static void read_in_the_second_edition(const char *pattern, const char *text) {
+    int64_t answer[SHEET_READ_ANSWER];
+    if (sheet_read_with(SHEET_SECOND_EDITION, bytes(pattern), strlen(pattern), bytes(text), strlen(text), CURRENT_YEAR, answer,
+                        SHEET_READ_ANSWER) != SHEET_ACCEPTED)
+        return;
+    printf("%s reads %s in the second edition:\n", pattern, text);
+    show_value("year", answer, SHEET_YEAR);
+    show_value("month", answer, SHEET_MONTH);
+}
+
+static void check_in_the_second_edition(const char *pattern) {
+    int64_t answer[SHEET_CHECK_ANSWER];
+    if (sheet_check_with(SHEET_SECOND_EDITION, bytes(pattern), strlen(pattern), CURRENT_YEAR, answer, SHEET_CHECK_ANSWER) ==
+            SHEET_ACCEPTED &&
+        answer[0] == 1)
+        printf("%s can be trusted in the second edition\n", pattern);
+}
+
 static void show_a_refusal(const char *pattern) {
     char text[4];
     int64_t answer[SHEET_WRITE_ANSWER];
@@ -116,6 +134,8 @@ int main(void) {
     check("d'");
     read_strictly("d/MM", "3/12");
     read_strictly("d/MM", "3-12");
+    read_in_the_second_edition("d.M.yy", "3.12.71");
+    check_in_the_second_edition("d/M");
     show_a_refusal("yyyy/MM/dd");
     return 0;
 }

@@ -43,8 +43,8 @@ extern "C" {
 /* A writer needs no more than so many bytes of output for each byte of the pattern, so SHEET_LONGEST_TEXT are always enough. */
 #define SHEET_BYTES_A_PATTERN_BYTE 8
 
-/* No call takes more bytes of the stack. As measured on x86-64, a write takes 1,016 at most, with names, a read 1,152, and the
- * other functions under 200. */
+/* No call takes more bytes of the stack. As measured on x86-64, a write takes 1,016 at most, with names, a read 1,120, and the
+ * other functions under 250. */
 #define SHEET_MOST_STACK 2048
 
 /* How many entries each function asks for in `answer`, sheet_split in `parts`, and sheet_units in `units`. */
@@ -72,16 +72,17 @@ extern "C" {
 #define SHEET_NO_SIGN 11         /* no sign of a zone: part, place */
 #define SHEET_OFFSET_LENGTH 12   /* an offset of another length than 6: its length */
 #define SHEET_OFFSET_RANGE 13    /* an offset's hour or minute is too large: 1 or 2 */
-#define SHEET_CURRENT_YEAR 14    /* a current year that is not 1 to 9999: that year */
+#define SHEET_CURRENT_YEAR 14    /* a current year that is not 1 to 9999, in the second edition 81 to 9999: that year */
 #define SHEET_LITERAL_DIFFERS 15 /* a literal that differs, in a strict reading: part, place of the first such byte */
 #define SHEET_TEXT_LEFT 16       /* text that is left over, in a strict reading: place of its first byte */
 #define SHEET_PLUS_SIGN 19       /* a plus as the first byte of a number: part, place */
 #define SHEET_ROW_TOO_SMALL 100  /* a row is too small: nothing is altered, and there are no details */
 #define SHEET_NO_SUCH_CHOICE 101 /* a number that stands for no choices: likewise */
 
-/* The choices of a reading, which are added: dates alone; a strict reading. */
+/* The choices of a reading, which are added: dates alone; a strict reading; the second edition. */
 #define SHEET_DATE_PAIR 1
 #define SHEET_STRICT 2
+#define SHEET_SECOND_EDITION 4
 
 /* The units of a reading: each one's bit in the mask and its place among the values. */
 #define SHEET_YEAR 0
@@ -145,9 +146,12 @@ uint32_t sheet_read_date(const uint8_t *pattern, size_t pattern_len, const uint8
 
 /* Reads with choices: 0 as sheet_read, SHEET_DATE_PAIR as sheet_read_date. With SHEET_STRICT each byte of a literal has to be the
  * one that it stands for, and nothing may be left over behind the last part; symbols that pass over bytes do so all the same.
+ * With SHEET_SECOND_EDITION a single M is read as a single d is, from two bytes where the second is a digit; and a year of two
+ * digits without a sign is the one from `year` - 80 to `year` + 19 that ends with them.
  * For a number that is no sum of these SHEET_NO_SUCH_CHOICE is returned, whatever the size of the row.
  * Answers: as sheet_read.
- * Refuses: as sheet_read; with SHEET_STRICT also 15 at a literal, behind 8 for the whole of it, and 16 behind all parts. */
+ * Refuses: as sheet_read; with SHEET_STRICT also 15 at a literal, behind 8 for the whole of it, and 16 behind all parts; with
+ * SHEET_SECOND_EDITION also 14 for the current years 1 to 80, whatever the pattern has. */
 uint32_t sheet_read_with(uint32_t choices, const uint8_t *pattern, size_t pattern_len, const uint8_t *text, size_t text_len,
                          int32_t year, int64_t *answer, size_t answer_len);
 
@@ -179,6 +183,14 @@ uint32_t sheet_units(const uint8_t *pattern, size_t pattern_len, int64_t *answer
  * Refuses: 1, 2, 3, 14, the first in this order. */
 uint32_t sheet_check(const uint8_t *pattern, size_t pattern_len, int32_t year, int64_t *answer, size_t answer_len);
 
+/* The same for sheet_read_with and its choices: 0 as sheet_check, SHEET_SECOND_EDITION for readings in that edition. SHEET_STRICT
+ * added makes no difference. There is no check for dates alone: for a number with SHEET_DATE_PAIR in it, as for one that is no
+ * sum of choices, SHEET_NO_SUCH_CHOICE is returned, whatever the size of the row.
+ * Answers: as sheet_check.
+ * Refuses: as sheet_check; with SHEET_SECOND_EDITION also 14 for the current years 1 to 80. */
+uint32_t sheet_check_with(uint32_t choices, const uint8_t *pattern, size_t pattern_len, int32_t year, int64_t *answer,
+                          size_t answer_len);
+
 /* What a number that was returned says, in words that need no details. */
 static inline const char *sheet_refusal_text(uint32_t number) {
     switch (number) {
@@ -196,7 +208,7 @@ static inline const char *sheet_refusal_text(uint32_t number) {
     case SHEET_NO_SIGN: return "the text has no sign of a zone where one should stand";
     case SHEET_OFFSET_LENGTH: return "the offset has another length than +05:30, and does not begin with Z";
     case SHEET_OFFSET_RANGE: return "the hour or the minute of the offset is too large";
-    case SHEET_CURRENT_YEAR: return "the current year is not from 1 to 9999";
+    case SHEET_CURRENT_YEAR: return "the current year is not from 1 to 9999, or from 81 in the second edition";
     case SHEET_LITERAL_DIFFERS: return "the text differs from the literal that should stand there";
     case SHEET_TEXT_LEFT: return "the text goes on where the pattern ends";
     case SHEET_PLUS_SIGN: return "the text has a plus in front of a number";

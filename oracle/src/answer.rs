@@ -6,7 +6,8 @@ use crate::walk::{self, Kind, Pair, Part, Reading};
 
 pub const BAD_REQUEST: &str = "bad request";
 
-/// The Rust's answer to a line; `refused` where it errs, panics or can't be asked. It knows no strict reading.
+/// The Rust's answer to a line; `refused` where it errs, panics or can't be asked. It knows no strict reading and no second
+/// edition.
 pub fn answer(line: &str) -> String {
     let Some(request) = Request::from_line(line) else {
         return BAD_REQUEST.to_string();
@@ -27,14 +28,13 @@ fn accepted(request: &Request) -> Option<String> {
             (text.len() <= *room).then(|| wrote(&text))
         }
         Request::Read {
-            pair,
+            choices,
             pattern,
             text,
             now,
-            ..
         } => {
-            let reading = walk::read(*pair, as_pattern(pattern)?, as_text(text)?, *now).ok()?;
-            Some(read(&reading))
+            let (pattern, text) = (as_pattern(pattern)?, as_text(text)?);
+            Some(read(&walk::read(choices.pair, pattern, text, *now).ok()?))
         }
         Request::ParseOffset { text } => Some(offset(walk::parse_offset(as_text(text)?).ok()?)),
     }

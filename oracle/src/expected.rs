@@ -4,15 +4,17 @@
 //! and a zone whose digits are all zero is written with a plus. A strict reading, which the Rust does not have, is refused 15 at
 //! a literal that differs, and 16 where text is left over. Beyond these the Rust decides: where it answers, its answer is the
 //! line; where it doesn't, the line is the specification's number for the way it stopped, read off its wording, with the part
-//! and the place that it had come to.
+//! and the place that it had come to. In the second edition, which the Rust does not have either, it decides with other parts in
+//! the place of those that are read otherwise.
 
 use crate::answer::{self, as_pattern, as_text};
+use crate::choices::Choices;
 use crate::limits::{field_limit, pattern_limit, refused, room_limit, text_limit, year_limit};
 use crate::minus::with_plus;
 use crate::pluses::{plus_in, IN_AN_OFFSET};
 use crate::request::Request;
 use crate::strict;
-use crate::walk::{self, Cause, Kind, Pair, Reading, Stopped, Walked};
+use crate::walk::{self, Cause, Kind, Reading, Stopped, Walked};
 
 /// The expected line, by who decides it.
 #[derive(Debug, PartialEq, Eq)]
@@ -58,10 +60,13 @@ fn first_limit(request: &Request) -> Option<Expected> {
             .or_else(|| lone_quote(pattern).map(Expected::Refused))
             .or_else(|| limit(field_limit(fields))),
         Request::Read {
-            pattern, text, now, ..
+            choices,
+            pattern,
+            text,
+            now,
         } => limit(pattern_limit(pattern))
             .or_else(|| lone_quote(pattern).map(Expected::Refused))
-            .or_else(|| limit(year_limit(*now)))
+            .or_else(|| limit(year_limit(choices.edition, *now)))
             .or_else(|| limit(text_limit(text))),
         Request::ParseOffset { text } => limit(text_limit(text)),
     }
@@ -104,16 +109,15 @@ fn from_the_rust(request: &Request) -> Expected {
             })
         }
         Request::Read {
-            pair,
-            strict,
+            choices,
             pattern,
             text,
             now,
         } => {
             let pattern = as_pattern(pattern).expect(ASCII);
             let text = as_text(text).expect(ASCII);
-            let walked = walk::walked(*pair, pattern, text, *now);
-            not_as_the_rust(*pair, *strict, pattern, text, &walked)
+            let walked = walk::walked(*choices, pattern, text, *now);
+            not_as_the_rust(*choices, pattern, text, &walked)
                 .unwrap_or_else(|| read_as_the_rust(pattern, walked.outcome))
         }
         Request::ParseOffset { text } => {
@@ -136,13 +140,13 @@ fn read_as_the_rust(pattern: &str, outcome: Result<Reading, Stopped>) -> Expecte
 
 /// Refusals 19 and 15 by the order of their parts, then 16.
 fn not_as_the_rust(
-    pair: Pair,
-    strict: bool,
+    choices: Choices,
     pattern: &str,
     text: &str,
     walked: &Walked,
 ) -> Option<Expected> {
-    let plus = plus_read(pair, pattern, text, walked);
+    let Choices { pair, strict, .. } = choices;
+    let plus = plus_read(choices, pattern, text, walked);
     let literal = strict.then(|| strict::differing(pair, pattern, text, walked));
     let of_a_part = |number, (part, place)| refused(number, &[part as i64, place as i64]);
     let both = [(plus, 19), (literal.flatten(), 15)];
@@ -162,14 +166,19 @@ fn not_as_the_rust(
 
 /// The part and the place of refusal 19, where a part that the Rust came to has a number that begins with a plus, and it
 /// stopped at no place before.
-fn plus_read(pair: Pair, pattern: &str, text: &str, walked: &Walked) -> Option<(usize, usize)> {
+fn plus_read(
+    choices: Choices,
+    pattern: &str,
+    text: &str,
+    walked: &Walked,
+) -> Option<(usize, usize)> {
     let parts = walk::split(pattern);
     let (number, place) = walked
         .places
         .iter()
         .enumerate()
         .find_map(|(number, began)| {
-            let place = plus_in(pair, pattern, parts[number], &text[*began..])?;
+            let place = plus_in(choices, pattern, parts[number], &text[*began..])?;
             Some((number, began + place))
         })?;
     match &walked.outcome {

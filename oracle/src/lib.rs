@@ -8,6 +8,7 @@ mod util;
 
 pub mod answer;
 pub mod check;
+pub mod choices;
 pub mod differences;
 pub mod expected;
 pub mod generator;
@@ -18,6 +19,7 @@ mod pluses;
 pub mod printing;
 pub mod request;
 pub mod running;
+mod second;
 mod strict;
 pub mod tally;
 pub mod walk;

@@ -1,9 +1,11 @@
 //! The limits that the specification sets and the Rust does not have: refusals 1, 2, 4, 5, 6, 7 and 14.
 
 use crate::calendar::Fields;
+use crate::choices::Edition;
 
 const LONGEST_PATTERN: usize = 256;
 const LONGEST_TEXT: usize = 2048;
+const LAST_CURRENT_YEAR: i32 = 9999;
 const LAST_YEAR: i64 = 5_879_611;
 const LAST_NANOSECOND: i64 = 86_399_999_999_999;
 const LAST_OFFSET: i64 = 86_399;
@@ -26,8 +28,9 @@ pub fn text_limit(text: &[u8]) -> Option<String> {
     too_long(6, text, LONGEST_TEXT).or_else(|| bad_byte(7, text, |byte| byte > 127))
 }
 
-pub fn year_limit(now: i32) -> Option<String> {
-    (!(1..=9999).contains(&now)).then(|| refused(14, &[i64::from(now)]))
+pub fn year_limit(edition: Edition, now: i32) -> Option<String> {
+    let years = edition.first_year()..=LAST_CURRENT_YEAR;
+    (!years.contains(&now)).then(|| refused(14, &[i64::from(now)]))
 }
 
 pub fn room_limit(text: &str, room: usize) -> Option<String> {

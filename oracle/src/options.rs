@@ -1,17 +1,24 @@
 //! The options that the generator, the recorder and the comparer share.
 
-use crate::generator::Generator;
+use crate::check::CheckRequest;
+use crate::choices::Edition;
+use crate::generator::{CheckGenerator, Generator};
 use crate::request::{Op, Request};
 use std::num::NonZeroUsize;
 use std::str::FromStr;
 
+/// How many requests are generated where no count is named.
+const COUNT: usize = 1_800_000;
+
 pub struct Options {
     pub seed: u64,
-    pub count: usize,
+    pub count: Option<usize>,
     /// Of a longer run only each request of this step is taken.
     pub every: NonZeroUsize,
     /// All of them where none is named.
     pub ops: Option<Vec<Op>>,
+    /// Of a check; both where none is named.
+    pub edition: Option<Edition>,
     /// A file of requests, instead of generated ones.
     pub requests: Option<String>,
     /// The program to compare, with its arguments.
@@ -19,29 +26,41 @@ pub struct Options {
 }
 
 impl Options {
-    pub fn from_args(args: impl Iterator<Item = String>) -> Result<Options, String> {
-        Options::with_count(1_200_000, args)
+    /// Of requests, each of an op.
+    pub fn of_requests(args: impl Iterator<Item = String>) -> Result<Options, String> {
+        let options = Options::from_args(args)?;
+        match options.edition {
+            Some(_) => Err("the edition is in the name of an op".to_string()),
+            None => Ok(options),
+        }
     }
 
-    /// With the given count where the arguments name none.
-    pub fn with_count(
-        count: usize,
-        mut args: impl Iterator<Item = String>,
-    ) -> Result<Options, String> {
+    /// Of checks, which have no ops.
+    pub fn of_checks(args: impl Iterator<Item = String>) -> Result<Options, String> {
+        let options = Options::from_args(args)?;
+        match options.ops {
+            Some(_) => Err("there is one op".to_string()),
+            None => Ok(options),
+        }
+    }
+
+    fn from_args(mut args: impl Iterator<Item = String>) -> Result<Options, String> {
         let mut options = Options {
             seed: 1,
-            count,
+            count: None,
             every: NonZeroUsize::MIN,
             ops: None,
+            edition: None,
             requests: None,
             program: Vec::new(),
         };
         while let Some(arg) = args.next() {
             match arg.as_str() {
                 "--seed" => options.seed = number(args.next())?,
-                "--count" => options.count = number(args.next())?,
+                "--count" => options.count = Some(number(args.next())?),
                 "--every" => options.every = number(args.next())?,
                 "--ops" => options.ops = Some(ops(&word(args.next())?)?),
+                "--edition" => options.edition = Some(edition(&word(args.next())?)?),
                 "--requests" => options.requests = Some(word(args.next())?),
                 "--" => options.program = args.by_ref().collect(),
                 _ => return Err(format!("unknown option {arg}")),
@@ -54,7 +73,16 @@ impl Options {
         let ops = self.ops.clone().unwrap_or(Op::ALL.to_vec());
         Generator::new(self.seed, ops)
             .step_by(self.every.get())
-            .take(self.count)
+            .take(self.count.unwrap_or(COUNT))
+    }
+
+    /// A count that is not named goes through the list of patterns once.
+    pub fn generated_checks(&self) -> impl Iterator<Item = CheckRequest> {
+        let editions = self.edition.map_or(Edition::ALL.to_vec(), |one| vec![one]);
+        let whole_list = editions.len() * CheckGenerator::whole_list();
+        CheckGenerator::new(self.seed, editions)
+            .step_by(self.every.get())
+            .take(self.count.unwrap_or(whole_list))
     }
 }
 
@@ -66,6 +94,10 @@ fn number<T: FromStr>(arg: Option<String>) -> Result<T, String> {
     let word = word(arg)?;
     word.parse()
         .map_err(|_| format!("{word} is no number for this option"))
+}
+
+fn edition(name: &str) -> Result<Edition, String> {
+    Edition::named(name).ok_or_else(|| format!("{name} is no edition"))
 }
 
 fn ops(names: &str) -> Result<Vec<Op>, String> {

@@ -1,19 +1,20 @@
 //! Request [3]: no number takes a plus, where the Rust's parser of numbers takes one. Which bytes are a number is read off the
 //! specification's table; how far a read came is the Rust's own.
 
+use crate::choices::{Choices, Edition};
 use crate::walk::{Kind, Pair, Part};
 
 /// A number's place behind the start of its part, and its length.
 type Taken = (usize, usize);
 
 /// The place of the first number of a part that is there and begins with a plus, in the text that the part is read from.
-pub fn plus_in(pair: Pair, pattern: &str, part: Part, text: &str) -> Option<usize> {
+pub fn plus_in(choices: Choices, pattern: &str, part: Part, text: &str) -> Option<usize> {
     if part.kind != Kind::Run {
         return None;
     }
     let symbol = pattern.as_bytes()[part.start];
     let text = text.as_bytes();
-    numbers(pair, symbol, part.length, text)
+    numbers(choices, symbol, part.length, text)
         .into_iter()
         .find(|(place, length)| *length > 0 && place + length <= text.len() && text[*place] == b'+')
         .map(|(place, _)| place)
@@ -23,15 +24,16 @@ pub fn plus_in(pair: Pair, pattern: &str, part: Part, text: &str) -> Option<usiz
 pub const IN_AN_OFFSET: [usize; 2] = [1, 4];
 
 /// "What each symbol does", column Reads: the numbers that are taken, in order.
-fn numbers(pair: Pair, symbol: u8, count: usize, text: &[u8]) -> Vec<Taken> {
+fn numbers(choices: Choices, symbol: u8, count: usize, text: &[u8]) -> Vec<Taken> {
     let first = |length| vec![(0, length)];
     match (symbol, count) {
+        (b'M', 1) if choices.edition == Edition::Second => first(one_or_two(count, text)),
         (b'y', 1 | 3 | 4) => vec![],
         (b'y', _) => first(count + usize::from(text.first() == Some(&b'-'))),
         (b'M', 1 | 2) => first(count),
         (b'd', _) => first(one_or_two(count, text)),
         (b'D', _) => first(day_of_year(count, text)),
-        _ if pair == Pair::Date => vec![],
+        _ if choices.pair == Pair::Date => vec![],
         (b'h' | b'K' | b'H' | b'k' | b'm' | b's', _) => first(one_or_two(count, text)),
         (b'n', _) => first(match count {
             1 | 2 => count,

@@ -23,7 +23,7 @@ where
 }
 
 fn options() -> Result<Options, String> {
-    let options = Options::from_args(std::env::args().skip(1))?;
+    let options = Options::of_requests(std::env::args().skip(1))?;
     if options.requests.is_some() || !options.program.is_empty() {
         return Err("only the comparer reads requests or runs a program".to_string());
     }

@@ -1,6 +1,7 @@
 //! The requests of the line protocol: one a line, words separated by one space.
 
 use crate::calendar::Fields;
+use crate::choices::{Choices, Edition};
 use crate::walk::Pair;
 use std::fmt;
 use std::iter::Peekable;
@@ -17,6 +18,10 @@ pub enum Op {
     ReadDate,
     ReadStrict,
     ReadDateStrict,
+    ReadSecond,
+    ReadDateSecond,
+    ReadStrictSecond,
+    ReadDateStrictSecond,
     ParseOffset,
 }
 
@@ -32,8 +37,7 @@ pub enum Request {
         room: usize,
     },
     Read {
-        pair: Pair,
-        strict: bool,
+        choices: Choices,
         pattern: Vec<u8>,
         text: Vec<u8>,
         now: i32,
@@ -44,7 +48,7 @@ pub enum Request {
 }
 
 impl Op {
-    pub const ALL: [Op; 8] = [
+    pub const ALL: [Op; 12] = [
         Op::Split,
         Op::Write,
         Op::WriteDate,
@@ -52,6 +56,10 @@ impl Op {
         Op::ReadDate,
         Op::ReadStrict,
         Op::ReadDateStrict,
+        Op::ReadSecond,
+        Op::ReadDateSecond,
+        Op::ReadStrictSecond,
+        Op::ReadDateStrictSecond,
         Op::ParseOffset,
     ];
 
@@ -64,16 +72,42 @@ impl Op {
             Op::ReadDate => "read_date",
             Op::ReadStrict => "read_strict",
             Op::ReadDateStrict => "read_date_strict",
+            Op::ReadSecond => "read_second",
+            Op::ReadDateSecond => "read_date_second",
+            Op::ReadStrictSecond => "read_strict_second",
+            Op::ReadDateStrictSecond => "read_date_strict_second",
             Op::ParseOffset => "parse_offset",
         }
     }
 
+    /// What a read is asked for; none where it is no read.
+    pub fn choices(self) -> Option<Choices> {
+        let (full, date) = (Choices::of(Pair::Full), Choices::of(Pair::Date));
+        Some(match self {
+            Op::Read => full,
+            Op::ReadDate => date,
+            Op::ReadStrict => full.strict(),
+            Op::ReadDateStrict => date.strict(),
+            Op::ReadSecond => full.second(),
+            Op::ReadDateSecond => date.second(),
+            Op::ReadStrictSecond => full.strict().second(),
+            Op::ReadDateStrictSecond => date.strict().second(),
+            Op::Split | Op::Write | Op::WriteDate | Op::ParseOffset => return None,
+        })
+    }
+
+    fn of_read(choices: Choices) -> Op {
+        let of_these = |op: &Op| op.choices() == Some(choices);
+        let op = Op::ALL.into_iter().find(of_these);
+        op.expect("each choice of a read has its op")
+    }
+
     /// The first word of its requests.
     fn word(self) -> &'static str {
-        match self {
-            Op::ReadStrict => Op::Read.name(),
-            Op::ReadDateStrict => Op::ReadDate.name(),
-            _ => self.name(),
+        match self.choices().map(|choices| choices.pair) {
+            Some(Pair::Full) => Op::Read.name(),
+            Some(Pair::Date) => Op::ReadDate.name(),
+            None => self.name(),
         }
     }
 
@@ -93,11 +127,10 @@ impl Request {
             },
             Op::Write => write_request(Pair::Full, &mut words)?,
             Op::WriteDate => write_request(Pair::Date, &mut words)?,
-            Op::Read | Op::ReadStrict => read_request(Pair::Full, &mut words)?,
-            Op::ReadDate | Op::ReadDateStrict => read_request(Pair::Date, &mut words)?,
             Op::ParseOffset => Request::ParseOffset {
                 text: bytes(&mut words)?,
             },
+            read => read_request(read.choices()?.pair, &mut words)?,
         };
         words.next().is_none().then_some(request)
     }
@@ -109,12 +142,7 @@ impl Request {
                 Pair::Full => Op::Write,
                 Pair::Date => Op::WriteDate,
             },
-            Request::Read { pair, strict, .. } => match (pair, strict) {
-                (Pair::Full, false) => Op::Read,
-                (Pair::Date, false) => Op::ReadDate,
-                (Pair::Full, true) => Op::ReadStrict,
-                (Pair::Date, true) => Op::ReadDateStrict,
-            },
+            Request::Read { choices, .. } => Op::of_read(*choices),
             Request::ParseOffset { .. } => Op::ParseOffset,
         }
     }
@@ -132,14 +160,14 @@ impl fmt::Display for Request {
                 ..
             } => write!(f, "{} {} {room}", hex(pattern), field_words(fields)),
             Request::Read {
-                strict,
+                choices,
                 pattern,
                 text,
                 now,
-                ..
             } => {
-                let word = if *strict { " strict" } else { "" };
-                write!(f, "{} {} {now}{word}", hex(pattern), hex(text))
+                let strict = if choices.strict { " strict" } else { "" };
+                let edition = edition_word(choices.edition);
+                write!(f, "{} {} {now}{strict}{edition}", hex(pattern), hex(text))
             }
             Request::ParseOffset { text } => f.write_str(&hex(text)),
         }
@@ -169,18 +197,37 @@ fn write_request<'a>(pair: Pair, words: &mut impl Iterator<Item = &'a str>) -> O
     })
 }
 
-/// With the one word that may stand behind it; what stands behind that is left.
+/// With the words that may stand behind it, in this order; what stands behind those is left.
 fn read_request<'a>(
     pair: Pair,
     words: &mut Peekable<impl Iterator<Item = &'a str>>,
 ) -> Option<Request> {
     Some(Request::Read {
-        pair,
         pattern: bytes(words)?,
         text: bytes(words)?,
         now: number(words)?,
-        strict: words.next_if_eq(&"strict").is_some(),
+        choices: Choices {
+            pair,
+            strict: words.next_if_eq(&"strict").is_some(),
+            edition: edition(words),
+        },
     })
+}
+
+/// The second edition where the next word names it.
+pub(crate) fn edition<'a>(words: &mut Peekable<impl Iterator<Item = &'a str>>) -> Edition {
+    match words.next_if_eq(&Edition::Second.name()) {
+        Some(_) => Edition::Second,
+        None => Edition::First,
+    }
+}
+
+/// The word for an edition behind a request, with the space before it.
+pub(crate) fn edition_word(edition: Edition) -> &'static str {
+    match edition {
+        Edition::First => "",
+        Edition::Second => " second",
+    }
 }
 
 pub(crate) fn fields<'a>(words: &mut impl Iterator<Item = &'a str>) -> Option<Fields> {

@@ -82,7 +82,7 @@ impl Row {
     fn print(&self, name: &str, f: &mut fmt::Formatter<'_>) -> fmt::Result {
         writeln!(
             f,
-            "{name:<18}{:>10}{:>10}{:>10}{:>10}{:>10}{:>10}{:>13}",
+            "{name:<24}{:>10}{:>10}{:>10}{:>10}{:>10}{:>10}{:>13}",
             self.requests,
             self.accepted,
             self.refused,
@@ -99,7 +99,7 @@ impl fmt::Display for Tally {
         self.differences.print_first(f)?;
         writeln!(
             f,
-            "{:<18}{:>10}{:>10}{:>10}{:>10}{:>10}{:>10}{:>13}",
+            "{:<24}{:>10}{:>10}{:>10}{:>10}{:>10}{:>10}{:>13}",
             "", "requests", "accepted", "refused", "limits", "excepted", "strict", "differences"
         )?;
         for op in Op::ALL {

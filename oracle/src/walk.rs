@@ -2,9 +2,11 @@
 //! Patterns hold no zero byte, which is the Rust's mark for an escaped quote; patterns and texts are ASCII.
 
 use crate::calendar::{give_current_year, give_fields, Fields};
+use crate::choices::{Choices, Edition};
 use crate::errors::AstrolabeError;
 use crate::guard::guarded;
 pub use crate::guard::Cause;
+use crate::second;
 use crate::util::format::{format_date_part, format_part};
 use crate::util::parse::{self, parse_date_part, parse_format_string, parse_part, ParsedPart};
 use std::ops::Range;
@@ -101,18 +103,20 @@ pub fn write(pair: Pair, pattern: &str, fields: &Fields) -> Result<String, Cause
     })
 }
 
+/// As the Rust does it.
 pub fn read(pair: Pair, pattern: &str, text: &str, now: i32) -> Result<Reading, Stopped> {
-    walked(pair, pattern, text, now).outcome
+    walked(Choices::of(pair), pattern, text, now).outcome
 }
 
-pub fn walked(pair: Pair, pattern: &str, text: &str, now: i32) -> Walked {
+/// In the edition that is chosen; literals are passed over, even where it is strict.
+pub fn walked(choices: Choices, pattern: &str, text: &str, now: i32) -> Walked {
     let mut places = Vec::new();
-    let outcome = read_noting(pair, pattern, text, now, &mut places);
+    let outcome = read_noting(choices, pattern, text, now, &mut places);
     Walked { places, outcome }
 }
 
 fn read_noting(
-    pair: Pair,
+    choices: Choices,
     pattern: &str,
     text: &str,
     now: i32,
@@ -126,12 +130,13 @@ fn read_noting(
     for (number, part) in parse_format_string(pattern).iter().enumerate() {
         let began = place(&rest);
         places.push(began);
-        let carried = guarded(|| read_part(pair, part, &mut rest)).map_err(|cause| Stopped {
-            part: number,
-            began,
-            reached: place(&rest),
-            cause,
-        })?;
+        let carried = guarded(|| read_part_in(choices.edition, choices.pair, part, &mut rest, now))
+            .map_err(|cause| Stopped {
+                part: number,
+                began,
+                reached: place(&rest),
+                cause,
+            })?;
         if let Some(carried) = carried {
             reading.keep(carried, began..place(&rest));
         }
@@ -176,10 +181,17 @@ impl Parts {
     }
 
     /// Reads the one part from the start of the text.
-    pub fn read_one(&self, part: usize, text: &str, now: i32) -> Result<PartRead, Cause> {
+    pub fn read_one(
+        &self,
+        edition: Edition,
+        part: usize,
+        text: &str,
+        now: i32,
+    ) -> Result<PartRead, Cause> {
         give_current_year(now);
         let mut rest = text.to_string();
-        let carried = guarded(|| read_part(Pair::Full, &self.0[part], &mut rest))?;
+        let part = &self.0[part];
+        let carried = guarded(|| read_part_in(edition, Pair::Full, part, &mut rest, now))?;
         Ok(PartRead {
             taken: text.len() - rest.len(),
             carried: carried.map(|carried| (carried.unit as usize, carried.value)),
@@ -227,6 +239,22 @@ fn with_quotes(part: &str) -> String {
 fn inside(quoted: &str) -> &str {
     let end = quoted.strip_suffix(QUOTE).map_or(quoted.len(), str::len);
     &quoted[1..end]
+}
+
+fn read_part_in(
+    edition: Edition,
+    pair: Pair,
+    part: &str,
+    rest: &mut String,
+    now: i32,
+) -> Result<Option<ParsedPart>, AstrolabeError> {
+    if edition == Edition::First {
+        return read_part(pair, part, rest);
+    }
+    let text = rest.clone();
+    let carried = read_part(pair, second::stand_in(part), rest)?;
+    let taken = &text[..text.len() - rest.len()];
+    Ok(carried.map(|carried| second::given(part, taken, now, carried)))
 }
 
 fn read_part(

@@ -1,6 +1,7 @@
 //! What the comparison of the check holds a program's answers to, and which patterns it asks about.
 
 use harness::check::{verdict, CheckRequest, CheckTally};
+use harness::choices::Edition;
 use harness::generator::{CheckGenerator, Random};
 use harness::tally::Hold;
 use std::collections::HashSet;
@@ -9,8 +10,9 @@ const ONE_DIGIT: &str = "2025 1 1 1 1 3 0 3600";
 const TWO_DIGITS: &str = "2025 12 31 365 52 3 0 3600";
 
 /// What is wrong with the answer to a check of the pattern.
-fn fault(pattern: &str, answer: &str) -> Option<String> {
+fn fault(edition: Edition, pattern: &str, answer: &str) -> Option<String> {
     let request = CheckRequest {
+        edition,
         pattern: pattern.into(),
         now: 2025,
     };
@@ -19,12 +21,12 @@ fn fault(pattern: &str, answer: &str) -> Option<String> {
 
 #[track_caller]
 fn fine(pattern: &str, answer: &str) {
-    assert_eq!(fault(pattern, answer), None);
+    assert_eq!(fault(Edition::First, pattern, answer), None);
 }
 
 #[track_caller]
 fn faulty(pattern: &str, answer: &str, why: &str) {
-    assert_eq!(fault(pattern, answer).as_deref(), Some(why));
+    assert_eq!(fault(Edition::First, pattern, answer).as_deref(), Some(why));
 }
 
 #[test]
@@ -79,6 +81,19 @@ fn the_record_shown_must_be_allowed_and_spelled_as_one() {
 }
 
 #[test]
+fn each_edition_has_its_own_verdict_and_records() {
+    let [first, second] = Edition::ALL;
+    let [small, large] = [ONE_DIGIT, TWO_DIGITS].map(|fields| format!("no 0 {fields}"));
+    let comes_back = Some("the record comes back".to_string());
+    assert_eq!(fault(second, "M/d", "yes"), None);
+    assert_eq!(fault(second, "M/d", &large), comes_back);
+    assert_eq!(fault(first, "M5", &large), None);
+    assert_eq!(fault(first, "M5", &small), comes_back);
+    assert_eq!(fault(second, "M5", &small), None);
+    assert_eq!(fault(second, "M5", &large), comes_back);
+}
+
+#[test]
 fn a_refusal_is_held_to_its_line() {
     fine("d'", "refused 3 1");
     faulty("d'", "refused 3", "another answer");
@@ -88,25 +103,41 @@ fn a_refusal_is_held_to_its_line() {
 #[test]
 fn its_own_verdicts_are_without_difference() {
     let mut tally = CheckTally::new(1);
-    for request in CheckGenerator::new(1).take(400) {
+    for request in CheckGenerator::new(1, Edition::ALL.to_vec()).take(400) {
         let answer = verdict(&request, &mut Random::new(2)).to_string();
         tally.hold(&request.to_string(), &answer);
     }
-    tally.hold("check 64", "bad request");
+    for line in ["check 64", "check 64 2025 strict", "check 64 2025 first"] {
+        tally.hold(line, "bad request");
+    }
     assert!(tally.differences().are_none(), "{tally}");
 }
 
 #[test]
 fn generated_requests_read_back_from_their_lines() {
-    for request in CheckGenerator::new(1).take(10_000) {
+    for request in CheckGenerator::new(1, Edition::ALL.to_vec()).take(10_000) {
         assert_eq!(CheckRequest::from_line(&request.to_string()), Some(request));
+    }
+}
+
+#[test]
+fn each_pattern_is_asked_in_both_editions() {
+    let requests: Vec<_> = CheckGenerator::new(1, Edition::ALL.to_vec())
+        .take(1000)
+        .collect();
+    for pair in requests.chunks(2) {
+        let [first, second] = pair else {
+            panic!("{pair:?}")
+        };
+        assert_eq!([first.edition, second.edition], Edition::ALL);
+        assert_eq!(first.pattern, second.pattern);
     }
 }
 
 #[test]
 fn a_default_run_has_every_listed_pattern() {
     assert!(CheckGenerator::whole_list() >= 100_000);
-    let asked: HashSet<Vec<u8>> = CheckGenerator::new(1)
+    let asked: HashSet<Vec<u8>> = CheckGenerator::new(1, vec![Edition::Second])
         .take(CheckGenerator::whole_list())
         .map(|request| request.pattern)
         .collect();

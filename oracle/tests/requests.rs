@@ -1,6 +1,7 @@
 //! Which lines are requests, and what the generated ones are like.
 
 use harness::answer::answer;
+use harness::choices::{Choices, Edition};
 use harness::expected::{expected, Expected};
 use harness::generator::Generator;
 use harness::options::Options;
@@ -35,6 +36,15 @@ fn other_lines_are_bad_requests() {
         "split 79 strict".to_string(),
         format!("write 79 {FIELDS} 9 strict"),
         "parse_offset 5a strict".to_string(),
+        "read 79 39 2025 Second".to_string(),
+        "read 79 39 2025 first".to_string(),
+        "read 79 39 2025 second strict".to_string(),
+        "read 79 39 2025 second second".to_string(),
+        "read 79 39 2025 strict second ".to_string(),
+        "read_second 79 39 2025".to_string(),
+        "split 79 second".to_string(),
+        format!("write 79 {FIELDS} 9 second"),
+        "parse_offset 5a second".to_string(),
         "check 79 2025".to_string(),
     ];
     for line in lines {
@@ -56,20 +66,25 @@ fn the_same_seed_gives_the_same_requests() {
     assert!(run(1).ne(run(2)));
 }
 
+fn reads(chosen: impl Fn(Choices) -> bool) -> impl Iterator<Item = Op> {
+    let is_chosen = move |op: &Op| op.choices().is_some_and(&chosen);
+    Op::ALL.into_iter().filter(is_chosen)
+}
+
 #[test]
 fn over_a_third_of_the_reads_are_accepted() {
-    for op in [Op::Read, Op::ReadDate, Op::ReadStrict, Op::ReadDateStrict] {
+    for op in reads(|_| true) {
         let accepted = Generator::new(1, vec![op])
             .take(10_000)
             .filter(|request| matches!(expected(request), Expected::Accepted(_)))
             .count();
-        assert!(accepted > 3334, "{accepted} of 10000");
+        assert!(accepted > 3334, "{op:?}: {accepted} of 10000");
     }
 }
 
 #[test]
 fn a_tenth_of_the_strict_reads_differ_in_a_literal_and_a_twentieth_leaves_text() {
-    for op in [Op::ReadStrict, Op::ReadDateStrict] {
+    for op in reads(|choices| choices.strict) {
         let answers: Vec<Expected> = Generator::new(1, vec![op])
             .take(10_000)
             .map(|request| expected(&request))
@@ -80,6 +95,29 @@ fn a_tenth_of_the_strict_reads_differ_in_a_literal_and_a_twentieth_leaves_text()
         };
         assert!(refused("refused 15 ") > 1000, "{op:?}");
         assert!(refused("refused 16 ") > 500, "{op:?}");
+    }
+}
+
+/// The same request in the first edition.
+fn in_the_first(request: &Request) -> Request {
+    let mut first = request.clone();
+    if let Request::Read { choices, .. } = &mut first {
+        choices.edition = Edition::First;
+    }
+    first
+}
+
+#[test]
+fn a_twentieth_of_the_reads_in_the_second_edition_differ_from_the_first() {
+    for op in reads(|choices| choices.edition == Edition::Second) {
+        let requests = Generator::new(1, vec![op]).take(10_000);
+        let accepted = |answer: &Expected| matches!(answer, Expected::Accepted(_));
+        let differ = requests.filter(|request| {
+            let (second, first) = (expected(request), expected(&in_the_first(request)));
+            accepted(&second) && second != first
+        });
+        let count = differ.count();
+        assert!(count > 500, "{op:?}: {count} of 10000");
     }
 }
 
@@ -96,6 +134,32 @@ fn a_spread_out_sample_has_every_symbol_at_every_usual_count() {
 }
 
 #[test]
+fn a_spread_out_sample_has_every_op() {
+    let sample = spread_out_sample();
+    for op in Op::ALL {
+        let count = sample.iter().filter(|request| request.op() == op).count();
+        assert_eq!(count, sample.len() / Op::ALL.len(), "{op:?}");
+    }
+}
+
+#[test]
+fn an_option_of_another_program_is_refused() {
+    let words = |words: &[&str]| {
+        words
+            .iter()
+            .map(|word| word.to_string())
+            .collect::<Vec<_>>()
+    };
+    let edition = words(&["--edition", "second"]);
+    assert!(Options::of_requests(edition.clone().into_iter()).is_err());
+    assert!(Options::of_checks(edition.into_iter()).is_ok());
+    let ops = words(&["--ops", "read_second"]);
+    assert!(Options::of_checks(ops.clone().into_iter()).is_err());
+    assert!(Options::of_requests(ops.into_iter()).is_ok());
+    assert!(Options::of_checks(words(&["--edition", "third"]).into_iter()).is_err());
+}
+
+#[test]
 fn a_spread_out_sample_has_every_refusal() {
     let answers: Vec<Expected> = spread_out_sample().iter().map(expected).collect();
     for number in (1..=16).chain([19]) {
@@ -109,8 +173,8 @@ fn a_spread_out_sample_has_every_refusal() {
 
 /// The sample that hold-definitions takes.
 fn spread_out_sample() -> Vec<Request> {
-    let words = ["--count", "6144", "--every", "5"].map(String::from);
-    let options = Options::from_args(words.into_iter()).expect("these are options");
+    let words = ["--count", "9216", "--every", "5"].map(String::from);
+    let options = Options::of_requests(words.into_iter()).expect("these are options");
     options.generated().collect()
 }
 

@@ -2,6 +2,7 @@
 //! and which line the comparer asks of a program.
 
 use harness::answer::answer;
+use harness::choices::Choices;
 use harness::expected::{expected, Expected};
 use harness::request::{hex, Request};
 use harness::walk::Pair;
@@ -42,8 +43,7 @@ fn write(pattern: &str, fields: Fields) -> Request {
 
 fn read(pattern: &str, text: &str, now: i32) -> Request {
     Request::Read {
-        pair: Pair::Full,
-        strict: false,
+        choices: Choices::of(Pair::Full),
         pattern: pattern.into(),
         text: text.into(),
         now,
@@ -52,11 +52,19 @@ fn read(pattern: &str, text: &str, now: i32) -> Request {
 
 fn read_strictly(pair: Pair, pattern: &str, text: &str) -> Request {
     Request::Read {
-        pair,
-        strict: true,
+        choices: Choices::of(pair).strict(),
         pattern: pattern.into(),
         text: text.into(),
         now: 2025,
+    }
+}
+
+fn read_in_the_second(pair: Pair, pattern: &str, text: &str, now: i32) -> Request {
+    Request::Read {
+        choices: Choices::of(pair).second(),
+        pattern: pattern.into(),
+        text: text.into(),
+        now,
     }
 }
 
@@ -84,9 +92,31 @@ fn writes(pattern: &str, fields: Fields, text: &str) {
     accepted(&write(pattern, fields), &line);
 }
 
-/// The units that are read, each with its value and its span; all others are unread.
+type Units = [(usize, i64, Range<usize>)];
+
 #[track_caller]
-fn reads(request: &Request, taken_mask_count: &str, units: &[(usize, i64, Range<usize>)]) {
+fn reads(request: &Request, taken_mask_count: &str, units: &Units) {
+    accepted(request, &read_line(taken_mask_count, units));
+}
+
+/// The Rust has another edition, so only the expected line is looked at.
+#[track_caller]
+fn reads_in_the_second(
+    (pattern, text): (&str, &str),
+    now: i32,
+    taken_mask_count: &str,
+    units: &Units,
+) {
+    for pair in [Pair::Full, Pair::Date] {
+        assert_eq!(
+            expected(&read_in_the_second(pair, pattern, text, now)),
+            Expected::Accepted(read_line(taken_mask_count, units))
+        );
+    }
+}
+
+/// The units that are read, each with its value and its span; all others are unread.
+fn read_line(taken_mask_count: &str, units: &Units) -> String {
     let mut values = vec!["0".to_string(); 15];
     let mut spans = vec!["0:0".to_string(); 15];
     for (unit, value, span) in units {
@@ -94,7 +124,7 @@ fn reads(request: &Request, taken_mask_count: &str, units: &[(usize, i64, Range<
         spans[*unit] = format!("{}:{}", span.start, span.end);
     }
     let words = [values, spans].concat().join(" ");
-    accepted(request, &format!("read {taken_mask_count} {words}"));
+    format!("read {taken_mask_count} {words}")
 }
 
 #[track_caller]
@@ -166,8 +196,7 @@ fn a_span_is_all_that_the_part_took() {
     reads(&read("'of 'MMMM", "of December", 2025), "11 2 1", &december);
     reads(&read("eee d", "Wed 3", 2025), "5 4 1", &[(DAY, 3, 4..5)]);
     let by_date = Request::Read {
-        pair: Pair::Date,
-        strict: false,
+        choices: Choices::of(Pair::Date),
         pattern: "HH d".into(),
         text: "07 3".into(),
         now: 2025,
@@ -325,6 +354,80 @@ fn what_is_no_number_is_refused() {
 fn two_digit_years_are_read() {
     reads(&read("yy", "25", 2025), "2 1 1", &[(YEAR, 2025, 0..2)]);
     reads(&read("yy", "25", 1999), "2 1 1", &[(YEAR, 1025, 0..2)]);
+}
+
+#[test]
+fn a_single_month_is_read_as_a_day_in_the_second_edition() {
+    let month = |value, span| [(MONTH, value, span)];
+    reads_in_the_second(("M", "12"), 2025, "2 2 1", &month(12, 0..2));
+    reads_in_the_second(("M", "1/2"), 2025, "1 2 1", &month(1, 0..1));
+    reads_in_the_second(("MM", "123"), 2025, "2 2 1", &month(12, 0..2));
+    let both = [(DAY, 3, 0..1), (MONTH, 12, 2..4)];
+    reads_in_the_second(("d/M", "3/12"), 2025, "4 6 2", &both);
+    // Side by side they are still a month and a day.
+    let both = [(MONTH, 12, 0..2), (DAY, 3, 2..3)];
+    reads_in_the_second(("Md", "123"), 2025, "3 6 2", &both);
+    let both = [(DAY, 12, 0..2), (MONTH, 3, 2..3)];
+    reads_in_the_second(("dM", "123"), 2025, "3 6 2", &both);
+    reads_in_the_second(("'M'd", "x5"), 2025, "2 4 1", &[(DAY, 5, 1..2)]);
+}
+
+#[test]
+fn a_month_is_refused_as_a_day_in_the_second_edition() {
+    for text in ["", "x", "x5", "+", "+5", "-5"] {
+        for pair in [Pair::Full, Pair::Date] {
+            let month = expected(&read_in_the_second(pair, "M", text, 2025));
+            assert_eq!(month, expected(&read("d", text, 2025)), "{text}");
+            assert!(month.line().starts_with("refused "), "{text}");
+        }
+    }
+    let strict = |pattern: &str, text: &str| {
+        expected(&Request::Read {
+            choices: Choices::of(Pair::Full).strict().second(),
+            pattern: pattern.into(),
+            text: text.into(),
+            now: 2025,
+        })
+    };
+    let line = |number: &str| format!("refused {number}");
+    assert_eq!(strict("M", "123"), Expected::Strict(line("16 2")));
+    assert_eq!(strict("M/", "12-"), Expected::Strict(line("15 1 2")));
+    assert_eq!(strict("M/M", "12/+5"), Expected::Excepted(line("19 2 3")));
+}
+
+#[test]
+fn two_digits_are_the_year_around_the_current_one_in_the_second_edition() {
+    for (text, now, year) in [
+        ("44", 2025, 2044),
+        ("45", 2025, 1945),
+        ("00", 81, 100),
+        ("01", 81, 1),
+        ("18", 9999, 10_018),
+        ("19", 9999, 9919),
+        ("25", 1999, 1925),
+    ] {
+        reads_in_the_second(("yy", text), now, "2 1 1", &[(YEAR, year, 0..2)]);
+    }
+    reads_in_the_second(("yy", "-05"), 2025, "3 1 1", &[(YEAR, -5, 0..3)]);
+    reads_in_the_second(("yyyy", "45"), 2025, "2 1 1", &[(YEAR, 45, 0..2)]);
+    let plus = expected(&read_in_the_second(Pair::Full, "yy", "+5", 2025));
+    assert_eq!(plus, Expected::Excepted("refused 19 0 0".to_string()));
+}
+
+#[test]
+fn the_second_edition_refuses_more_current_years() {
+    let line = |pattern: &str, text: &str, now| {
+        let request = read_in_the_second(Pair::Full, pattern, text, now);
+        expected(&request).line().to_string()
+    };
+    for pattern in ["", "d", "yy"] {
+        for now in [0, 1, 80, 10_000] {
+            assert_eq!(line(pattern, "25", now), format!("refused 14 {now}"));
+        }
+        assert!(line(pattern, "25", 81).starts_with("read "));
+    }
+    assert_eq!(line("d'", "25", 80), "refused 3 1");
+    assert_eq!(line("d", &"2".repeat(2049), 80), "refused 14 80");
 }
 
 #[test]

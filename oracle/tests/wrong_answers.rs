@@ -1,7 +1,8 @@
 //! Both comparers on programs that answer: right answers pass, and one wrong, missing or needless answer among them is found.
 
 use harness::answer::as_pattern;
-use harness::check::verdict;
+use harness::check::{verdict, CheckRequest};
+use harness::choices::Edition;
 use harness::expected::expected;
 use harness::generator::{CheckGenerator, Generator, Random};
 use harness::request::{Op, Request};
@@ -43,16 +44,23 @@ fn right(request: &Request) -> String {
 }
 
 fn compare_check() -> Comparer {
-    let requests = || CheckGenerator::new(1).take(COUNT);
-    // As the comparer's own, so that a no shows the same record.
-    let mut random = Random::new(1);
     Comparer {
         path: env!("CARGO_BIN_EXE_compare_check"),
-        requests: requests().map(|request| request.to_string()).collect(),
-        answers: requests()
-            .map(|request| verdict(&request, &mut random).to_string())
-            .collect(),
+        requests: checks().map(|request| request.to_string()).collect(),
+        answers: verdicts(checks()),
     }
+}
+
+fn checks() -> impl Iterator<Item = CheckRequest> {
+    CheckGenerator::new(1, Edition::ALL.to_vec()).take(COUNT)
+}
+
+/// With the random records of the comparer's own, so that a no shows the same record.
+fn verdicts(requests: impl Iterator<Item = CheckRequest>) -> Vec<String> {
+    let mut random = Random::new(1);
+    requests
+        .map(|request| verdict(&request, &mut random).to_string())
+        .collect()
 }
 
 impl Comparer {
@@ -112,7 +120,7 @@ fn right_answers_pass() {
 #[test]
 fn one_wrong_answer_is_found_and_shown() {
     for comparer in [compare(), compare_check()] {
-        for place in [0, 1, 2, 3, 4, 5, 6, 7, COUNT / 2, COUNT - 1] {
+        for place in (0..Op::ALL.len()).chain([COUNT / 2, COUNT - 1]) {
             let right = &comparer.answers[place];
             for wrong in [format!("{right} 0"), right[1..].to_string(), String::new()] {
                 let mut answers = comparer.answers.clone();
@@ -146,15 +154,63 @@ fn is_found_out(name: &str, answer: impl Fn(&Request) -> String) {
 /// The same request, not strict.
 fn plain(request: &Request) -> Request {
     let mut plain = request.clone();
-    if let Request::Read { strict, .. } = &mut plain {
-        *strict = false;
+    if let Request::Read { choices, .. } = &mut plain {
+        choices.strict = false;
     }
     plain
+}
+
+/// The same request in the first edition.
+fn in_the_first(request: &Request) -> Request {
+    let mut first = request.clone();
+    if let Request::Read { choices, .. } = &mut first {
+        choices.edition = Edition::First;
+    }
+    first
 }
 
 #[test]
 fn a_program_that_is_never_strict_is_found_out() {
     is_found_out("never_strict", |request| right(&plain(request)));
+}
+
+#[test]
+fn a_program_that_reads_in_the_first_edition_alone_is_found_out() {
+    is_found_out("first_edition", |request| right(&in_the_first(request)));
+}
+
+/// One of the two changes alone is found out as well.
+#[test]
+fn a_program_that_reads_a_single_month_or_a_short_year_as_before_is_found_out() {
+    for (name, part) in [("months_as_before", "M"), ("years_as_before", "yy")] {
+        let has = |request: &Request| match request {
+            Request::Read { pattern, .. } => as_pattern(pattern).is_some_and(|pattern| {
+                let bytes = |part: &Part| &pattern[part.start..part.start + part.length];
+                walk::split(pattern)
+                    .iter()
+                    .any(|found| bytes(found) == part)
+            }),
+            _ => false,
+        };
+        is_found_out(name, |request| match has(request) {
+            true => right(&in_the_first(request)),
+            false => right(request),
+        });
+    }
+}
+
+#[test]
+fn a_program_that_checks_in_the_first_edition_alone_is_found_out() {
+    let first = checks().map(|request| CheckRequest {
+        edition: Edition::First,
+        ..request
+    });
+    let outcome = compare_check().with_answers("first_edition", &verdicts(first), "");
+    assert_eq!(outcome.status, Some(1), "{}", outcome.printed);
+    assert!(outcome.differences() > 0, "{}", outcome.printed);
+    let shown = outcome.printed.lines();
+    let mut requests = shown.filter(|line| line.starts_with("request  "));
+    assert!(requests.all(|line| line.ends_with(" second")));
 }
 
 /// The right answer, but that each span in it is changed, by its unit.

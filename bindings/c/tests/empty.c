@@ -64,11 +64,11 @@ static void with_choices(uint32_t choices) {
 }
 
 static void by_choices(void) {
-    for (uint32_t choices = 0; choices <= SHEET_DATE_PAIR + SHEET_STRICT; choices++)
+    for (uint32_t choices = 0; choices <= SHEET_DATE_PAIR + SHEET_STRICT + SHEET_SECOND_EDITION; choices++)
         with_choices(choices);
     GIVES(read_with(SHEET_DATE_PAIR, NULL, 0, TEXT, 2, answer, SHEET_READ_ANSWER), SHEET_ACCEPTED, 0, 0);
     GIVES(read_with(SHEET_STRICT, NULL, 0, TEXT, 2, answer, SHEET_READ_ANSWER), SHEET_TEXT_LEFT, 0, 0);
-    GIVES(read_with(4, NULL, 0, NULL, 0, NULL, 0), SHEET_NO_SUCH_CHOICE, MARK, MARK);
+    GIVES(read_with(8, NULL, 0, NULL, 0, NULL, 0), SHEET_NO_SUCH_CHOICE, MARK, MARK);
 }
 
 static void by_others(void) {
@@ -82,6 +82,9 @@ static void by_others(void) {
     GIVES(sheet_units(PATTERN, 2, answer, 2, NULL, 0), SHEET_ROW_TOO_SMALL, MARK, MARK);
     GIVES(sheet_check(NULL, 0, 2025, answer, SHEET_CHECK_ANSWER), SHEET_ACCEPTED, 1, 0);
     GIVES(sheet_check(PATTERN, 2, 2025, NULL, 0), SHEET_ROW_TOO_SMALL, MARK, MARK);
+    GIVES(sheet_check_with(SHEET_SECOND_EDITION, NULL, 0, 2025, answer, SHEET_CHECK_ANSWER), SHEET_ACCEPTED, 1, 0);
+    GIVES(sheet_check_with(SHEET_SECOND_EDITION, PATTERN, 2, 2025, NULL, 0), SHEET_ROW_TOO_SMALL, MARK, MARK);
+    GIVES(sheet_check_with(SHEET_DATE_PAIR, NULL, 0, 2025, NULL, 0), SHEET_NO_SUCH_CHOICE, MARK, MARK);
 }
 
 int main(void) {

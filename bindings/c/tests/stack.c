@@ -49,7 +49,7 @@ static void write_and_read_with(size_t length) {
     if (write_into(length, SHEET_LONGEST_TEXT) != SHEET_ACCEPTED)
         return;
     size_t written = (size_t)answer[0];
-    for (uint32_t choices = 0; choices <= SHEET_DATE_PAIR + SHEET_STRICT; choices++)
+    for (uint32_t choices = 0; choices <= SHEET_DATE_PAIR + SHEET_STRICT + SHEET_SECOND_EDITION; choices++)
         sheet_read_with(choices, pattern, length, text, written, 2025, answer, SHEET_READ_ANSWER);
 }
 
@@ -63,6 +63,7 @@ static void tell_units(size_t length) {
 
 static void check(size_t length) {
     sheet_check(pattern, length, 2025, answer, SHEET_CHECK_ANSWER);
+    sheet_check_with(SHEET_SECOND_EDITION, pattern, length, 2025, answer, SHEET_CHECK_ANSWER);
 }
 
 static void parse_offset(size_t length) {

@@ -1,4 +1,5 @@
-use crate::{raw, read_with, split, Choices, Kind, Part, Refusal};
+use crate::refusal::current_years;
+use crate::{raw, read_with, split, Choices, Edition, Kind, Part, Refusal};
 
 const DATE_SYMBOLS: &[u8] = b"GyqMwdDe";
 const SYMBOLS: &[u8] = b"GyqMwdDeabhKHkmsnXx";
@@ -31,7 +32,8 @@ pub fn explain_date(pattern: impl AsRef<[u8]>, text: impl AsRef<[u8]>, refusal: 
     explain_with(Choices::new().date(), pattern, text, refusal)
 }
 
-/// Says the same of a text that [`read_with`] refused with the same choices, and of what it left over.
+/// Says the same of a text that [`read_with`] refused with the same choices, of what it left over, and of a current year that is
+/// not one of the edition.
 ///
 /// ```
 /// use sheet::{explain_with, read_with, Choices};
@@ -45,6 +47,9 @@ pub fn explain_with(choices: Choices, pattern: impl AsRef<[u8]>, text: impl AsRe
     let sentence = match (refusal.number(), refusal.details()) {
         (raw::LITERAL_DIFFERS | raw::TEXT_LEFT, _) if !choices.strict => None,
         (raw::TEXT_LEFT, &[place]) => of_a_rest(text.as_ref(), place as usize),
+        (raw::CURRENT_YEAR, &[year]) if choices.edition == Edition::Second => {
+            Some(format!("{}: it is {year}", current_years(choices.edition)))
+        }
         (_, &[part, place]) => of_a_part(choices, pattern.as_ref(), text.as_ref(), part as usize, place as usize),
         _ => None,
     };
@@ -97,7 +102,7 @@ struct Want {
 fn wanted(choices: Choices, part: &Part, pattern: &[u8], from: usize) -> Want {
     let symbols = if choices.date { DATE_SYMBOLS } else { SYMBOLS };
     match (part.kind, pattern[part.start]) {
-        (Kind::Run, symbol) if symbols.contains(&symbol) => wanted_by(symbol, part.length),
+        (Kind::Run, symbol) if symbols.contains(&symbol) => wanted_by(choices.edition, symbol, part.length),
         _ => {
             let literal = stands_for(part.kind, &pattern[part.range()]);
             if choices.strict {
@@ -109,9 +114,10 @@ fn wanted(choices: Choices, part: &Part, pattern: &[u8], from: usize) -> Want {
     }
 }
 
-/// What each symbol wants at each count, as the specification's table says.
-fn wanted_by(symbol: u8, count: usize) -> Want {
+/// What each symbol wants at each count, as the specification's table says; in the second edition a single M as much as d.
+fn wanted_by(edition: Edition, symbol: u8, count: usize) -> Want {
     match (symbol, count) {
+        (b'M', 1) if edition == Edition::Second => digits(1, 2),
         (b'G', 1..=3) => bytes(2, 2),
         (b'G', 5) => bytes(1, 1),
         (b'G', _) => words("`Before Christ` or `Anno Domini`", 13),
@@ -229,7 +235,7 @@ fn shown(bytes: &[u8], from: usize) -> String {
 #[cfg(test)]
 mod tests {
     use super::{stands_for, wanted_by, SYMBOLS};
-    use crate::{read, read_with, split, write, Choices, Fields};
+    use crate::{read, read_with, split, write, Choices, Edition, Fields};
 
     const R: Fields = Fields {
         year: -2025,
@@ -243,28 +249,38 @@ mod tests {
     };
 
     /// Of digits, of a negative number, and of the longest text that is written.
-    fn taken_at_most(pattern: &[u8]) -> usize {
+    fn taken_at_most(choices: Choices, pattern: &[u8]) -> usize {
         let texts = [
             "1".repeat(20),
             "-".to_string() + &"0".repeat(300),
             write(pattern, &R).expect("R can be written"),
         ];
-        let taken = texts.iter().filter_map(|text| read(pattern, text, 2025).ok());
+        let taken = texts
+            .iter()
+            .filter_map(|text| read_with(choices, pattern, text, 2025).ok());
         taken.map(|reading| reading.taken).max().expect("one can be read")
     }
 
     /// A year that takes all digits has no most; of it as much is shown as the longest year has.
     #[test]
     fn as_much_is_shown_as_can_be_taken() {
-        for symbol in SYMBOLS {
-            for count in (1..=12).chain([20, 255, 256]) {
-                let most = wanted_by(*symbol, count).most;
-                match (symbol, count) {
-                    (b'y', 1 | 3 | 4) => assert_eq!(most, i32::MIN.to_string().len()),
-                    _ => assert_eq!(taken_at_most(&vec![*symbol; count]), most, "{symbol} {count}"),
+        for edition in [Edition::First, Edition::Second] {
+            for symbol in SYMBOLS {
+                for count in (1..=12).chain([20, 255, 256]) {
+                    is_shown_as_it_is_taken(edition, *symbol, count);
                 }
             }
         }
+    }
+
+    #[track_caller]
+    fn is_shown_as_it_is_taken(edition: Edition, symbol: u8, count: usize) {
+        let most = wanted_by(edition, symbol, count).most;
+        let taken = match (symbol, count) {
+            (b'y', 1 | 3 | 4) => i32::MIN.to_string().len(),
+            _ => taken_at_most(Choices::new().edition(edition), &vec![symbol; count]),
+        };
+        assert_eq!(taken, most, "{edition:?} {symbol} {count}");
     }
 
     /// A strict read takes just what all literals stand for, and any read takes as many bytes.

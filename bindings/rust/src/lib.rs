@@ -12,8 +12,8 @@ mod writing;
 
 pub mod raw;
 
-pub use checking::{check, Verdict};
-pub use choices::Choices;
+pub use checking::{check, check_with, Verdict};
+pub use choices::{Choices, Edition};
 pub use explaining::{explain, explain_date, explain_with};
 pub use fields::Fields;
 pub use reading::{parse_offset, read, read_date, read_with, ParseUnit, Reading};

@@ -29,7 +29,7 @@ pub const SPLIT_PARTS: usize = 768;
 pub const UNITS_ANSWER: usize = 2;
 /// How many entries of `units` [`sheet_units`] asks for.
 pub const UNITS_ROW: usize = 256;
-/// How many entries of `answer` [`sheet_check`] asks for.
+/// How many entries of `answer` a check asks for.
 pub const CHECK_ANSWER: usize = 10;
 
 /// What is returned where an answer is accepted.
@@ -63,6 +63,8 @@ pub const NO_SUCH_CHOICE: u32 = 101;
 pub const DATE_PAIR: u32 = 1;
 /// Among the choices of [`sheet_read_with`]: a strict reading.
 pub const STRICT: u32 = 2;
+/// Among the choices of [`sheet_read_with`] and of [`sheet_check_with`]: the second edition.
+pub const SECOND_EDITION: u32 = 4;
 
 /// In the place of a unit: a part that is a literal.
 pub const LITERAL: i64 = -1;
@@ -170,6 +172,14 @@ extern "C" {
         units_len: usize,
     ) -> u32;
     pub fn sheet_check(pattern: *const u8, pattern_len: usize, year: i32, answer: *mut i64, answer_len: usize) -> u32;
+    pub fn sheet_check_with(
+        choices: u32,
+        pattern: *const u8,
+        pattern_len: usize,
+        year: i32,
+        answer: *mut i64,
+        answer_len: usize,
+    ) -> u32;
 }
 
 /// What a number that was returned says, in words that need no details.
@@ -189,7 +199,7 @@ pub fn refusal_text(number: u32) -> &'static str {
         NO_SIGN => "the text has no sign of a zone where one should stand",
         OFFSET_LENGTH => "the offset has another length than +05:30, and does not begin with Z",
         OFFSET_RANGE => "the hour or the minute of the offset is too large",
-        CURRENT_YEAR => "the current year is not from 1 to 9999",
+        CURRENT_YEAR => "the current year is not from 1 to 9999, or from 81 in the second edition",
         LITERAL_DIFFERS => "the text differs from the literal that should stand there",
         TEXT_LEFT => "the text goes on where the pattern ends",
         PLUS_SIGN => "the text has a plus in front of a number",

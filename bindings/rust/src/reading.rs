@@ -144,7 +144,7 @@ pub fn read_date(pattern: impl AsRef<[u8]>, text: impl AsRef<[u8]>, current_year
 }
 
 /// Reads a text by a pattern, with [choices](Choices). Refuses as [`read`] does; where it is strict also with 15 at a literal that
-/// differs, and behind the last part with 16.
+/// differs, and behind the last part with 16; in the second [edition](crate::Edition) also with 14 for the current years 1 to 80.
 ///
 /// ```
 /// use sheet::{read_with, Choices};

@@ -1,4 +1,4 @@
-use crate::raw;
+use crate::{raw, Edition};
 use std::error::Error;
 use std::fmt;
 
@@ -19,7 +19,7 @@ use std::fmt;
 /// | 11 | there is no sign of a zone | part, place |
 /// | 12 | an offset by itself has not 6 bytes | the length |
 /// | 13 | an offset's hour or minute is too large | 1 or 2 |
-/// | 14 | the current year is not 1 to 9999 | that year |
+/// | 14 | the current year is not 1 to 9999, in the second edition 81 to 9999 | that year |
 /// | 15 | a literal differs, in a strict read | part, place |
 /// | 16 | text is left over, in a strict read | place of its first byte |
 /// | 19 | a number begins with a plus | part, place |
@@ -51,6 +51,14 @@ const FIELDS: [(&str, &str); 8] = [
     ("offset", "-86,399 to 86,399 seconds"),
 ];
 
+/// Refusal 14 in words. The years 1 to 80 are refused in the second edition alone, all others that are refused in both.
+pub(crate) fn current_years(edition: Edition) -> &'static str {
+    match edition {
+        Edition::First => "the current year is not from 1 to 9999",
+        Edition::Second => "the current year is not from 81 to 9999",
+    }
+}
+
 impl Refusal {
     /// The number, 1 to 16 or 19.
     pub fn number(&self) -> u32 {
@@ -59,7 +67,11 @@ impl Refusal {
 
     /// What the number says, without the details.
     pub fn text(&self) -> &'static str {
-        raw::refusal_text(self.number)
+        match (self.number, self.details[0]) {
+            (raw::CURRENT_YEAR, 1..=80) => current_years(Edition::Second),
+            (raw::CURRENT_YEAR, _) => current_years(Edition::First),
+            (number, _) => raw::refusal_text(number),
+        }
     }
 
     /// What is returned with the number, one or two details.

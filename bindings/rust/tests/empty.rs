@@ -88,6 +88,12 @@ fn check(pattern: &[u8], answer: &mut [i64]) -> u32 {
     unsafe { raw::sheet_check(pattern, length, YEAR, answer, entries) }
 }
 
+fn check_with(choices: u32, pattern: &[u8], answer: &mut [i64]) -> u32 {
+    let ((pattern, length), (answer, entries)) = (lent(pattern), row(answer));
+    // SAFETY: as for a write.
+    unsafe { raw::sheet_check_with(choices, pattern, length, YEAR, answer, entries) }
+}
+
 #[test]
 fn of_the_writers() {
     for writer in [raw::sheet_write as Writer, raw::sheet_write_date] {
@@ -110,7 +116,12 @@ fn of_the_readers() {
 
 #[test]
 fn of_the_reader_with_choices() {
-    for choices in [0, raw::DATE_PAIR] {
+    for choices in [
+        0,
+        raw::DATE_PAIR,
+        raw::SECOND_EDITION,
+        raw::DATE_PAIR + raw::SECOND_EDITION,
+    ] {
         let strict = choices + raw::STRICT;
         reads_nothing(|row| read_with(choices, b"", b"03", row), raw::ACCEPTED);
         reads_nothing(|row| read_with(strict, b"", b"03", row), raw::TEXT_LEFT);
@@ -120,13 +131,15 @@ fn of_the_reader_with_choices() {
             reads_nothing(|row| read_with(choices, b"y", b"", row), raw::NO_NUMBER);
         }
     }
-    assert_eq!(read_with(4, b"", b"", &mut []), raw::NO_SUCH_CHOICE);
+    assert_eq!(read_with(8, b"", b"", &mut []), raw::NO_SUCH_CHOICE);
 }
 
 #[test]
 fn of_the_others() {
     gives(|row| parse_offset(b"", row), raw::OFFSET_LENGTH, 0, 0);
     gives(|row| check(b"", row), raw::ACCEPTED, 1, 0);
+    gives(|row| check_with(raw::SECOND_EDITION, b"", row), raw::ACCEPTED, 1, 0);
+    assert_eq!(check_with(raw::DATE_PAIR, b"", &mut []), raw::NO_SUCH_CHOICE);
     gives(
         |row| split(b"", row, &mut [MARK; raw::SPLIT_PARTS]),
         raw::ACCEPTED,

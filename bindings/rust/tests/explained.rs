@@ -1,6 +1,9 @@
 //! What is said of a refused read: what stood there and what was wanted.
 
-use sheet::{check, explain, explain_date, explain_with, parse_offset, read, read_date, read_with, Choices, Refusal};
+use sheet::{
+    check, check_with, explain, explain_date, explain_with, parse_offset, read, read_date, read_with, Choices, Edition,
+    Refusal,
+};
 
 const SENTENCES: &str = include_str!("explained.tsv");
 const SYMBOLS: &[u8] = b"GyqMwdDeabhKHkmsnXx";
@@ -76,6 +79,38 @@ fn of_dates_read_strictly() {
     );
 }
 
+/// In the second edition a single M wants what d wants; all else is said as in the first.
+#[test]
+fn of_the_second_edition() {
+    let second = Choices::new().edition(Edition::Second);
+    assert_eq!(explained("M", "x5"), "`M` needs one digit, found `x`");
+    assert_eq!(
+        explained_with(second, "M", "x5"),
+        "`M` needs one or two digits, found `x5`"
+    );
+    // Shown from behind the two digits that the month took.
+    assert_eq!(
+        explained_with(second, "M dd", "12 3"),
+        "`dd` needs two digits, found `3`"
+    );
+    for (pattern, text) in [("yy", "5"), ("MM", "5"), ("d", "x5"), ("MMM", "Dez"), ("HH", "7")] {
+        assert_eq!(explained_with(second, pattern, text), explained(pattern, text));
+    }
+    assert_eq!(explained_with(second.strict(), "M/", "12-"), "`/` needs `/`, found `-`");
+}
+
+/// With the edition at hand its years are named; without it, those of an edition that refuses that year.
+#[test]
+fn of_a_current_year() {
+    let second = Choices::new().edition(Edition::Second);
+    for (year, printed) in [(0, 1), (80, 81), (10_000, 1)] {
+        let refusal = check_with(Edition::Second, "d", year).expect_err("this is refused");
+        let sentence = |first: i32| format!("the current year is not from {first} to 9999: it is {year}");
+        assert_eq!(explain_with(second, "d", "3", &refusal), sentence(81));
+        assert_eq!(explain("d", "3", &refusal), sentence(printed));
+    }
+}
+
 /// Of what only a strict read refuses nothing more is known to others, and of what is not left over nothing can be shown.
 #[test]
 fn refusals_of_strict_reads_are_said_to_others_as_they_print() {
@@ -139,18 +174,21 @@ fn anything_is_explained() {
             .collect()
     };
     let strict = Choices::new().strict();
+    let second = Choices::new().edition(Edition::Second);
     let mut refusals: Vec<Refusal> = vec![check("'", 2025).expect_err("this is refused")];
     for _ in 0..20_000 {
         let (pattern, text) = (some_bytes(12), some_bytes(16));
         refusals.extend(read(&pattern, &text, 2025).err());
         refusals.extend(read_date(&pattern, &text, 2025).err());
         refusals.extend(read_with(strict, &pattern, &text, 2025).err());
-        let start = refusals.len().saturating_sub(6);
+        refusals.extend(read_with(second, &pattern, &text, 2025).err());
+        let start = refusals.len().saturating_sub(8);
         for refusal in &refusals[start..] {
             for sentence in [
                 explain(&pattern, &text, refusal),
                 explain_date(&pattern, &text, refusal),
                 explain_with(strict, &pattern, &text, refusal),
+                explain_with(second, &pattern, &text, refusal),
             ] {
                 assert!(sentence.bytes().all(|byte| (b' '..=b'~').contains(&byte)), "{sentence}");
             }

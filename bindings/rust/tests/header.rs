@@ -87,7 +87,7 @@ fn constants() {
     ours.extend(of_raw!(SPLIT_ANSWER SPLIT_PARTS UNITS_ANSWER UNITS_ROW LITERAL CARRIES_NOTHING));
     ours.extend(of_raw!(ACCEPTED PATTERN_TOO_LONG PATTERN_BYTE LONE_QUOTE FIELD_RANGE NO_ROOM TEXT_TOO_LONG TEXT_BYTE));
     ours.extend(of_raw!(TOO_FEW NO_NUMBER NO_NAME NO_SIGN OFFSET_LENGTH OFFSET_RANGE CURRENT_YEAR PLUS_SIGN));
-    ours.extend(of_raw!(LITERAL_DIFFERS TEXT_LEFT ROW_TOO_SMALL NO_SUCH_CHOICE DATE_PAIR STRICT));
+    ours.extend(of_raw!(LITERAL_DIFFERS TEXT_LEFT ROW_TOO_SMALL NO_SUCH_CHOICE DATE_PAIR STRICT SECOND_EDITION));
     ours.extend(ParseUnit::ALL.map(|unit| (in_capitals(unit), unit as i64)));
     ours.extend([Kind::Run, Kind::Quotes, Kind::Quoted, Kind::Open].map(|kind| (in_capitals(kind), kind as i64)));
     assert_eq!(defined(), ours);

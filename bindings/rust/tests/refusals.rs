@@ -1,6 +1,8 @@
 //! Each refusal, by a call that gives it: its number, its details and its sentence.
 
-use sheet::{check, parse_offset, read, read_with, split, write, write_into, Choices, Fields, Refusal};
+use sheet::{
+    check, check_with, parse_offset, read, read_with, split, write, write_into, Choices, Edition, Fields, Refusal,
+};
 use std::error::Error;
 use std::fmt::Debug;
 
@@ -199,6 +201,45 @@ fn of_a_current_year() {
         &[-1],
         "the current year is not from 1 to 9999: it is -1",
     );
+}
+
+/// The years 1 to 80, which the first edition takes, whatever the pattern has.
+#[test]
+fn of_a_current_year_in_the_second_edition() {
+    let second = Choices::new().edition(Edition::Second);
+    for (year, first) in [(-1, 1), (0, 1), (1, 81), (80, 81), (10_000, 1)] {
+        let sentence = format!("the current year is not from {first} to 9999: it is {year}");
+        for pattern in ["", "d", "yy", "M"] {
+            let details = [i64::from(year)];
+            refused(check_with(Edition::Second, pattern, year), 14, &details, &sentence);
+            for choices in [second, second.date(), second.strict(), second.date().strict()] {
+                refused(read_with(choices, pattern, "25", year), 14, &details, &sentence);
+            }
+        }
+    }
+    for year in [1, 80] {
+        assert!(check("d", year).is_ok() && check_with(Edition::First, "d", year).is_ok());
+        assert!(read("yy", "25", year).is_ok() && read_with(Choices::new(), "yy", "25", year).is_ok());
+    }
+    for year in [81, 9999] {
+        assert!(check_with(Edition::Second, "yy", year).is_ok());
+        assert!(read_with(second, "yy", "25", year).is_ok());
+    }
+}
+
+/// Behind 1, 2 and 3, and before 6 and 7.
+#[test]
+fn of_a_current_year_among_others() {
+    let second = Choices::new().edition(Edition::Second);
+    let number = |pattern: &str, text: &str| read_with(second, pattern, text, 80).map_err(|refusal| refusal.number());
+    let checked = |pattern: &str| check_with(Edition::Second, pattern, 80).map_err(|refusal| refusal.number());
+    for (pattern, earlier) in [("d".repeat(257), 1), ("\0'".to_string(), 2), ("d'".to_string(), 3)] {
+        assert_eq!(number(&pattern, ""), Err(earlier));
+        assert_eq!(checked(&pattern), Err(earlier));
+    }
+    for text in ["3".repeat(2049), "\u{e9}".to_string(), String::new()] {
+        assert_eq!(number("d", &text), Err(14));
+    }
 }
 
 #[test]

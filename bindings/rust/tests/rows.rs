@@ -8,6 +8,9 @@ const MARK: i64 = -77;
 const BYTE: u8 = 255;
 const REST: usize = 3;
 
+/// The last of the numbers that stand for choices.
+const ALL_CHOICES: u32 = raw::DATE_PAIR + raw::STRICT + raw::SECOND_EDITION;
+
 /// The function asks for so many entries: it refuses fewer, and alters all of these and none behind them.
 #[track_caller]
 fn asks_for(entries: usize, number: u32, mut call: impl FnMut(&mut [i64]) -> u32) {
@@ -80,9 +83,15 @@ fn units(pattern: &[u8], answer: &mut [i64], units: &mut [i64]) -> u32 {
     unsafe { raw::sheet_units(pattern.as_ptr(), pattern.len(), row, answer.len(), entries, units.len()) }
 }
 
-fn check(pattern: &[u8], answer: &mut [i64]) -> u32 {
+fn check(pattern: &[u8], year: i32, answer: &mut [i64]) -> u32 {
     // SAFETY: each pointer goes with the length of the slice that it comes from.
-    unsafe { raw::sheet_check(pattern.as_ptr(), pattern.len(), 2025, answer.as_mut_ptr(), answer.len()) }
+    unsafe { raw::sheet_check(pattern.as_ptr(), pattern.len(), year, answer.as_mut_ptr(), answer.len()) }
+}
+
+fn check_with(choices: u32, pattern: &[u8], year: i32, answer: &mut [i64]) -> u32 {
+    let (row, entries) = (answer.as_mut_ptr(), answer.len());
+    // SAFETY: each pointer goes with the length of the slice that it comes from.
+    unsafe { raw::sheet_check_with(choices, pattern.as_ptr(), pattern.len(), year, row, entries) }
 }
 
 #[test]
@@ -112,7 +121,7 @@ fn of_the_readers() {
     }
 }
 
-fn read_with(choices: u32, pattern: &[u8], text: &[u8], answer: &mut [i64]) -> u32 {
+fn read_with(choices: u32, pattern: &[u8], text: &[u8], year: i32, answer: &mut [i64]) -> u32 {
     let answer_len = answer.len();
     // SAFETY: each pointer goes with the length of the slice that it comes from.
     unsafe {
@@ -122,7 +131,7 @@ fn read_with(choices: u32, pattern: &[u8], text: &[u8], answer: &mut [i64]) -> u
             pattern.len(),
             text.as_ptr(),
             text.len(),
-            2025,
+            year,
             answer.as_mut_ptr(),
             answer_len,
         )
@@ -131,14 +140,23 @@ fn read_with(choices: u32, pattern: &[u8], text: &[u8], answer: &mut [i64]) -> u
 
 #[test]
 fn of_the_reader_with_choices() {
-    for choices in 0..=raw::DATE_PAIR + raw::STRICT {
+    for choices in 0..=ALL_CHOICES {
         asks_for(raw::READ_ANSWER, raw::ACCEPTED, |row| {
-            read_with(choices, b"dd", b"03", row)
+            read_with(choices, b"dd", b"03", 2025, row)
         });
-        asks_for(raw::READ_ANSWER, 8, |row| read_with(choices, b"dd", b"3", row));
+        asks_for(raw::READ_ANSWER, 8, |row| read_with(choices, b"dd", b"3", 2025, row));
+        asks_for(raw::READ_ANSWER, 14, |row| read_with(choices, b"dd", b"03", 0, row));
         let of_a_rest = if choices & raw::STRICT == 0 { raw::ACCEPTED } else { 16 };
         asks_for(raw::READ_ANSWER, of_a_rest, |row| {
-            read_with(choices, b"dd", b"03/", row)
+            read_with(choices, b"dd", b"03/", 2025, row)
+        });
+        let of_an_early_year = if choices & raw::SECOND_EDITION == 0 {
+            raw::ACCEPTED
+        } else {
+            14
+        };
+        asks_for(raw::READ_ANSWER, of_an_early_year, |row| {
+            read_with(choices, b"dd", b"03", 80, row)
         });
     }
 }
@@ -146,7 +164,7 @@ fn of_the_reader_with_choices() {
 /// What is returned, and a row that was full of marks.
 fn row_left(choices: u32, pattern: &str, text: &str) -> (u32, [i64; raw::READ_ANSWER]) {
     let mut row = [MARK; raw::READ_ANSWER];
-    let number = read_with(choices, pattern.as_bytes(), text.as_bytes(), &mut row);
+    let number = read_with(choices, pattern.as_bytes(), text.as_bytes(), 2025, &mut row);
     (number, row)
 }
 
@@ -158,8 +176,28 @@ fn what_a_reading_has_where() {
     row[raw::READ_VALUES + day] = 14;
     row[raw::READ_STARTS + day] = 2;
     row[raw::READ_ENDS + day] = 4;
-    for choices in 0..=raw::DATE_PAIR + raw::STRICT {
+    for choices in 0..=ALL_CHOICES {
         assert_eq!(row_left(choices, "d d", "3 14"), (raw::ACCEPTED, row));
+    }
+}
+
+/// What `yy.M` reads of `45.12`: by the edition one byte of the month or two, and another year.
+#[test]
+fn what_a_reading_has_in_each_edition() {
+    let of_both = |taken: usize, year: i64, month: i64| {
+        let mut row = [0; raw::READ_ANSWER];
+        row[..raw::READ_VALUES].copy_from_slice(&[taken as i64, 3, 2]);
+        row[raw::READ_VALUES..][..2].copy_from_slice(&[year, month]);
+        row[raw::READ_STARTS..][..2].copy_from_slice(&[0, 3]);
+        row[raw::READ_ENDS..][..2].copy_from_slice(&[2, taken as i64]);
+        (raw::ACCEPTED, row)
+    };
+    for pair in [0, raw::DATE_PAIR] {
+        assert_eq!(row_left(pair, "yy.M", "45.12"), of_both(4, 2045, 1));
+        for choices in [pair, pair + raw::STRICT] {
+            let second = choices + raw::SECOND_EDITION;
+            assert_eq!(row_left(second, "yy.M", "45.12"), of_both(5, 1945, 12));
+        }
     }
 }
 
@@ -171,13 +209,18 @@ fn what_a_refused_read_has_where() {
         row[..details.len()].copy_from_slice(details);
         (number, row)
     };
-    for pair in [0, raw::DATE_PAIR] {
-        for choices in [pair, pair + raw::STRICT] {
+    for plain in [
+        0,
+        raw::DATE_PAIR,
+        raw::SECOND_EDITION,
+        raw::DATE_PAIR + raw::SECOND_EDITION,
+    ] {
+        for choices in [plain, plain + raw::STRICT] {
             assert_eq!(row_left(choices, "d/MM", "3/x"), refused(raw::TOO_FEW, &[2, 2]));
             assert_eq!(row_left(choices, "d/MM", "3/xy"), refused(raw::NO_NUMBER, &[2, 2]));
             assert_eq!(row_left(choices, "d/MM", "3/+5"), refused(raw::PLUS_SIGN, &[2, 2]));
         }
-        let strict = pair + raw::STRICT;
+        let strict = plain + raw::STRICT;
         assert_eq!(row_left(strict, "dd-", "03/"), refused(raw::LITERAL_DIFFERS, &[1, 2]));
         assert_eq!(row_left(strict, "dd", "03/"), refused(raw::TEXT_LEFT, &[2]));
     }
@@ -186,10 +229,28 @@ fn what_a_refused_read_has_where() {
 /// A number that stands for no choices is refused whatever the row's size is, and alters none of it.
 #[test]
 fn of_no_such_choice() {
-    for choices in [4, 5, 7, 8, 1 << 16, u32::MAX] {
+    for choices in [8, 9, 12, 15, 16, 1 << 16, u32::MAX] {
         for entries in [0, 1, raw::READ_ANSWER - 1, raw::READ_ANSWER, raw::READ_ANSWER + REST] {
             let mut row = vec![MARK; entries];
-            assert_eq!(read_with(choices, b"dd", b"03", &mut row), raw::NO_SUCH_CHOICE);
+            for year in [0, 2025] {
+                let number = read_with(choices, b"dd", b"03", year, &mut row);
+                assert_eq!(number, raw::NO_SUCH_CHOICE);
+            }
+            assert_eq!(row, vec![MARK; entries]);
+        }
+    }
+}
+
+/// As of a reader, and of each number with the Date pair.
+#[test]
+fn of_no_such_choice_of_a_check() {
+    for choices in [1, 3, 5, 7, 8, 9, 10, 12, 14, 1 << 16, u32::MAX - 1, u32::MAX] {
+        for entries in [0, 1, raw::CHECK_ANSWER - 1, raw::CHECK_ANSWER, raw::CHECK_ANSWER + REST] {
+            let mut row = vec![MARK; entries];
+            for (pattern, year) in [(b"dd", 2025), (b"d'", 2025), (b"dd", 0)] {
+                let number = check_with(choices, pattern, year, &mut row);
+                assert_eq!(number, raw::NO_SUCH_CHOICE);
+            }
             assert_eq!(row, vec![MARK; entries]);
         }
     }
@@ -203,9 +264,57 @@ fn of_parse_offset() {
 
 #[test]
 fn of_the_check() {
-    asks_for(raw::CHECK_ANSWER, raw::ACCEPTED, |row| check(b"dd", row));
-    asks_for(raw::CHECK_ANSWER, raw::ACCEPTED, |row| check(b"M", row));
-    asks_for(raw::CHECK_ANSWER, 3, |row| check(b"'", row));
+    asks_for(raw::CHECK_ANSWER, raw::ACCEPTED, |row| check(b"dd", 2025, row));
+    asks_for(raw::CHECK_ANSWER, raw::ACCEPTED, |row| check(b"M", 2025, row));
+    asks_for(raw::CHECK_ANSWER, 3, |row| check(b"'", 2025, row));
+}
+
+#[test]
+fn of_the_check_with_choices() {
+    for choices in [0, raw::STRICT, raw::SECOND_EDITION, raw::STRICT + raw::SECOND_EDITION] {
+        for (pattern, year, number) in [
+            ("dd", 2025, raw::ACCEPTED),
+            ("yy", 2025, raw::ACCEPTED),
+            ("'", 2025, 3),
+            ("", 0, 14),
+        ] {
+            asks_for(raw::CHECK_ANSWER, number, |row| {
+                check_with(choices, pattern.as_bytes(), year, row)
+            });
+        }
+    }
+}
+
+/// What is returned, and a row that was full of marks.
+fn row_of_check(call: impl Fn(&mut [i64]) -> u32) -> (u32, [i64; raw::CHECK_ANSWER]) {
+    let mut row = [MARK; raw::CHECK_ANSWER];
+    (call(&mut row), row)
+}
+
+/// With no choice the check is the one without choices, and a strict reading makes no difference to it.
+#[test]
+fn checks_that_do_the_same() {
+    for pattern in ["", "d/MM", "d/M", "Md", "M5", "yy", "d5", "XXXXX.5", "'a''", "'", "\0"] {
+        let pattern = pattern.as_bytes();
+        for year in [-1, 0, 1, 80, 81, 2025, 9999, 10_000] {
+            let with = |choices: u32| row_of_check(|row| check_with(choices, pattern, year, row));
+            assert_eq!(with(0), row_of_check(|row| check(pattern, year, row)));
+            assert_eq!(with(raw::STRICT), with(0));
+            assert_eq!(with(raw::SECOND_EDITION + raw::STRICT), with(raw::SECOND_EDITION));
+        }
+    }
+}
+
+/// Two patterns whose verdict hangs on the edition, with the record that is shown.
+#[test]
+fn what_a_check_has_in_each_edition() {
+    let yes = (raw::ACCEPTED, [1, 0, 0, 0, 0, 0, 0, 0, 0, 0]);
+    let with = |choices: u32, pattern: &[u8]| row_of_check(|row| check_with(choices, pattern, 2025, row));
+    let (number, first) = with(0, b"d/M");
+    assert_eq!((number, &first[..5]), (raw::ACCEPTED, &[0, 2, 1_000_001, 11, 23][..]));
+    assert_eq!(with(raw::SECOND_EDITION, b"d/M"), yes);
+    let (number, second) = with(raw::SECOND_EDITION, b"Mdd");
+    assert_eq!((number, &second[..5]), (raw::ACCEPTED, &[0, 0, 1_000_001, 2, 5][..]));
 }
 
 /// The function has two rows, of 2 and of so many entries: where one is too small, the other keeps its entries.

@@ -1,7 +1,7 @@
 //! Where in the text each unit was read: all that the last part took that gave it, by every reader.
 
 use sheet::ParseUnit::{self, *};
-use sheet::{raw, read, read_date, read_with, split, units, Choices, PartUnit, Reading};
+use sheet::{raw, read, read_date, read_with, split, units, Choices, Edition, PartUnit, Reading};
 use std::ops::Range;
 
 const RECORDED: &str = include_str!("recorded.txt");
@@ -37,9 +37,25 @@ fn by_each_reader_with_time_symbols() {
             read(pattern, text, 2025),
             read_with(Choices::new(), pattern, text, 2025),
             read_with(strict, pattern, text, 2025),
+            read_with(Choices::new().edition(Edition::Second), pattern, text, 2025),
+            read_with(strict.edition(Edition::Second), pattern, text, 2025),
         ] {
             assert_eq!(spans(&reading.expect(pattern)), expected, "{pattern} on {text}");
         }
+    }
+}
+
+/// A single M takes one byte in the first edition, and as many digits as d does in the second.
+#[test]
+fn of_a_single_month() {
+    let second = Choices::new().edition(Edition::Second);
+    for (text, first, in_second) in [("12/7", 0..1, 0..2), ("7/12", 0..1, 0..1), ("07", 0..1, 0..2)] {
+        for choices in [second, second.date()] {
+            let reading = read_with(choices, "M", text, 2025).expect("it is read");
+            assert_eq!(spans(&reading), [(Month, in_second.clone())], "{text}");
+        }
+        let reading = read("M", text, 2025).expect("it is read");
+        assert_eq!(spans(&reading), [(Month, first)], "{text}");
     }
 }
 
@@ -51,6 +67,7 @@ fn by_each_reader_of_dates() {
         read_date(pattern, text, 2025),
         read_with(date, pattern, text, 2025),
         read_with(date.strict(), pattern, text, 2025),
+        read_with(date.edition(Edition::Second), pattern, text, 2025),
     ] {
         assert_eq!(spans(&reading.expect(pattern)), [(Month, 5..7), (DayOfMonth, 3..4)]);
     }
@@ -65,6 +82,7 @@ fn in_the_longest_text() {
 }
 
 struct Read {
+    choices: Choices,
     pattern: Vec<u8>,
     text: Vec<u8>,
     year: i32,
@@ -79,11 +97,16 @@ fn bytes(word: &str) -> Vec<u8> {
 
 /// What a recorded line reads, where it asks for a read that is accepted.
 fn read_by(line: &str) -> Option<Read> {
-    let (request, choices) = match line.strip_suffix(" strict") {
-        Some(request) => (request, Choices::new().strict()),
-        None => (line, Choices::new()),
+    let (line, edition) = match line.strip_suffix(" second") {
+        Some(line) => (line, Edition::Second),
+        None => (line, Edition::First),
     };
-    let (choices, pattern, text, year) = match request.split(' ').collect::<Vec<_>>()[..] {
+    let choices = Choices::new().edition(edition);
+    let (line, choices) = match line.strip_suffix(" strict") {
+        Some(line) => (line, choices.strict()),
+        None => (line, choices),
+    };
+    let (choices, pattern, text, year) = match line.split(' ').collect::<Vec<_>>()[..] {
         ["read", pattern, text, year] => (choices, pattern, text, year),
         ["read_date", pattern, text, year] => (choices.date(), pattern, text, year),
         _ => return None,
@@ -91,6 +114,7 @@ fn read_by(line: &str) -> Option<Read> {
     let (pattern, text, year) = (bytes(pattern), bytes(text), year.parse().expect("a year"));
     let reading = read_with(choices, &pattern, &text, year).ok()?;
     Some(Read {
+        choices,
         pattern,
         text,
         year,
@@ -107,7 +131,7 @@ fn each_is_read_again_by_its_own_part() {
         for (unit, span) in spans(&read.reading) {
             let last = carried.iter().rposition(|part| *part == PartUnit::Carries(unit));
             let own = &read.pattern[parts[last.expect("a part gave it")].range()];
-            let again = sheet::read(own, &read.text[span.clone()], read.year).expect("it was read");
+            let again = read_with(read.choices, own, &read.text[span.clone()], read.year).expect("it was read");
             assert_eq!(again.taken, span.len(), "{unit:?} by {own:?}");
             assert_eq!(again.value(unit), read.reading.value(unit), "{unit:?} by {own:?}");
             tried += 1;

@@ -1,6 +1,6 @@
 //! The samples in the tables of docs/SPECIFICATION.md, each put to the library.
 
-use sheet::{Choices, Fields, ParseUnit, Reading, Refusal, Verdict};
+use sheet::{Choices, Edition, Fields, ParseUnit, Reading, Refusal, Verdict};
 
 const SPECIFICATION: &str = include_str!("../../../docs/SPECIFICATION.md");
 
@@ -178,7 +178,11 @@ fn span_read(choices: Choices, pattern: &str, text: &str, unit: &str) -> String 
 }
 
 fn checked(pattern: &str) -> String {
-    match sheet::check(pattern, 2025) {
+    checked_with(Edition::First, pattern, 2025)
+}
+
+fn checked_with(edition: Edition, pattern: &str, year: i32) -> String {
+    match sheet::check_with(edition, pattern, year) {
         Ok(Verdict::Yes) => "yes".to_string(),
         Ok(Verdict::No { part, .. }) => format!("no {part}"),
         Err(refusal) => format!("refused {}", refusal.number()),
@@ -291,6 +295,31 @@ fn of_sheet(row: &[&str]) -> Sample {
     (answer.to_string(), got)
 }
 
+/// One text in a current year, by each edition.
+fn of_editions(row: &[&str]) -> Vec<Sample> {
+    let [pattern, text, year, first, second] = row else {
+        panic!("{row:?}")
+    };
+    let (pattern, text, year) = (quoted(pattern), quoted(text), number(year));
+    [(first, Edition::First), (second, Edition::Second)]
+        .map(|(sample, edition)| {
+            let choices = Choices::new().edition(edition);
+            (sample.to_string(), all_read(choices, &pattern, &text, year, sample))
+        })
+        .to_vec()
+}
+
+/// A pattern's check in a current year, by each edition.
+fn checked_in_editions(row: &[&str]) -> Vec<Sample> {
+    let [pattern, year, first, second] = row else {
+        panic!("{row:?}")
+    };
+    let (pattern, year) = (quoted(pattern), number(year));
+    [(first, Edition::First), (second, Edition::Second)]
+        .map(|(sample, edition)| (sample.to_string(), checked_with(edition, &pattern, year)))
+        .to_vec()
+}
+
 /// Under its own heading a sample is of a strict reading.
 fn choices(heading: &str) -> Choices {
     match heading {
@@ -317,6 +346,8 @@ fn samples(table: &Table, row: &[&str]) -> Vec<Sample> {
             let answer = all_read(choices(heading), &quoted(row[0]), &quoted(row[1]), 2025, row[2]);
             vec![sample(2, answer)]
         }
+        (["Pattern", "Text", "Current year", "First edition", "Second edition"], _) => of_editions(row),
+        (["Pattern", "Current year", "First edition", "Second edition"], _) => checked_in_editions(row),
         (["Pattern", "Text", "Unit", "Span"], heading) => {
             let answer = span_read(choices(heading), &quoted(row[0]), &quoted(row[1]), row[2]);
             vec![sample(3, answer)]
@@ -368,6 +399,44 @@ fn a_strict_reading_has_its_own_samples() {
         let (_, differing) = held(&document(heading, wrong));
         assert_eq!(differing, [(wrong.to_string(), right.to_string())]);
     }
+}
+
+/// A document of one row, its samples right and each of its two made wrong.
+#[track_caller]
+fn each_edition_is_held(columns: &str, given: &str, [first, second]: [&str; 2]) {
+    let document = |first: &str, second: &str| {
+        let line = "---|".repeat(columns.split('|').count() + 2);
+        let head = format!("| {columns} | First edition | Second edition |\n|{line}");
+        format!("## The second edition\n\n{head}\n| {given} | {first} | {second} |\n")
+    };
+    assert_eq!(held(&document(first, second)), (2, vec![]));
+    let wrong = "refused 9 0 0";
+    for (document, right) in [(document(wrong, second), first), (document(first, wrong), second)] {
+        assert_eq!(held(&document), (2, vec![(wrong.to_string(), right.to_string())]));
+    }
+}
+
+#[test]
+fn editions_have_their_own_samples() {
+    let in_text = |given: &str, samples| each_edition_is_held("Pattern | Text | Current year", given, samples);
+    in_text(
+        "`d/M` | `3/12` | 2025",
+        [
+            "3 bytes, mask 6, 2 units: month 1, day 3",
+            "4 bytes, mask 6, 2 units: month 12, day 3",
+        ],
+    );
+    in_text(
+        "`yy` | `18` | 9,999",
+        [
+            "2 bytes, mask 1, 1 unit: year 9018",
+            "2 bytes, mask 1, 1 unit: year 10018",
+        ],
+    );
+    in_text("(empty) | (empty) | 80", ["0 bytes, mask 0, 0 units", "refused 14 80"]);
+    let in_pattern = |given: &str, samples| each_edition_is_held("Pattern | Current year", given, samples);
+    in_pattern("`d/M` | 2025", ["no 2", "yes"]);
+    in_pattern("`d` | 80", ["yes", "refused 14"]);
 }
 
 /// Of a unit that was not read both places are 0.

@@ -1,10 +1,11 @@
 // Refusals 4 and 14.
 ghost use mathlib.Core.Path.{_≡_};
 ghost use Rattle.fields.specs.Ranges.{fieldOut};
-ghost use Rattle.meaning.specs.Answers.{_else_, within, fieldsCheck, currentYearCheck};
+ghost use Rattle.meaning.specs.Answers.{_else_, within, fieldsCheck, firstCurrentYear, currentYearCheck};
 use crate::signed::is_negative;
 use crate::signed::size;
 use meaning::Checked;
+use meaning::Edition;
 use meaning::Fields;
 use meaning::Refusal;
 use meaning::unit_sizes::NANOS_PER_DAY;
@@ -75,14 +76,23 @@ pub fn fields_check(f: Fields) -> Checked
     Checked::Refused(Refusal::FieldRange(field))
 }
 
-// 14: the current year is 1 to 9999.
-pub fn current_year_check(year: i32) -> Checked
-    ensures { λ r. ⌜ r ≡ currentYearCheck year ⌝ }
+fn first_current_year(edition: Edition) -> u64
+    ensures { λ r. ⌜ r ≡ firstCurrentYear edition ⌝ }
+{
+    match edition {
+        Edition::First => 1,
+        Edition::Second => 81,
+    }
+}
+
+// 14: the current year is 1 to 9999, in the second edition 81 to 9999.
+pub fn current_year_check(edition: Edition, year: i32) -> Checked
+    ensures { λ r. ⌜ r ≡ currentYearCheck edition year ⌝ }
 {
     if is_negative(year) {
         return Checked::Refused(Refusal::CurrentYear(year));
     }
-    if is_within(1, 9999, size(year) as u64) {
+    if is_within(first_current_year(edition), 9999, size(year) as u64) {
         return Checked::Fine;
     }
     Checked::Refused(Refusal::CurrentYear(year))

@@ -15,6 +15,7 @@ use Rattle.meaning.specs.Splitting.{contents}
 use Rattle.meaning.specs.Whole.{text, writeCheck, readCheck}
 use Rattle.meaning.specs.declared.Checked.{Checked}
 use Rattle.meaning.specs.declared.Checked.the-variants.{Fine, Refused}
+use Rattle.meaning.specs.declared.Edition.{Edition}
 use Rattle.meaning.specs.declared.Fields.{Fields}
 use Rattle.meaning.specs.declared.Pair.{Pair}
 use Rattle.meaning.specs.declared.Refusal.{Refusal}
@@ -109,10 +110,10 @@ module _ {pair : Pair} {book : Book} {p : List ℕ} {f : Fields} {room : ℕ} (h
   fine-write = rw (h .pattern, h .fields, le-leb (length (text pair book p f)) room (h .fits))
 
 -- what a read whose checks are fine can rely on
-pub read-short : (p s : List ℕ) (current : ℤ) → readCheck p s current ≡ Fine → length s ≤ 2048
+pub read-short : (edition : Edition) (p s : List ℕ) (current : ℤ) → readCheck edition p s current ≡ Fine → length s ≤ 2048
 unfolding readCheck textCheck
-read-short p s current h =
-    let a = else-fine (patternCheck p) (currentYearCheck current else textCheck s) h in
-    let b = else-fine (currentYearCheck current) (textCheck s) (a .1) in
+read-short edition p s current h =
+    let a = else-fine (patternCheck p) (currentYearCheck edition current else textCheck s) h in
+    let b = else-fine (currentYearCheck edition current) (textCheck s) (a .1) in
     let short = refuseUnless (leb (length s) 2048) (TextTooLong (length s)) in
     leb-true (length s) 2048 (fine-unless (leb (length s) 2048) _ (else-fine short (byteCheck TextByte 0 127 0 s) (b .1) .0))

@@ -3,6 +3,7 @@ pub mod Carried
 pub mod Checks
 pub mod Determined
 pub mod Digits
+pub mod Editions
 pub mod Elements
 pub mod Entries
 pub mod Fields

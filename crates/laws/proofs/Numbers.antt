@@ -12,16 +12,13 @@ use lib.ListN.{length, take, length-append}
 use lib.Seq.{take-append-seam}
 use borrow.Author.Tests.{le-leb, ne-eqb}
 use Rattle.meaning.specs.Bytes.{isDigit, digitAt}
-use Rattle.meaning.specs.Names.{Book}
 use Rattle.meaning.specs.Numerals.{Signed, allDigits, decimal, signOf, sized, largest, numberOf}
 use Rattle.meaning.specs.Readers.{got, reach}
-use Rattle.meaning.specs.Reading.{readRule, zeroFor}
+use Rattle.meaning.specs.Reading.{zeroFor, passed, takenUnit}
 use Rattle.meaning.specs.declared.Carried.the-variants.{Nothing, Value}
 use Rattle.meaning.specs.declared.Numeral.{Numeral}
 use Rattle.meaning.specs.declared.Numeral.the-variants.{Count, Year}
 use Rattle.meaning.specs.declared.ParseUnit.{ParseUnit}
-use Rattle.meaning.specs.declared.Quantity.{Quantity}
-use Rattle.meaning.specs.declared.Rule.the-variants.{Number, SkippedNumber}
 use Rattle.meaning.specs.declared.Sign.the-variants.{Bare}
 use Rattle.laws.proofs.Digits.{digit-bounds, digit-in, digit-behind}
 use Rattle.laws.proofs.Readers.{skip-goes-on, take-goes-on, reach-exact}
@@ -54,15 +51,13 @@ module _ (least most : ℕ) (s r : List ℕ) (from : least ≤ length s) (some�
       reach-exact (most - least) least (s ++ r) (length s) from (omega arith) (λ j k. digit-in s r all j k)
       (λ k. digit-behind s r ∙ free (omega arith))
 
-  pub taken-comes-back : (book : Book) (current : ℕ) (q : Quantity) (u : ParseUnit) (z : ℕ) → decimal 0 s ≤ 4294967295
-      → readRule book current (Number q least most u z) (s ++ r) ≡ got (length s) (Value u (pos (zeroFor z (decimal 0 s))))
-  unfolding readRule
-  taken-comes-back book current q u z small =
+  pub taken-comes-back : (u : ParseUnit) (z : ℕ) → decimal 0 s ≤ 4294967295
+      → takenUnit u z (reach (most - least) least (s ++ r)) (s ++ r) ≡ got (length s) (Value u (pos (zeroFor z (decimal 0 s))))
+  taken-comes-back u z small =
       let n : Signed = record { negative = false; size = decimal 0 s } in
       let number : numberOf Count (take (length s) (s ++ r)) ≡ some n = rw take-append-seam (digits-come-back Count s some′ all small) in
       rw (reaches, take-goes-on Count (length s) (s ++ r) n (simp length-append (omega arith)) number) (simp add-zero)
 
-  pub skipped-comes-back : (book : Book) (current : ℕ) (q : Quantity) → readRule book current (SkippedNumber q least most) (s ++ r) ≡ got (length s) Nothing
-  unfolding readRule
-  skipped-comes-back book current q =
+  pub skipped-comes-back : passed (reach (most - least) least (s ++ r)) (s ++ r) ≡ got (length s) Nothing
+  skipped-comes-back =
       rw (reaches, skip-goes-on (length s) (s ++ r) (simp length-append (omega arith)), add-zero)

@@ -6,17 +6,18 @@ use mathlib.Core.Path.{_≡_, refl, sym, _∙_}
 use Prim.Native.Nat.{ℕ, _+_, _-_, _≤_}
 use native.Mathlib.Omega.{arith}
 use lib.Dec.{eqb}
-use lib.IntN.{pos, _+ℤ_}
+use lib.IntN.{pos}
 use lib.ListN.{length, take}
 use Rattle.meaning.specs.Bytes.{when, bytes, digitAt, minus}
 use Rattle.meaning.specs.Names.{Book, names}
 use Rattle.meaning.specs.Numerals.{integer}
 use Rattle.meaning.specs.Readers.{got, _>>=_, done, skip, same, takeNumber, takeCount, takeYear, reach, matchName, letters, ZoneSign, utc, ahead, behindUtc, zoneSign}
-use Rattle.meaning.specs.Reading.{nameCarries, minusFirst, yearLength, year, millennium, colonLength, zoneBehind, zeroFor, passed, literalRead, takenYear, takeGroup, zoneGroup, zoneSizeWith, zoneSize, takenUnit, readRule, readStep}
+use Rattle.meaning.specs.Reading.{nameCarries, minusFirst, yearLength, year, twoDigitsMean, mostRead, colonLength, zoneBehind, zeroFor, passed, literalRead, takenYear, takeGroup, zoneGroup, zoneSizeWith, zoneSize, takenUnit, readRule, readStep}
 use Rattle.meaning.specs.Writing.{Step, literal, field, steps}
 use Rattle.meaning.specs.declared.Carried.{Carried}
 use Rattle.meaning.specs.declared.Carried.the-variants.{Nothing, Value}
 use Rattle.meaning.specs.declared.Choices.{Choices}
+use Rattle.meaning.specs.declared.Edition.{Edition}
 use Rattle.meaning.specs.declared.Group.{Group}
 use Rattle.meaning.specs.declared.Group.the-variants.{Never, NotZero, Always}
 use Rattle.meaning.specs.declared.Numeral.the-variants.{Count, Year}
@@ -92,25 +93,26 @@ own-match : (names : List (List ℕ)) → Own (matchName names)
 unfolding matchName
 own-match names = own-first 0 names
 
-own-rule : (book : Book) (current : ℕ) (rule : Rule) → wholeLetters book rule ≡ true → Own (readRule book current rule)
+own-rule : (edition : Edition) (book : Book) (current : ℕ) (rule : Rule) → wholeLetters book rule ≡ true → Own (readRule edition book current rule)
 unfolding readRule
-own-rule book current (Number q least most u z) h =
-    own-chosen (reach (most - least) least) (takenUnit u z) (λ k. k) (own-unit u z) (takes-unit u z) (reach-cut (most - least) least)
-own-rule book current (SkippedNumber q least most) h =
+own-rule edition book current (Number q least most u z) h =
+    let more = mostRead edition q most - least in
+    own-chosen (reach more least) (takenUnit u z) (λ k. k) (own-unit u z) (takes-unit u z) (reach-cut more least)
+own-rule edition book current (SkippedNumber q least most) h =
     own-chosen (reach (most - least) least) passed (λ k. k) own-passed takes-passed (reach-cut (most - least) least)
-own-rule book current LetterQuarter h = own-passed 2
-own-rule book current (SkippedName l n) h = own-passed n
-own-rule book current (MatchedName l) h = own-done (matchName (names book l)) (nameCarries l) (own-match (names book l))
-own-rule book current (Letters l n) h = own-done (letters n (names book l)) (nameCarries l) (own-letters n (names book l) h)
-own-rule book current (Years k) h = own-chosen yearLength takenYear (λ n. n) own-full-year takes-full-year year-cut
-own-rule book current (FixedYear k) h =
+own-rule edition book current LetterQuarter h = own-passed 2
+own-rule edition book current (SkippedName l n) h = own-passed n
+own-rule edition book current (MatchedName l) h = own-done (matchName (names book l)) (nameCarries l) (own-match (names book l))
+own-rule edition book current (Letters l n) h = own-done (letters n (names book l)) (nameCarries l) (own-letters n (names book l) h)
+own-rule edition book current (Years k) h = own-chosen yearLength takenYear (λ n. n) own-full-year takes-full-year year-cut
+own-rule edition book current (FixedYear k) h =
     own-chosen minusFirst (λ i. takenYear (i + k)) (λ i. i + k) (λ i. own-full-year (i + k)) (λ i. takes-full-year (i + k))
     (λ s m l. minus-cut s m (omega arith))
-own-rule book current TwoDigitYear h =
-    own-when (λ s. eqb (minusFirst s) 1) (takenYear 3) (takeYear 2 >>= λ z. done (year (z +ℤ pos (millennium current)))) 3 2 (own-full-year 3)
+own-rule edition book current TwoDigitYear h =
+    own-when (λ s. eqb (minusFirst s) 1) (takenYear 3) (takeYear 2 >>= λ z. done (year (twoDigitsMean edition current z))) 3 2 (own-full-year 3)
     (own-done (takeYear 2) _ (own-year 2)) (takes-full-year 3) (λ s. takes-done 2 (takeYear 2) _ s (takes-year 2 s))
     two-digit-cut
-own-rule book current (Zone z c minutes seconds) h =
+own-rule edition book current (Zone z c minutes seconds) h =
     own-done (zoneSign z >>= zoneBehind (zoneSize c minutes seconds)) _
     (own-both (zoneSign z) (zoneBehind (zoneSize c minutes seconds)) (own-sign z) (own-behind-sign c minutes seconds))
 
@@ -122,7 +124,7 @@ own-step : (choices : Choices) (book : Book) (current : ℕ) (step : Step) → s
     → Own (readStep choices book current step)
 unfolding readStep
 own-step choices book current (literal w lost) h = own-literal (choices .strict) w
-own-step choices book current (field rule) h = own-rule book current rule h
+own-step choices book current (field rule) h = own-rule (choices .edition) book current rule h
 
 pub own-text : (choices : Choices) (book : Book) (current : ℕ) (step : Step) (s : List ℕ) → stepPasses (wholeLetters book) step ≡ true
     → {n : ℕ} {c : Carried} → readStep choices book current step s ≡ got n c

@@ -22,13 +22,14 @@ use Rattle.meaning.specs.Names.{Book}
 use Rattle.meaning.specs.Numerals.{Signed, plusFirst, numberOf}
 use Rattle.meaning.specs.Pluses.{numberWithPlus, takeNumberWithPlus, readWithPlus, parseOffsetWithPlus, plusTaken, RefusedAtPlus, OffsetAtPlus}
 use Rattle.meaning.specs.Readers.{Got, got, stopped, Reader, behind, goOn, skip, takenNumber, takeNumber, NumberReader, takeCountWith, takeYearWith, reach, zoneSign, ZoneSign, utc, ahead, behindUtc}
-use Rattle.meaning.specs.Reading.{minusFirst, yearLength, colonLength, zoneBehind, takenYearWith, takeGroupWith, zoneGroupWith, zoneSizeWith, readRuleWith, readStepWith}
+use Rattle.meaning.specs.Reading.{minusFirst, yearLength, colonLength, zoneBehind, takenYearWith, takeGroupWith, zoneGroupWith, zoneSizeWith, mostRead, readRuleWith, readStepWith}
 use Rattle.meaning.specs.Whole.{Gave, Walk, refusedAt, walkWith, readBy, readCheck, read, offsetBy, hourAndMinute, twoAtWith, parseOffset}
 use Rattle.meaning.specs.Writing.{Step, literal, field, steps}
 use Rattle.meaning.specs.declared.Carried.{Carried}
 use Rattle.meaning.specs.declared.Checked.{Checked}
 use Rattle.meaning.specs.declared.Choices.{Choices}
 use Rattle.meaning.specs.declared.Checked.the-variants.{Fine, Refused}
+use Rattle.meaning.specs.declared.Edition.{Edition}
 use Rattle.meaning.specs.declared.Group.{Group}
 use Rattle.meaning.specs.declared.Group.the-variants.{Never, NotZero, Always}
 use Rattle.meaning.specs.declared.Numeral.{Numeral}
@@ -142,25 +143,25 @@ zone-plus c minutes seconds utc s = same
 zone-plus c minutes seconds ahead s = on-plus _ _ s (λ n t. same) (size-plus c minutes seconds s)
 zone-plus c minutes seconds behindUtc s = on-plus _ _ s (λ n t. same) (size-plus c minutes seconds s)
 
-rule-plus : (book : Book) (current : ℕ) (rule : Rule) → Compared (λ number. readRuleWith number book current rule)
+rule-plus : (edition : Edition) (book : Book) (current : ℕ) (rule : Rule) → Compared (λ number. readRuleWith number edition book current rule)
 unfolding readRuleWith
-rule-plus book current (Number q least most u z) s = on-plus _ _ s (λ n t. same) (count-plus (reach (most - least) least s) s)
-rule-plus book current (SkippedNumber q least most) s = same
-rule-plus book current LetterQuarter s = same
-rule-plus book current (SkippedName l n) s = same
-rule-plus book current (MatchedName l) s = same
-rule-plus book current (Letters l n) s = same
-rule-plus book current (Years k) s = taken-year-plus (yearLength s) s
-rule-plus book current (FixedYear k) s = taken-year-plus (minusFirst s + k) s
-rule-plus book current TwoDigitYear s =
+rule-plus edition book current (Number q least most u z) s = on-plus _ _ s (λ n t. same) (count-plus (reach (mostRead edition q most - least) least s) s)
+rule-plus edition book current (SkippedNumber q least most) s = same
+rule-plus edition book current LetterQuarter s = same
+rule-plus edition book current (SkippedName l n) s = same
+rule-plus edition book current (MatchedName l) s = same
+rule-plus edition book current (Letters l n) s = same
+rule-plus edition book current (Years k) s = taken-year-plus (yearLength s) s
+rule-plus edition book current (FixedYear k) s = taken-year-plus (minusFirst s + k) s
+rule-plus edition book current TwoDigitYear s =
     by-test (eqb (minusFirst s) 1) (λ e. rw e (taken-year-plus 3 s)) (λ e. rw e (on-plus _ _ s (λ z t. same) (year-plus 2 s)))
-rule-plus book current (Zone z c minutes seconds) s =
+rule-plus edition book current (Zone z c minutes seconds) s =
     on-plus _ _ s (λ o t. same) (same-on _ _ s (λ sign t. zone-plus c minutes seconds sign t) (zoneSign z s))
 
 step-plus : (choices : Choices) (book : Book) (current : ℕ) (step : Step) → Compared (λ number. readStepWith number choices book current step)
 unfolding readStepWith
 step-plus choices book current (literal w lost) s = same
-step-plus choices book current (field rule) s = rule-plus book current rule s
+step-plus choices book current (field rule) s = rule-plus (choices .edition) book current rule s
 
 -- the walk over the parts, and the whole reading
 
@@ -202,7 +203,7 @@ pub read-but-for-plus : (choices : Choices) (book : Book) (p s : List ℕ) (curr
     → RefusedAtPlus s (read choices book p s current .checked) ⊎ (read choices book p s current ≡ readWithPlus choices book p s current)
 unfolding read
 read-but-for-plus choices book p s current =
-    by-check s (readCheck p s current) (walk-plus choices book (natAbs current) s 0 0 (steps (choices .pair) p) [])
+    by-check s (readCheck (choices .edition) p s current) (walk-plus choices book (natAbs current) s 0 0 (steps (choices .pair) p) [])
 
 -- parse_offset
 

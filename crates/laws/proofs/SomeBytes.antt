@@ -13,11 +13,12 @@ use Rattle.meaning.specs.Bytes.{bytes}
 use Rattle.meaning.specs.Names.{Book, english, names}
 use Rattle.meaning.specs.Numerals.{numberOf}
 use Rattle.meaning.specs.Readers.{Got, got, stopped, Reader, behind, goOn, _>>=_, done, skip, same, takeNumber, takeCount, takeYear, reach, begins, firstName, matchName, letters, zoneSign}
-use Rattle.meaning.specs.Reading.{minusFirst, yearLength, zoneBehind, zoneSize, literalRead, takenYear, readRule, readStep}
+use Rattle.meaning.specs.Reading.{minusFirst, yearLength, zoneBehind, zoneSize, literalRead, mostRead, takenYear, readRule, readStep}
 use Rattle.meaning.specs.Writing.{Step, literal, field, steps}
 use Rattle.meaning.specs.declared.Carried.{Carried}
 use Rattle.meaning.specs.declared.Carried.the-variants.{Nothing, Value}
 use Rattle.meaning.specs.declared.Choices.{Choices}
+use Rattle.meaning.specs.declared.Edition.{Edition}
 use Rattle.meaning.specs.declared.Numeral.{Numeral}
 use Rattle.meaning.specs.declared.Numeral.the-variants.{Count, Year}
 use Rattle.meaning.specs.declared.Pair.{Pair}
@@ -95,21 +96,21 @@ someNames book = namesPass (λ l. every isName (names book l)) (λ l n. every is
 carries-year : (k : ℕ) (s : List ℕ) → CarriesSome (takenYear k s)
 carries-year k s = carries-on (takeYear k s) _ s (some-year k s)
 
-carries-rule : (book : Book) (current : ℕ) (rule : Rule) → someNames book rule ≡ true → (s : List ℕ) → CarriesSome (readRule book current rule s)
+carries-rule : (edition : Edition) (book : Book) (current : ℕ) (rule : Rule) → someNames book rule ≡ true → (s : List ℕ) → CarriesSome (readRule edition book current rule s)
 unfolding readRule matchName letters
-carries-rule book current (Number q least most u z) h s = let k = reach (most - least) least s in carries-on (takeCount k s) _ s (some-count k s)
-carries-rule book current (SkippedNumber q least most) h s = carries-nothing (skip (reach (most - least) least s) s) s
-carries-rule book current LetterQuarter h s = carries-nothing (skip 2 s) s
-carries-rule book current (SkippedName l n) h s = carries-nothing (skip n s) s
-carries-rule book current (MatchedName l) h s = carries-on (matchName (names book l) s) _ s (some-name 0 (names book l) s h)
-carries-rule book current (Letters l n) h s =
+carries-rule edition book current (Number q least most u z) h s = let k = reach (mostRead edition q most - least) least s in carries-on (takeCount k s) _ s (some-count k s)
+carries-rule edition book current (SkippedNumber q least most) h s = carries-nothing (skip (reach (most - least) least s) s) s
+carries-rule edition book current LetterQuarter h s = carries-nothing (skip 2 s) s
+carries-rule edition book current (SkippedName l n) h s = carries-nothing (skip n s) s
+carries-rule edition book current (MatchedName l) h s = carries-on (matchName (names book l) s) _ s (some-name 0 (names book l) s h)
+carries-rule edition book current (Letters l n) h s =
     carries-on (letters n (names book l) s) _ s
     (when-is (λ (g : Got ℕ). TakesSome g) (ltb (length s) n) (λ _. tt) (λ _. some-name 0 (names book l) (take n s) h))
-carries-rule book current (Years k) h s = carries-year (yearLength s) s
-carries-rule book current (FixedYear k) h s = carries-year (minusFirst s + k) s
-carries-rule book current TwoDigitYear h s =
+carries-rule edition book current (Years k) h s = carries-year (yearLength s) s
+carries-rule edition book current (FixedYear k) h s = carries-year (minusFirst s + k) s
+carries-rule edition book current TwoDigitYear h s =
     when-is CarriesSome (eqb (minusFirst s) 1) (λ _. carries-year 3 s) (λ _. carries-on (takeYear 2 s) _ s (some-year 2 s))
-carries-rule book current (Zone z c minutes seconds) h s =
+carries-rule edition book current (Zone z c minutes seconds) h s =
     carries-on ((zoneSign z >>= zoneBehind (zoneSize c minutes seconds)) s) _ s
     (some-on (zoneSign z s) (zoneBehind (zoneSize c minutes seconds)) s (some-taken 1 (zoneSign z s) (omega arith) (takes-sign z s)))
 
@@ -121,7 +122,7 @@ carries-step : (choices : Choices) (book : Book) (current : ℕ) (step : Step) �
     → CarriesSome (readStep choices book current step s)
 unfolding readStep
 carries-step choices book current (literal w lost) h s = carries-literal (choices .strict) w s
-carries-step choices book current (field rule) h s = carries-rule book current rule h s
+carries-step choices book current (field rule) h s = carries-rule (choices .edition) book current rule h s
 
 pub carries-some : (choices : Choices) (book : Book) (current : ℕ) (step : Step) (s : List ℕ) → stepPasses (someNames book) step ≡ true
     → {n : ℕ} {u : ParseUnit} {z : ℤ} → readStep choices book current step s ≡ got n (Value u z) → 0 < n

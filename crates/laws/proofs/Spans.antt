@@ -150,7 +150,7 @@ module _ (choices : Choices) (book : Book) (p s : List ℕ) (current : ℤ) (r :
   unfolding read InOrder AllOf
   entries-of =
       let ss = steps (choices .pair) p in
-      rw is (accepted choices book (natAbs current) ss s (readCheck p s current) (walk choices book (natAbs current) 0 0 ss s [])
+      rw is (accepted choices book (natAbs current) ss s (readCheck (choices .edition) p s current) (walk choices book (natAbs current) 0 0 ss s [])
       (walks choices book (natAbs current) ss s (letters-whole book (choices .pair) p) 0 0 ss [] refl
       (record { in-text = omega arith; in-order = tt; from = tt })) (rw is at fine))
 
@@ -204,4 +204,4 @@ pub spans-refused : (choices : Choices) (book : Book) (p s : List ℕ) (current 
     → {why : Refusal} → r .checked ≡ Refused why → (r .starts ≡ replicate 15 0) × (r .ends ≡ replicate 15 0)
 unfolding read
 spans-refused choices book p s current r is e =
-    rw is (all-zeros (readCheck p s current) (walk choices book (natAbs current) 0 0 (steps (choices .pair) p) s []) (rw is at e))
+    rw is (all-zeros (readCheck (choices .edition) p s current) (walk choices book (natAbs current) 0 0 (steps (choices .pair) p) s []) (rw is at e))

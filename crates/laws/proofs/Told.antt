@@ -15,6 +15,7 @@ use Rattle.meaning.specs.Promises.{SameAnswer}
 use Rattle.meaning.specs.Trust.{SaysOf, Says, trustCheck}
 use Rattle.meaning.specs.declared.Checked.{Checked}
 use Rattle.meaning.specs.declared.Checked.the-variants as checked
+use Rattle.meaning.specs.declared.Edition.{Edition}
 use Rattle.meaning.specs.declared.Fields.{Fields}
 use Rattle.meaning.specs.declared.Offset.{Offset}
 use Rattle.meaning.specs.declared.Offset.the-variants as offset
@@ -184,9 +185,9 @@ pub offset-by-told : (r d : Offset) → offsetAnswer r ≡ offsetAnswer d → Sa
 offset-by-told r d e = record { told = e; whole = offsets-told-apart r d e }
 
 -- the check: the first of its checks that refuses, or what its yes or no returns
-pub says-told : (book : Book) (p : List ℕ) (current : ℤ) (v : Verdict) → Says book p current v
-    → verdictAnswer v ≡ answerBy (trustCheck p current) (verdictAnswer v .values)
+pub says-told : (edition : Edition) (book : Book) (p : List ℕ) (current : ℤ) (v : Verdict) → Says edition book p current v
+    → verdictAnswer v ≡ answerBy (trustCheck edition p current) (verdictAnswer v .values)
 unfolding SaysOf
-says-told book p current verdict.Yes s = rw (s false .0)
-says-told book p current (verdict.No part f) s = rw (s false .0)
-says-told book p current (verdict.Refused why) s = rw (s false)
+says-told edition book p current verdict.Yes s = rw (s false .0)
+says-told edition book p current (verdict.No part f) s = rw (s false .0)
+says-told edition book p current (verdict.Refused why) s = rw (s false)

@@ -16,6 +16,7 @@ use Rattle.meaning.specs.Numerals.{Signed, integer, allDigits, decimal, numberO
 use Rattle.meaning.specs.Readers.{got, _>>=_, done, takeYear}
 use Rattle.meaning.specs.Reading.{readRule, minusFirst, digitRun, year}
 use Rattle.meaning.specs.Writing.{isNegative, signedText, twoDigitText}
+use Rattle.meaning.specs.declared.Edition.{Edition}
 use Rattle.meaning.specs.declared.Numeral.the-variants.{Year}
 use Rattle.meaning.specs.declared.Rule.the-variants.{Years, FixedYear}
 use Rattle.laws.proofs.Digits.{digit-bounds, all-num, decimal-num, num-some, num-fits}
@@ -49,10 +50,10 @@ minus-comes-back : (s : List ℕ) → 0 < length s → allDigits s ≡ true → 
 unfolding numberOf
 minus-comes-back s some′ all h = sized-digits Year true s some′ all h
 
--- a year that is the whole of what is taken, before r
-year-carried : (m : ℕ) (t r : List ℕ) (n : Signed) → m ≡ length t → numberOf Year t ≡ some n
-    → (takeYear m >>= λ z. done (year z)) (t ++ r) ≡ got (length t) (year (integer n))
-year-carried m t r n h e =
+-- a year that is the whole of what is taken, before r, and what is made of it
+pub year-carried : (of : ℤ → ℤ) (m : ℕ) (t r : List ℕ) (n : Signed) → m ≡ length t → numberOf Year t ≡ some n
+    → (takeYear m >>= λ z. done (year (of z))) (t ++ r) ≡ got (length t) (year (of (integer n)))
+year-carried of m t r n h e =
     let number : numberOf Year (take (length t) (t ++ r)) ≡ some n = rw take-append-seam e in
     rw (h, take-goes-on Year (length t) (t ++ r) n (simp length-append (omega arith)) number) (simp add-zero)
 
@@ -73,28 +74,28 @@ module _ (k n : ℕ) (small : n ≤ 5879611) where
       let seven : 10 ^ 7 ≤ 10 ^ k = pow-le-pow-right (omega arith) {i = 7} h in
       num-fits k n (omega arith) (omega arith)
 
-pub years-come-back : (book : Book) (current k : ℕ) (z : ℤ) (r : List ℕ) → natAbs z ≤ 5879611 → digitAt 0 r ≡ false
-    → readRule book current (Years k) (signedText k z ++ r) ≡ got (length (signedText k z)) (year z)
+pub years-come-back : (edition : Edition) (book : Book) (current k : ℕ) (z : ℤ) (r : List ℕ) → natAbs z ≤ 5879611 → digitAt 0 r ≡ false
+    → readRule edition book current (Years k) (signedText k z ++ r) ≡ got (length (signedText k z)) (year z)
 unfolding readRule signedText
-years-come-back book current k (pos n) r small free =
+years-come-back edition book current k (pos n) r small free =
     let length′ : minusFirst (num k n ++ r) + digitRun (drop (minusFirst (num k n ++ r)) (num k n ++ r)) ≡ length (num k n)
     = rw (no-minus (num k n) r (all-num k n) (num-some k n)) (omega (arith, run-of-digits (num k n) r (all-num k n) free)) in
-    year-carried _ (num k n) r _ length′ (positive k n small)
-years-come-back book current k (negsuc n) r small free =
+    year-carried (λ z. z) _ (num k n) r _ length′ (positive k n small)
+years-come-back edition book current k (negsuc n) r small free =
     let length′ : 1 + digitRun (num k (suc n) ++ r) ≡ suc (length (num k (suc n)))
     = omega (arith, run-of-digits (num k (suc n)) r (all-num k (suc n)) free) in
-    year-carried _ (minus ∷ num k (suc n)) r _ length′ (negative′ k (suc n) small)
+    year-carried (λ z. z) _ (minus ∷ num k (suc n)) r _ length′ (negative′ k (suc n) small)
 
-pub fixed-year-comes-back : (book : Book) (current k : ℕ) (z : ℤ) (r : List ℕ) → natAbs z ≤ 5879611 → 7 ≤ k
-    → readRule book current (FixedYear k) (signedText k z ++ r) ≡ got (length (signedText k z)) (year z)
+pub fixed-year-comes-back : (edition : Edition) (book : Book) (current k : ℕ) (z : ℤ) (r : List ℕ) → natAbs z ≤ 5879611 → 7 ≤ k
+    → readRule edition book current (FixedYear k) (signedText k z ++ r) ≡ got (length (signedText k z)) (year z)
 unfolding readRule signedText
-fixed-year-comes-back book current k (pos n) r small seven =
+fixed-year-comes-back edition book current k (pos n) r small seven =
     let length′ : minusFirst (num k n ++ r) + k ≡ length (num k n)
     = rw (no-minus (num k n) r (all-num k n) (num-some k n)) (omega (arith, seven-digits k n small seven)) in
-    year-carried _ (num k n) r _ length′ (positive k n small)
-fixed-year-comes-back book current k (negsuc n) r small seven =
+    year-carried (λ z. z) _ (num k n) r _ length′ (positive k n small)
+fixed-year-comes-back edition book current k (negsuc n) r small seven =
     let length′ : 1 + k ≡ suc (length (num k (suc n))) = omega (arith, seven-digits k (suc n) small seven) in
-    year-carried _ (minus ∷ num k (suc n)) r _ length′ (negative′ k (suc n) small)
+    year-carried (λ z. z) _ (minus ∷ num k (suc n)) r _ length′ (negative′ k (suc n) small)
 
 -- yy, both ways
 

@@ -20,6 +20,7 @@ use Rattle.meaning.specs.Readers.{got, _>>=_, done, skip, takeCount, ahead, beh
 use Rattle.meaning.specs.Reading.{colonLength, takeGroup, zoneGroup, zoneSizeWith, zoneSize, zoneBehind, readRule, carriedOffset}
 use Rattle.meaning.specs.Writing.{isNegative, colonText, groupText, offsetDigits, allZero, isMinus, offsetText, zoneText}
 use Rattle.meaning.specs.declared.Carried.the-variants.{Value}
+use Rattle.meaning.specs.declared.Edition.{Edition}
 use Rattle.meaning.specs.declared.Group.{Group}
 use Rattle.meaning.specs.declared.Group.the-variants.{Never, NotZero, Always}
 use Rattle.meaning.specs.declared.Numeral.the-variants.{Count}
@@ -206,7 +207,7 @@ module _ (c : Bool) (minutes seconds : Group) (has-minutes : isNever minutes ≡
   nothing-carried =
       sym (carried-signed seconds z) ∙ rw nothing-worth (when-is (λ (o : ℤ). o ≡ pos 0) (isNegative z) (λ _. refl) (λ _. refl))
 
-module _ (book : Book) (current : ℕ) (utc′ c : Bool) (minutes seconds : Group) (has-minutes : isNever minutes ≡ false) where
+module _ (edition : Edition) (book : Book) (current : ℕ) (utc′ c : Bool) (minutes seconds : Group) (has-minutes : isNever minutes ≡ false) where
   -- what is read behind a sign, and what that is worth
   read-behind : (negative : Bool) (n : ℕ) (r : List ℕ) → n ≤ 86399 → Free c minutes (groupText c seconds (n % 60) ++ r) → Free c seconds r
       → (zoneSign utc′ >>= zoneBehind (zoneSize c minutes seconds)) (when negative minus plus ∷ num 2 (n / 3600) ++ (groupsText c minutes seconds n ++ r))
@@ -225,7 +226,7 @@ module _ (book : Book) (current : ℕ) (utc′ c : Bool) (minutes seconds : Grou
       (λ e. rw e (carried-signed seconds z))
 
   offset-comes-back : (z : ℤ) (r : List ℕ) → natAbs z ≤ 86399 → Free c minutes (groupText c seconds (natAbs z % 60) ++ r) → Free c seconds r
-      → readRule book current (Zone utc′ c minutes seconds) (offsetText c minutes seconds z ++ r)
+      → readRule edition book current (Zone utc′ c minutes seconds) (offsetText c minutes seconds z ++ r)
       ≡ got (length (offsetText c minutes seconds z)) (Value unit.Offset (carriedOffset seconds z))
   unfolding readRule
   offset-comes-back z r small free free′ =
@@ -238,18 +239,18 @@ no-offset Always (pos n) e = rw e
 no-offset seconds (negsuc n) e = absurd (omega arith)
 
 -- Z, which stands for no offset
-z-comes-back : (book : Book) (current : ℕ) (c : Bool) (minutes seconds : Group) (z : ℤ) (r : List ℕ) → natAbs z ≡ 0
-    → readRule book current (Zone true c minutes seconds) (code "Z" ∷ r) ≡ got 1 (Value unit.Offset (carriedOffset seconds z))
+z-comes-back : (edition : Edition) (book : Book) (current : ℕ) (c : Bool) (minutes seconds : Group) (z : ℤ) (r : List ℕ) → natAbs z ≡ 0
+    → readRule edition book current (Zone true c minutes seconds) (code "Z" ∷ r) ≡ got 1 (Value unit.Offset (carriedOffset seconds z))
 unfolding readRule zoneSign
-z-comes-back book current c minutes seconds z r e = rw (no-offset seconds z e)
+z-comes-back edition book current c minutes seconds z r e = rw (no-offset seconds z e)
 
-pub zone-comes-back : (book : Book) (current : ℕ) (utc′ c : Bool) (minutes seconds : Group) → isNever minutes ≡ false → (z : ℤ) (r : List ℕ)
+pub zone-comes-back : (edition : Edition) (book : Book) (current : ℕ) (utc′ c : Bool) (minutes seconds : Group) → isNever minutes ≡ false → (z : ℤ) (r : List ℕ)
     → natAbs z ≤ 86399 → Free c minutes (groupText c seconds (natAbs z % 60) ++ r) → Free c seconds r
-    → readRule book current (Zone utc′ c minutes seconds) (zoneText utc′ c minutes seconds z ++ r)
+    → readRule edition book current (Zone utc′ c minutes seconds) (zoneText utc′ c minutes seconds z ++ r)
     ≡ got (length (zoneText utc′ c minutes seconds z)) (Value unit.Offset (carriedOffset seconds z))
-zone-comes-back book current utc′ c minutes seconds has z r small free free′ =
+zone-comes-back edition book current utc′ c minutes seconds has z r small free free′ =
     by-test (both utc′ (eqb (natAbs z) 0))
     (λ e.
     let t = both-true utc′ (eqb (natAbs z) 0) e in
-    rw (e, t .0) (z-comes-back book current c minutes seconds z r (eqb-true (natAbs z) 0 (t .1))))
-    (λ e. rw e (offset-comes-back book current utc′ c minutes seconds has z r small free free′))
+    rw (e, t .0) (z-comes-back edition book current c minutes seconds z r (eqb-true (natAbs z) 0 (t .1))))
+    (λ e. rw e (offset-comes-back edition book current utc′ c minutes seconds has z r small free free′))

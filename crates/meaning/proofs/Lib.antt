@@ -1,3 +1,4 @@
+pub mod Editions
 pub mod Minus
 pub mod Names
 pub mod Pluses

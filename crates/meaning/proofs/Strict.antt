@@ -12,6 +12,7 @@ use Rattle.meaning.specs.Bytes.{bytes}
 use Rattle.meaning.specs.Names.{english}
 use Rattle.meaning.specs.Readers.{takeNumber}
 use Rattle.meaning.specs.Whole.{read}
+use Rattle.meaning.specs.declared.Edition.the-variants.{First}
 use Rattle.meaning.specs.declared.Pair.{Pair}
 use Rattle.meaning.specs.declared.Pair.the-variants.{Full, Date}
 use Rattle.meaning.proofs.Tables.{Sample, _↦′_, Answered}
@@ -29,7 +30,7 @@ date p s = record { pair = Date; pattern = p; text = s }
 
 pub asked : Question → Answer
 unfolding read
-asked q = readAnswer (read (record { pair = q .pair; strict = true }) english (bytes (q .pattern)) (bytes (q .text)) (pos 2025))
+asked q = readAnswer (read (record { pair = q .pair; strict = true; edition = First }) english (bytes (q .pattern)) (bytes (q .text)) (pos 2025))
 
 -- a refusal with a part and a place, what is left over at a place, and so many bytes that carry nothing
 abbrev refused : ℕ → ℕ → ℕ → Answer

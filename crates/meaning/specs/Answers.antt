@@ -11,6 +11,8 @@ use Rattle.meaning.specs.Splitting.{Content, run, quotes, quoted, unclos
 use Rattle.meaning.specs.Writing.{isNegative}
 use Rattle.meaning.specs.declared.Checked.{Checked}
 use Rattle.meaning.specs.declared.Checked.the-variants.{Fine, Refused}
+use Rattle.meaning.specs.declared.Edition.{Edition}
+use Rattle.meaning.specs.declared.Edition.the-variants.{First, Second}
 use Rattle.meaning.specs.declared.Fields.{Fields}
 use Rattle.meaning.specs.declared.Offset.{Offset}
 use Rattle.meaning.specs.declared.Offset.the-variants as offset
@@ -173,9 +175,15 @@ textCheck s =
     refuseUnless (leb (length s) 2048) (TextTooLong (length s)) else
     byteCheck TextByte 0 127 0 s
 
--- 14
-unfoldable pub currentYearCheck : ℤ → Checked
-currentYearCheck current = when (isNegative current) (Refused (CurrentYear current)) (refuseUnless (within 1 9999 (natAbs current)) (CurrentYear current))
+-- 14. The second edition: "also for current years 1 to 80".
+abbrev pub firstCurrentYear : Edition → ℕ
+firstCurrentYear First = 1
+firstCurrentYear Second = 81
+
+unfoldable pub currentYearCheck : Edition → ℤ → Checked
+currentYearCheck edition current =
+    when (isNegative current) (Refused (CurrentYear current))
+    (refuseUnless (within (firstCurrentYear edition) 9999 (natAbs current)) (CurrentYear current))
 
 -- 16, of a strict reading: the text that remains at a place, behind the last part
 abbrev pub restCheck : Bool → ℕ → List ℕ → Checked

@@ -1,10 +1,10 @@
 -- Specification, "What each symbol does", column Reads, with the carried values in brackets and the paragraphs on yy and
--- zones; and "Splitting", what a read of literals skips or, where it is strict, compares. The steps are those of Readers. What
--- takes a number is defined with any number reader, `..With`, and then with the specification's.
+-- zones; "Splitting", what a read of literals skips or, where it is strict, compares; and "The second edition". The steps are
+-- those of Readers. What takes a number is defined with any number reader, `..With`, and then with the specification's.
 use mathlib.Core.Bool.{Bool, true, false}
 use mathlib.Core.List.{List, [], _∷_}
 use mathlib.Core.Option.{Option, none, some}
-use Prim.Native.Nat.{ℕ, suc, _+_, _*_, _-_, _/_}
+use Prim.Native.Nat.{ℕ, suc, _+_, _*_, _-_, _/_, _%_}
 use lib.Dec.{eqb, ltb}
 use lib.IntN.{ℤ, pos, negℤ, natAbs, _+ℤ_}
 use lib.ListN.{length, drop}
@@ -16,6 +16,8 @@ use Rattle.meaning.specs.Writing.{quantityOf, secondOfDay, isNegative, S
 use Rattle.meaning.specs.declared.Carried.{Carried}
 use Rattle.meaning.specs.declared.Carried.the-variants.{Nothing, Value}
 use Rattle.meaning.specs.declared.Choices.{Choices}
+use Rattle.meaning.specs.declared.Edition.{Edition}
+use Rattle.meaning.specs.declared.Edition.the-variants as edition
 use Rattle.meaning.specs.declared.Fields.{Fields}
 use Rattle.meaning.specs.declared.Group.{Group}
 use Rattle.meaning.specs.declared.Group.the-variants.{Never, NotZero, Always}
@@ -75,6 +77,33 @@ year z = Value unit.Year z
 abbrev pub millennium : ℕ → ℕ
 millennium current = current / 1000 * 1000
 
+-- of the hundred years from `first` on the one with these last two digits
+abbrev pub yearFrom : ℕ → ℕ → ℕ
+yearFrom first digits = first + (digits + 100 - first % 100) % 100
+
+-- the year that two digits stand for. The second edition: "the one year from current year - 80 to current year + 19".
+unfoldable pub twoDigitsMean : Edition → ℕ → ℤ → ℤ
+twoDigitsMean edition.First current z = z +ℤ pos (millennium current)
+twoDigitsMean edition.Second current z = pos (yearFrom (current - 80) (natAbs z))
+
+-- how many bytes a number is read from at most. The second edition: "single M is read as d is", from two.
+unfoldable pub mostRead : Edition → Quantity → ℕ → ℕ
+mostRead edition.First q most = most
+mostRead edition.Second Month most = 2
+mostRead edition.Second Quarter most = most
+mostRead edition.Second Week most = most
+mostRead edition.Second Day most = most
+mostRead edition.Second DayOfYear most = most
+mostRead edition.Second Weekday most = most
+mostRead edition.Second WeekdayFromMonday most = most
+mostRead edition.Second Hour1To12 most = most
+mostRead edition.Second Hour0To11 most = most
+mostRead edition.Second Hour0To23 most = most
+mostRead edition.Second Hour1To24 most = most
+mostRead edition.Second Minute most = most
+mostRead edition.Second Second most = most
+mostRead edition.Second (Fraction k) most = most
+
 abbrev pub colonLength : Bool → ℕ
 colonLength true = 1
 colonLength false = 0
@@ -112,10 +141,10 @@ module _ (number : NumberReader) where
   takenYearWith k = takeYearWith number k >>= λ z. done (year z)
 
   -- yy "reads 3 bytes at `-`, else 2"
-  abbrev pub twoDigitYearWith : ℕ → Reader Carried
-  twoDigitYearWith current s =
+  abbrev pub twoDigitYearWith : Edition → ℕ → Reader Carried
+  twoDigitYearWith edition current s =
       when (eqb (minusFirst s) 1) (takenYearWith 3 s)
-      ((takeYearWith number 2 >>= λ z. done (year (z +ℤ pos (millennium current)))) s)
+      ((takeYearWith number 2 >>= λ z. done (year (twoDigitsMean edition current z))) s)
 
   -- a group of a zone. Where it may be missing it is there if its first digit is.
   abbrev pub takeGroupWith : Bool → Reader ℕ
@@ -145,31 +174,31 @@ module _ (number : NumberReader) where
   takenUnitWith u z k = takeCountWith number k >>= λ n. done (Value u (pos (zeroFor z n)))
 
   -- what a symbol reads
-  unfoldable pub readRuleWith : Book → ℕ → Rule → Reader Carried
-  unfolding reach skip nameCarries names matchName letters digitRun zoneSizeWith zoneSign
-  readRuleWith book current (Number q least most u z) s = takenUnitWith u z (reach (most - least) least s) s
-  readRuleWith book current (SkippedNumber q least most) s = passed (reach (most - least) least s) s
-  readRuleWith book current LetterQuarter s = passed 2 s
-  readRuleWith book current (SkippedName l n) s = passed n s
-  readRuleWith book current (MatchedName l) s = matchedName book l s
-  readRuleWith book current (Letters l n) s = matchedLetters book l n s
-  readRuleWith book current (Years k) s = takenYearWith (yearLength s) s
-  readRuleWith book current (FixedYear k) s = takenYearWith (minusFirst s + k) s
-  readRuleWith book current TwoDigitYear s = twoDigitYearWith current s
-  readRuleWith book current (Zone z c minutes seconds) s = takenZoneWith z c minutes seconds s
+  unfoldable pub readRuleWith : Edition → Book → ℕ → Rule → Reader Carried
+  unfolding reach skip nameCarries names matchName letters digitRun zoneSizeWith zoneSign mostRead twoDigitsMean
+  readRuleWith edition book current (Number q least most u z) s = takenUnitWith u z (reach (mostRead edition q most - least) least s) s
+  readRuleWith edition book current (SkippedNumber q least most) s = passed (reach (most - least) least s) s
+  readRuleWith edition book current LetterQuarter s = passed 2 s
+  readRuleWith edition book current (SkippedName l n) s = passed n s
+  readRuleWith edition book current (MatchedName l) s = matchedName book l s
+  readRuleWith edition book current (Letters l n) s = matchedLetters book l n s
+  readRuleWith edition book current (Years k) s = takenYearWith (yearLength s) s
+  readRuleWith edition book current (FixedYear k) s = takenYearWith (minusFirst s + k) s
+  readRuleWith edition book current TwoDigitYear s = twoDigitYearWith edition current s
+  readRuleWith edition book current (Zone z c minutes seconds) s = takenZoneWith z c minutes seconds s
 
   -- what a part reads
   unfoldable pub readStepWith : Choices → Book → ℕ → Step → Reader Carried
   unfolding readRuleWith skip same
   readStepWith choices book current (literal w lost) s = literalRead (choices .strict) w s
-  readStepWith choices book current (field rule) s = readRuleWith book current rule s
+  readStepWith choices book current (field rule) s = readRuleWith (choices .edition) book current rule s
 
 -- with the specification's number reader
 
 abbrev pub takenYear : ℕ → Reader Carried
 takenYear = takenYearWith takeNumber
 
-abbrev pub twoDigitYear : ℕ → Reader Carried
+abbrev pub twoDigitYear : Edition → ℕ → Reader Carried
 twoDigitYear = twoDigitYearWith takeNumber
 
 abbrev pub takeGroup : Bool → Reader ℕ
@@ -187,7 +216,7 @@ takenZone = takenZoneWith takeNumber
 abbrev pub takenUnit : ParseUnit → ℕ → ℕ → Reader Carried
 takenUnit = takenUnitWith takeNumber
 
-unfoldable pub readRule : Book → ℕ → Rule → Reader Carried
+unfoldable pub readRule : Edition → Book → ℕ → Rule → Reader Carried
 unfolding readRuleWith
 readRule = readRuleWith takeNumber
 

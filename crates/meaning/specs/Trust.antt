@@ -14,6 +14,7 @@ use Rattle.meaning.specs.Writing.{Step, literal, steps, stepText, texts}
 use Rattle.meaning.specs.declared.Checked.{Checked}
 use Rattle.meaning.specs.declared.Checked.the-variants.{Fine, Refused}
 use Rattle.meaning.specs.declared.Choices.{Choices}
+use Rattle.meaning.specs.declared.Edition.{Edition}
 use Rattle.meaning.specs.declared.Fields.{Fields}
 use Rattle.meaning.specs.declared.Pair.the-variants.{Full}
 use Rattle.meaning.specs.declared.Verdict.{Verdict}
@@ -48,24 +49,24 @@ pub record FailsFirst (choices : Choices) (book : Book) (current : ℕ) (ss : Li
   pub fails : ComesBack choices book current ss f i → ⊥
   pub earlier : AllComeBack choices book current ss i
 
-unfoldable pub trustCheck : List ℕ → ℤ → Checked
+unfoldable pub trustCheck : Edition → List ℕ → ℤ → Checked
 unfolding patternCheck currentYearCheck
-trustCheck p current = patternCheck p else currentYearCheck current
+trustCheck edition p current = patternCheck p else currentYearCheck edition current
 
 -- the check is of the full pair
-abbrev pub fullPair : Bool → Choices
-fullPair strict = record { pair = Full; strict = strict }
+abbrev pub fullPair : Edition → Bool → Choices
+fullPair edition strict = record { pair = Full; strict = strict; edition = edition }
 
 -- what an answer of the check says, of a reading with these choices: refusals 1, 2, 3, 14; yes when every part comes back for
 -- every allowed record; no with the first part that fails
 unfoldable pub SaysOf : Choices → Book → List ℕ → ℤ → Verdict → Type 0
 unfolding trustCheck AllComeBack steps
 SaysOf choices book p current verdict.Yes =
-    (trustCheck p current ≡ Fine) × AllComeBack choices book (natAbs current) (steps (choices .pair) p) (length (steps (choices .pair) p))
+    (trustCheck (choices .edition) p current ≡ Fine) × AllComeBack choices book (natAbs current) (steps (choices .pair) p) (length (steps (choices .pair) p))
 SaysOf choices book p current (verdict.No part f) =
-    (trustCheck p current ≡ Fine) × FailsFirst choices book (natAbs current) (steps (choices .pair) p) part f
-SaysOf choices book p current (verdict.Refused why) = trustCheck p current ≡ Refused why
+    (trustCheck (choices .edition) p current ≡ Fine) × FailsFirst choices book (natAbs current) (steps (choices .pair) p) part f
+SaysOf choices book p current (verdict.Refused why) = trustCheck (choices .edition) p current ≡ Refused why
 
--- the answer of the check: the same, whether a reading is strict or not
-abbrev pub Says : Book → List ℕ → ℤ → Verdict → Type 0
-Says book p current answer = (strict : Bool) → SaysOf (fullPair strict) book p current answer
+-- the answer of the check in an edition: the same, whether a reading is strict or not
+abbrev pub Says : Edition → Book → List ℕ → ℤ → Verdict → Type 0
+Says edition book p current answer = (strict : Bool) → SaysOf (fullPair edition strict) book p current answer

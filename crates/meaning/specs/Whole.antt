@@ -1,5 +1,5 @@
--- Specification, "Answer numbers": the whole answer of each function, with its checks in their order. Splitting; writing and
--- reading for a pair, reading strict or not; parse_offset.
+-- Specification, "Answer numbers": the whole answer of each function, with its checks in their order. Splitting; writing for
+-- a pair; reading for a pair, strict or not, in an edition; parse_offset.
 use mathlib.Core.Bool.{Bool, true, false}
 use mathlib.Core.List.{List, [], _∷_, _++_, map}
 use Prim.Native.Char.{Char, code}
@@ -22,6 +22,8 @@ use Rattle.meaning.specs.declared.Carried.the-variants.{Nothing, Value}
 use Rattle.meaning.specs.declared.Checked.{Checked}
 use Rattle.meaning.specs.declared.Checked.the-variants.{Fine, Refused}
 use Rattle.meaning.specs.declared.Choices.{Choices}
+use Rattle.meaning.specs.declared.Edition.{Edition}
+use Rattle.meaning.specs.declared.Edition.the-variants.{First}
 use Rattle.meaning.specs.declared.Fields.{Fields}
 use Rattle.meaning.specs.declared.Numeral.the-variants.{Count}
 use Rattle.meaning.specs.declared.Offset.{Offset}
@@ -80,9 +82,9 @@ output pair book p f out = outputBy (writeCheck pair book p f (length out)) (tex
 
 -- Reading checks 1, 2, 3, 14, 6, 7, then parts in order, then 16 where it is strict.
 
--- the reading of a pair with no choice made: not strict
+-- the reading of a pair with no choice made: not strict, in the first edition
 abbrev pub plain : Pair → Choices
-plain pair = record { pair = pair; strict = false }
+plain pair = record { pair = pair; strict = false; edition = First }
 
 -- what a part gave: the value that it carries, and all the bytes that it took, from the place of the first to that behind the last
 pub record Gave : Type 0 where
@@ -193,14 +195,14 @@ abbrev pub readBy : Checked → Walk → Reading
 readBy Fine w = walkReading w
 readBy (Refused why) w = readingOf (Refused why) 0 []
 
-unfoldable pub readCheck : List ℕ → List ℕ → ℤ → Checked
+unfoldable pub readCheck : Edition → List ℕ → List ℕ → ℤ → Checked
 unfolding patternCheck currentYearCheck textCheck
-readCheck p s current = patternCheck p else currentYearCheck current else textCheck s
+readCheck edition p s current = patternCheck p else currentYearCheck edition current else textCheck s
 
 unfoldable pub readWith : NumberReader → Choices → Book → List ℕ → List ℕ → ℤ → Reading
 unfolding readCheck steps walkWith lastOf bits howMany
 readWith number choices book p s current =
-    readBy (readCheck p s current) (walkWith number choices book (natAbs current) 0 0 (steps (choices .pair) p) s [])
+    readBy (readCheck (choices .edition) p s current) (walkWith number choices book (natAbs current) 0 0 (steps (choices .pair) p) s [])
 
 unfoldable pub read : Choices → Book → List ℕ → List ℕ → ℤ → Reading
 unfolding readWith walk

@@ -19,11 +19,18 @@ pub enum Pair {
     Date,
 }
 
-// What a reading is asked for, beside its pattern and text: the pair, and whether it is strict: then literals are compared and
-// nothing may be left over.
+// How a single M is read, and which year two digits stand for: as old sheets have it, or as terminals agreed since.
+pub enum Edition {
+    First,
+    Second,
+}
+
+// What a reading is asked for, beside its pattern and text: the pair; whether it is strict: then literals are compared and
+// nothing may be left over; and the edition.
 pub struct Choices {
     pub pair: Pair,
     pub strict: bool,
+    pub edition: Edition,
 }
 
 // "Splitting": a run of equal bytes, escaped quotes, a quoted part, one that no quote closes.

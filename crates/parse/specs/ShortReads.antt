@@ -4,9 +4,11 @@ use Prim.Native.Nat.{ℕ, _+_, _-_, _*_}
 use lib.Dec.{eqb, ltb}
 use lib.ListN.{drop}
 use Rattle.meaning.specs.Bytes.{when, isDigit}
+use Rattle.meaning.specs.Reading.{mostRead}
+use Rattle.meaning.specs.declared.Edition.{Edition}
 use Rattle.meaning.specs.declared.ParseUnit.{ParseUnit}
 use Rattle.meaning.specs.declared.ParseUnit.the-variants.{DayOfMonth}
-use Rattle.rules.specs.ShortRules.{isShort, shortUnit, shortMost}
+use Rattle.rules.specs.ShortRules.{isShort, shortQuantity, shortUnit, shortMost}
 use Rattle.rules.specs.declared.short.Short.{Short}
 use Rattle.rules.specs.declared.step.Step.{Step}
 use Rattle.rules.specs.declared.step.Step.the-variants as step
@@ -29,21 +31,22 @@ shortDigits least most s =
     (when (eqb most 1) (found (digitFirst s) 1) (secondDigits (digitFirst s) least (drop 1 s)))
 
 -- those of a number that patterns have most; that they are what its rule reads is the law `digits-read` of proofs/short/Taken
-abbrev pub digitsOf : Short → ℕ → List ℕ → Digits
-digitsOf short c s = when (isShort short) (shortDigits c (shortMost short c) s) (found 100 0)
+abbrev pub digitsOf : Edition → Short → ℕ → List ℕ → Digits
+digitsOf edition short c s =
+    when (isShort short) (shortDigits c (mostRead edition (shortQuantity short) (shortMost short c)) s) (found 100 0)
 
 -- those of a step, and the unit that they carry, where the day stands for none; that they are what it reads is the law
 -- `quick-read` of proofs/step/StepReads
-abbrev pub quickDigits : Step → List ℕ → Digits
-quickDigits (step.Times b n) s = found 100 0
-quickDigits (step.Quoted from to) s = found 100 0
-quickDigits (step.Open from) s = found 100 0
-quickDigits (step.Short number c) s = digitsOf number c s
-quickDigits (step.Year c) s = found 100 0
-quickDigits step.MonthAbbreviated s = found 100 0
-quickDigits step.MonthWide s = found 100 0
-quickDigits step.WdayWide s = found 100 0
-quickDigits (step.Run role b n) s = found 100 0
+abbrev pub quickDigits : Edition → Step → List ℕ → Digits
+quickDigits edition (step.Times b n) s = found 100 0
+quickDigits edition (step.Quoted from to) s = found 100 0
+quickDigits edition (step.Open from) s = found 100 0
+quickDigits edition (step.Short number c) s = digitsOf edition number c s
+quickDigits edition (step.Year c) s = found 100 0
+quickDigits edition step.MonthAbbreviated s = found 100 0
+quickDigits edition step.MonthWide s = found 100 0
+quickDigits edition step.WdayWide s = found 100 0
+quickDigits edition (step.Run role b n) s = found 100 0
 
 abbrev pub quickUnit : Step → ParseUnit
 quickUnit (step.Times b n) = DayOfMonth

@@ -1,13 +1,15 @@
 -- The answers of the steps of reading, from what the definitions' readers give: places count from the text's start, and a
 -- step that goes on answers the moved cursor.
+use mathlib.Core.Bool.{false}
 use Prim.Native.Nat.{ℕ, _+_}
 use Rattle.meaning.specs.Names.{english}
 use Rattle.meaning.specs.Numerals.{Signed}
 use Rattle.meaning.specs.Readers.{Got, got, stopped, Reader}
 use Rattle.meaning.specs.Reading.{readStep}
-use Rattle.meaning.specs.Whole.{plain}
 use Rattle.meaning.specs.Writing.{Step}
 use Rattle.meaning.specs.declared.Carried.{Carried}
+use Rattle.meaning.specs.declared.Choices.{Choices}
+use Rattle.meaning.specs.declared.Edition.{Edition}
 use Rattle.meaning.specs.declared.Pair.the-variants.{Full}
 use Rattle.parse.specs.declared.cursor.Matched.{Matched}
 use Rattle.parse.specs.declared.cursor.Matched.the-variants as matched
@@ -39,5 +41,8 @@ partAt at (got k carried) = part.Got carried (record { at = at + k })
 partAt at (stopped why i) = part.Stopped why (at + i)
 
 -- what a part reads where its literals are not compared, the same by either pair
-abbrev pub plainRead : ℕ → Step → Reader Carried
-plainRead current = readStep (plain Full) english current
+abbrev pub unseen : Edition → Choices
+unseen edition = record { pair = Full; strict = false; edition = edition }
+
+abbrev pub plainRead : Edition → ℕ → Step → Reader Carried
+plainRead edition current = readStep (unseen edition) english current

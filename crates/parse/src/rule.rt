@@ -15,22 +15,30 @@ use crate::years::parse_fixed_year;
 use crate::years::parse_two_digit_year;
 use crate::years::parse_years;
 use crate::zones::parse_zone;
+use meaning::Edition;
 use meaning::Rule;
 use numerals::extents::extent;
+use rules::numbers::most_read;
 
-pub fn parse_rule(rule: Rule, current_year: u32, text: &[u8], cursor: Cursor) -> PartRead
+pub fn parse_rule(
+    edition: Edition,
+    rule: Rule,
+    current_year: u32,
+    text: &[u8],
+    cursor: Cursor,
+) -> PartRead
     requires { ⌜ cursor .at ≤ length (now text) ⌝ }
-    ensures { λ r. ⌜ r ≡ partAt (cursor .at) (readRule english «current_year» rule (drop (cursor .at) (now (text .entry)))) ⌝ }
+    ensures { λ r. ⌜ r ≡ partAt (cursor .at) (readRule edition english «current_year» rule (drop (cursor .at) (now (text .entry)))) ⌝ }
 {
     match rule {
         Rule::Number {
-            quantity: _,
+            quantity,
             least,
             most,
             unit,
             zero,
         } => {
-            let k = extent(least, most, text, cursor.at);
+            let k = extent(least, most_read(edition, quantity, most), text, cursor.at);
             take_number(unit, zero, k, text, cursor)
         }
         Rule::SkippedNumber {
@@ -47,7 +55,7 @@ pub fn parse_rule(rule: Rule, current_year: u32, text: &[u8], cursor: Cursor) ->
         Rule::Letters { names, length } => named(names, cursor.match_letters(names, length, text)),
         Rule::Years(_) => parse_years(text, cursor),
         Rule::FixedYear(count) => parse_fixed_year(count, text, cursor),
-        Rule::TwoDigitYear => parse_two_digit_year(current_year, text, cursor),
+        Rule::TwoDigitYear => parse_two_digit_year(edition, current_year, text, cursor),
         Rule::Zone {
             utc,
             colon,

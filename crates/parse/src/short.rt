@@ -4,10 +4,13 @@ ghost use mathlib.Core.Path.{_≡_};
 ghost use Prim.Native.Nat.{_<_};
 ghost use lib.ListN.{drop};
 ghost use Rattle.parse.specs.ShortReads.{digitFirst, secondDigits, shortDigits, digitsOf};
+use meaning::Edition;
 use numerals::is_digit;
+use rules::numbers::most_read;
 use rules::short::Short;
 use rules::short::is_short;
 use rules::short::short_most;
+use rules::short::short_quantity;
 
 // The number that they are, and the bytes that they take.
 pub struct Digits {
@@ -65,11 +68,12 @@ fn short_digits(least: u8, most: u8, text: &[u8], at: usize) -> Digits
 }
 
 // The digits of a short number, if it is one.
-pub fn parse_short(short: Short, count: u8, text: &[u8], at: usize) -> Digits
-    ensures { λ r. ⌜ r ≡ digitsOf short count (drop at (now (text .entry))) ⌝ }
+pub fn parse_short(edition: Edition, short: Short, count: u8, text: &[u8], at: usize) -> Digits
+    ensures { λ r. ⌜ r ≡ digitsOf edition short count (drop at (now (text .entry))) ⌝ }
 {
     if is_short(short) {
-        return short_digits(count, short_most(short, count), text, at);
+        let most = most_read(edition, short_quantity(short), short_most(short, count));
+        return short_digits(count, most, text, at);
     }
     NONE
 }

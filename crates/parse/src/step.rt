@@ -17,6 +17,7 @@ use crate::steps::pass;
 use crate::years::parse_fixed_year;
 use crate::years::parse_years;
 use meaning::Carried;
+use meaning::Edition;
 use meaning::NameList;
 use meaning::ParseUnit;
 use meaning::Role;
@@ -38,6 +39,7 @@ fn parse_year(count: usize, text: &[u8], cursor: Cursor) -> PartRead
 
 // "Literals are skipped unseen": one byte of text for each that the part stands for.
 fn parse_other(
+    edition: Edition,
     step: Step,
     pattern: &[u8],
     current_year: u32,
@@ -46,7 +48,7 @@ fn parse_other(
 ) -> PartRead
     requires { ⌜ Held (now pattern) step ⌝ }
     requires { ⌜ cursor .at ≤ length (now text) ⌝ }
-    ensures { λ r. ⌜ r ≡ partAt (cursor .at) (plainRead «current_year» (means (now (pattern .entry)) step) (drop (cursor .at) (now (text .entry)))) ⌝ }
+    ensures { λ r. ⌜ r ≡ partAt (cursor .at) (plainRead edition «current_year» (means (now (pattern .entry)) step) (drop (cursor .at) (now (text .entry)))) ⌝ }
 {
     match step {
         Step::Times { byte: _, count } => pass(count, text, cursor),
@@ -59,7 +61,13 @@ fn parse_other(
             pass(k, text, cursor)
         }
         Step::Short { number, count } => {
-            parse_rule(short_rule(number, count), current_year, text, cursor)
+            parse_rule(
+                edition,
+                short_rule(number, count),
+                current_year,
+                text,
+                cursor,
+            )
         }
         Step::Year(count) => parse_year(count, text, cursor),
         Step::MonthAbbreviated => parse_name(NameList::MonthAbbreviated, text, cursor),
@@ -71,7 +79,7 @@ fn parse_other(
             count,
         } => match role {
             Role::Literal => pass(count, text, cursor),
-            Role::Symbol(rule) => parse_rule(rule, current_year, text, cursor),
+            Role::Symbol(rule) => parse_rule(edition, rule, current_year, text, cursor),
         },
     }
 }
@@ -87,11 +95,11 @@ fn moved_on(read: PartRead) -> PartRead
 }
 
 // The digits of a short number, if the step is one and they are there.
-fn quick_digits(step: Step, text: &[u8], at: usize) -> Digits
-    ensures { λ r. ⌜ r ≡ quickDigits step (drop at (now (text .entry))) ⌝ }
+fn quick_digits(edition: Edition, step: Step, text: &[u8], at: usize) -> Digits
+    ensures { λ r. ⌜ r ≡ quickDigits edition step (drop at (now (text .entry))) ⌝ }
 {
     if let Step::Short { number, count } = step {
-        return parse_short(number, count, text, at);
+        return parse_short(edition, number, count, text, at);
     }
     NONE
 }
@@ -107,6 +115,7 @@ fn quick_unit(step: Step) -> ParseUnit
 
 // What patterns have most is read at once: a byte that stands for itself, and short numbers where their digits are there.
 pub fn parse_step(
+    edition: Edition,
     step: Step,
     pattern: &[u8],
     current_year: u32,
@@ -115,12 +124,12 @@ pub fn parse_step(
 ) -> PartRead
     requires { ⌜ Held (now pattern) step ⌝ }
     requires { ⌜ cursor .at ≤ length (now text) ⌝ }
-    ensures { λ r. ⌜ r ≡ partAt (cursor .at) (plainRead «current_year» (means (now (pattern .entry)) step) (drop (cursor .at) (now (text .entry)))) ⌝ }
+    ensures { λ r. ⌜ r ≡ partAt (cursor .at) (plainRead edition «current_year» (means (now (pattern .entry)) step) (drop (cursor .at) (now (text .entry)))) ⌝ }
 {
     if let Step::Times { byte: _, count } = step {
         return pass(count, text, cursor);
     }
-    let read = quick_digits(step, text, cursor.at);
+    let read = quick_digits(edition, step, text, cursor.at);
     if read.size < 100 {
         let unit = quick_unit(step);
         return PartRead::Got {
@@ -130,5 +139,5 @@ pub fn parse_step(
             },
         };
     }
-    moved_on(parse_other(step, pattern, current_year, text, cursor))
+    moved_on(parse_other(edition, step, pattern, current_year, text, cursor))
 }

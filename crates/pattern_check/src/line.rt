@@ -9,6 +9,7 @@ ghost use Rattle.pattern_check.specs.Line.{PartFits, verdictText, Printe
 use digits::laying::put_byte;
 use digits::laying::put_bytes;
 use digits::numbers::zero_padded;
+use meaning::Edition;
 use meaning::Verdict;
 use refusals::tell;
 use verdict::verdict_on;
@@ -40,7 +41,7 @@ pub fn put_line(pattern: &[u8], out: &mut [u8]) -> usize
     ensures { λ r. ⌜ Counts r (now (out .exit)) ⌝ }
     ensures { λ r. ⌜ Printed (now (pattern .entry)) (now (out .entry)) (now (out .exit)) r ⌝ }
 {
-    let verdict = verdict_on(pattern, 2025);
+    let verdict = verdict_on(Edition::First, pattern, 2025);
     let end = put_verdict(verdict, out);
     put_byte(b'\n', out, end)
 }

@@ -6,6 +6,7 @@ ghost use Rattle.reader.specs.Largest.{largestOf};
 use fields::checks::current_year_check;
 use fields::checks::or_else;
 use meaning::Checked;
+use meaning::Edition;
 use meaning::Refusal;
 use pattern::checks::pattern_check;
 
@@ -54,11 +55,11 @@ pub fn text_check(text: &[u8]) -> Checked
 }
 
 // All of them, in their order.
-pub fn read_check(pattern: &[u8], text: &[u8], current_year: i32) -> Checked
-    ensures { λ r. ⌜ r ≡ whole.readCheck (now (pattern .entry)) (now (text .entry)) «current_year» ⌝ }
+pub fn read_check(edition: Edition, pattern: &[u8], text: &[u8], current_year: i32) -> Checked
+    ensures { λ r. ⌜ r ≡ whole.readCheck edition (now (pattern .entry)) (now (text .entry)) «current_year» ⌝ }
 {
     let of_pattern = pattern_check(pattern);
-    let of_year = current_year_check(current_year);
+    let of_year = current_year_check(edition, current_year);
     let of_text = text_check(text);
     or_else(of_pattern, or_else(of_year, of_text))
 }

@@ -16,6 +16,7 @@ use crate::walk::parse_parts;
 use fields::signed::size;
 use meaning::Checked;
 use meaning::Choices;
+use meaning::Edition;
 use meaning::Pair;
 use meaning::Reading;
 
@@ -23,20 +24,22 @@ use meaning::Reading;
 pub fn parse_with(choices: Choices, pattern: &[u8], text: &[u8], year: i32) -> Reading
     ensures { λ r. ⌜ Reads choices english (now (pattern .entry)) (now (text .entry)) year r ⌝ }
 {
-    let checked = read_check(pattern, text, year);
+    let edition = choices.edition;
+    let checked = read_check(edition, pattern, text, year);
     match checked {
         Checked::Fine => parse_parts(choices, pattern, text, size(year)),
         Checked::Refused(_) => no_reading(checked),
     }
 }
 
-// A pair's reading with no choice made: not strict.
+// A pair's reading with no choice made: not strict, in the first edition.
 pub fn plain(pair: Pair) -> Choices
     ensures { λ r. ⌜ r ≡ whole.plain pair ⌝ }
 {
     Choices {
         pair,
         strict: false,
+        edition: Edition::First,
     }
 }
 

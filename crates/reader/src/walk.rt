@@ -53,6 +53,7 @@ pub fn parse_parts(choices: Choices, pattern: &[u8], text: &[u8], current_year: 
     ensures { λ r. ⌜ r ≡ walkReading (walk choices english «current_year» 0 0 (steps (choices .pair) (now (pattern .entry))) (now (text .entry)) []) ⌝ }
 {
     let pair = choices.pair;
+    let edition = choices.edition;
     let mut values = [0i64; 15];
     let mut starts = [0u16; 15];
     let mut ends = [0u16; 15];
@@ -63,7 +64,7 @@ pub fn parse_parts(choices: Choices, pattern: &[u8], text: &[u8], current_year: 
     while place < pattern.len() {
         let part = next_part(pattern, place);
         let step = step_of(pair, pattern, part);
-        match parse_step(step, pattern, current_year, text, Cursor { at }) {
+        match parse_step(edition, step, pattern, current_year, text, Cursor { at }) {
             PartRead::Stopped { trouble, place: to } => return refused_in(i, trouble, to),
             PartRead::Got { carried, next } => {
                 let start = at;

@@ -1,9 +1,6 @@
 // A step: what a part does, with everything about it decided. What patterns have most has kinds of its own, which are chosen
 // without a look at the table.
-ghost use mathlib.Core.Path.{_≡_};
 ghost use Prim.Native.Nat.{_<_};
-ghost use Rattle.meaning.specs.Rules.{roleOf};
-ghost use Rattle.pattern.specs.First.{contentOf};
 ghost use Rattle.pattern.specs.Next.{Next};
 ghost use Rattle.rules.specs.Steps.{RunChosen, Chosen};
 use crate::role_of;

@@ -14,12 +14,13 @@ use Rattle.laws.proofs.Determined.{determined}
 use Rattle.meaning.specs.Answers.{Answer, fieldNumbers, verdictAnswer}
 use Rattle.meaning.specs.Names.{english}
 use Rattle.meaning.specs.declared.Choices.{Choices}
+use Rattle.meaning.specs.declared.Edition.{Edition}
 use Rattle.meaning.specs.declared.Fields.{Fields}
 use Rattle.meaning.specs.declared.Pair.{Pair}
 use Rattle.meaning.specs.declared.Verdict.{Verdict}
 use Rattle.meaning.specs.declared.Verdict.the-variants.{Yes, No, Refused}
-use Rattle.sheet.specs.Rows.{inRow, Given}
-use Rattle.sheet.specs.Sheet.{has, ifRoom, SheetWrites, SheetReads, SheetReadsWith, SheetTellsRead, SheetParsesOffset, SheetSplits, SheetUnits, SheetChecks}
+use Rattle.sheet.specs.Rows.{inRow, Given, editionOf, ofCheck}
+use Rattle.sheet.specs.Sheet.{has, ifRoom, ifChoices, verdictIn, SheetWrites, SheetReads, SheetReadsWith, SheetTellsRead, SheetParsesOffset, SheetSplits, SheetUnits, SheetChecks, SheetChecksWith}
 use Rattle.trust.proofs.Agreement.{SameButRecord, answers-coincide}
 
 given-coincide : {answer : Answer} {old new new′ : List ℤ} {r r′ : ℕ} → Given answer old new r → Given answer old new′ r′ → (r ≡ r′) × (new ≡ new′)
@@ -113,8 +114,19 @@ module _ {row after after′ : List ℤ} {r r′ : ℕ} where
   checks-by true v w h e x y = verdicts-coincide v w (h refl) e x y
   checks-by false v w h e x y = same-check (given-coincide x y)
 
-pub checks-coincide : (p : List ℕ) (current : ℤ) (row : List ℤ) {r r′ : ℕ} {rowAfter rowAfter′ : List ℤ}
-    → SheetChecks p current row r rowAfter → SheetChecks p current row r′ rowAfter′ → SameCheck r r′ rowAfter rowAfter′
-checks-coincide p current row a b =
+pub checks-coincide : (edition : Edition) (p : List ℕ) (current : ℤ) (row : List ℤ) {r r′ : ℕ} {rowAfter rowAfter′ : List ℤ}
+    → SheetChecks edition p current row r rowAfter → SheetChecks edition p current row r′ rowAfter′ → SameCheck r r′ rowAfter rowAfter′
+checks-coincide edition p current row a b =
     checks-by (has 10 row) (a .verdict) (b .verdict) (leb-true 10 (length row))
-    (answers-coincide english p current (a .verdict) (b .verdict) (a .says) (b .says)) (a .given) (b .given)
+    (answers-coincide edition english p current (a .verdict) (b .verdict) (a .says) (b .says)) (a .given) (b .given)
+
+pub checks-with-coincide : (n : ℕ) (p : List ℕ) (current : ℤ) (row : List ℤ) {r r′ : ℕ} {rowAfter rowAfter′ : List ℤ}
+    → SheetChecksWith n p current row r rowAfter → SheetChecksWith n p current row r′ rowAfter′ → SameCheck r r′ rowAfter rowAfter′
+checks-with-coincide n p current row {r} {r′} {rowAfter} {rowAfter′} a b = go (ofCheck n) (a .given) (b .given)
+  where
+    go : (stands : Bool) → Given (ifChoices stands (verdictIn row (a .verdict))) row rowAfter r
+        → Given (ifChoices stands (verdictIn row (b .verdict))) row rowAfter′ r′ → SameCheck r r′ rowAfter rowAfter′
+    go true x y =
+        checks-by (has 10 row) (a .verdict) (b .verdict) (leb-true 10 (length row))
+        (answers-coincide (editionOf n) english p current (a .verdict) (b .verdict) (a .says) (b .says)) x y
+    go false x y = same-check (given-coincide x y)

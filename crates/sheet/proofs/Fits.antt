@@ -16,7 +16,7 @@ use Rattle.laws.proofs.Fields.{allowed}
 use Rattle.laws.proofs.Pluses.{behindPart}
 use Rattle.laws.proofs.Sizes as sizes
 use Rattle.laws.proofs.Tests.{when-is}
-use Rattle.meaning.specs.Answers.{_else_, refuseUnless, within, byteCheck, bytesCheck, endsInLoneQuote, patternCheck, fieldsCheck, roomCheck, textCheck, currentYearCheck, restCheck, details}
+use Rattle.meaning.specs.Answers.{_else_, refuseUnless, within, byteCheck, bytesCheck, endsInLoneQuote, patternCheck, fieldsCheck, roomCheck, textCheck, firstCurrentYear, currentYearCheck, restCheck, details}
 use Rattle.meaning.specs.Bytes.{when, both, plus}
 use Rattle.meaning.specs.Names.{Book, english}
 use Rattle.meaning.specs.Numerals.{Signed}
@@ -30,6 +30,7 @@ use Rattle.meaning.specs.declared.Carried.{Carried}
 use Rattle.meaning.specs.declared.Checked.{Checked}
 use Rattle.meaning.specs.declared.Checked.the-variants.{Fine, Refused}
 use Rattle.meaning.specs.declared.Choices.{Choices}
+use Rattle.meaning.specs.declared.Edition.{Edition}
 use Rattle.meaning.specs.declared.Fields.{Fields}
 use Rattle.meaning.specs.declared.Numeral.the-variants.{Count}
 use Rattle.meaning.specs.declared.Offset.{Offset}
@@ -83,10 +84,10 @@ year-small : (current : ℤ) → SFits w32 current → NumberFits (natAbs curren
 year-small (pos n) h = omega (arith, h .sfits)
 year-small (negsuc n) h = omega (arith, h .sfits)
 
-year-fits : (current : ℤ) → SFits w32 current → CheckedFits (currentYearCheck current)
+year-fits : (edition : Edition) (current : ℤ) → SFits w32 current → CheckedFits (currentYearCheck edition current)
 unfolding currentYearCheck details
-year-fits current h =
-    when-is CheckedFits (isNegative current) (λ _. (year-small current h, tt)) (λ _. unless-fits (within 1 9999 (natAbs current)) (CurrentYear current) (year-small current h, tt))
+year-fits edition current h =
+    when-is CheckedFits (isNegative current) (λ _. (year-small current h, tt)) (λ _. unless-fits (within (firstCurrentYear edition) 9999 (natAbs current)) (CurrentYear current) (year-small current h, tt))
 
 text-fits : (s : List ℕ) → NumberFits (length s) → CheckedFits (textCheck s)
 unfolding textCheck details
@@ -153,9 +154,9 @@ pub read-fits : (choices : Choices) (p s : List ℕ) (current : ℤ) → NumberF
     → ReadFits (read choices english p s current)
 unfolding read readCheck
 read-fits choices p s current h k y =
-    let checks = else-fits (patternCheck p) (currentYearCheck current else textCheck s) (pattern-fits p h)
-    (λ _. else-fits (currentYearCheck current) (textCheck s) (year-fits current y) (λ _. text-fits s k)) in
-    read-by-fits (readCheck p s current) (walk choices english (natAbs current) 0 0 (steps (choices .pair) p) s []) checks
+    let checks = else-fits (patternCheck p) (currentYearCheck (choices .edition) current else textCheck s) (pattern-fits p h)
+    (λ _. else-fits (currentYearCheck (choices .edition) current) (textCheck s) (year-fits (choices .edition) current y) (λ _. text-fits s k)) in
+    read-by-fits (readCheck (choices .edition) p s current) (walk choices english (natAbs current) 0 0 (steps (choices .pair) p) s []) checks
     (walk-fits choices english (natAbs current) 0 0 (steps (choices .pair) p) s [] (omega (arith, few-steps (choices .pair) p)) (omega arith))
 
 -- parse_offset
@@ -195,11 +196,11 @@ offset-fits s h =
 
 -- the check
 
-pub verdict-fits : (p : List ℕ) (current : ℤ) (v : Verdict) → NumberFits (length p) → SFits w32 current → Says english p current v → VerdictFits v
+pub verdict-fits : (edition : Edition) (p : List ℕ) (current : ℤ) (v : Verdict) → NumberFits (length p) → SFits w32 current → Says edition english p current v → VerdictFits v
 unfolding SaysOf trustCheck
-verdict-fits p current verdict.Yes h y s = tt
-verdict-fits p current (verdict.No part f) h y s =
+verdict-fits edition p current verdict.Yes h y s = tt
+verdict-fits edition p current (verdict.No part f) h y s =
     (omega (arith, s false .1 .there, few-steps Full p), omega (arith, allowed f (s false .1 .allowed) .nanos))
-verdict-fits p current (verdict.Refused why) h y s =
-    let checks = else-fits (patternCheck p) (currentYearCheck current) (pattern-fits p h) (λ _. year-fits current y) in
+verdict-fits edition p current (verdict.Refused why) h y s =
+    let checks = else-fits (patternCheck p) (currentYearCheck edition current) (pattern-fits p h) (λ _. year-fits edition current y) in
     rw (s false) at checks

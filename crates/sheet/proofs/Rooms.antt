@@ -1,5 +1,6 @@
 -- An answer that fills its row with no zeros, as a reading does; one where the lent row has room for it, and where it has none; one by
 -- choices.
+use mathlib.Core.Bool.{Bool, true, false}
 use mathlib.Core.List.{List, _∷_, _++_, map, append-nil}
 use mathlib.Core.Path.{_≡_, refl}
 use Prim.Native.Nat.{ℕ, _≤_, _<_}
@@ -29,12 +30,12 @@ module _ (n : ℕ) (row : List ℤ) (answer : Answer) where
   no-room h = rw (lt-leb n (length row) h) (record { number = refl; row = refl })
 
 -- an answer where a number stands for choices, and where it does not
-module _ (n : ℕ) (row : List ℤ) (answer : Answer) where
-  pub chosen : {new : List ℤ} {r : ℕ} → n ≤ 3 → Given answer row new r → Given (ifChoices n answer) row new r
-  chosen h given = rw (le-leb n 3 h) given
+module _ (stands : Bool) (row : List ℤ) (answer : Answer) where
+  pub chosen : {new : List ℤ} {r : ℕ} → stands ≡ true → Given answer row new r → Given (ifChoices stands answer) row new r
+  chosen h given = rw h given
 
-  pub no-choices : 3 < n → Given (ifChoices n answer) row row 101
-  no-choices h = rw (lt-leb n 3 h) (record { number = refl; row = refl })
+  pub no-choices : stands ≡ false → Given (ifChoices stands answer) row row 101
+  no-choices h = rw h (record { number = refl; row = refl })
 
 -- an answer in its row and numbers in a second one
 module _ (n : ℕ) (row more numbers : List ℤ) (answer : Answer) where

@@ -16,8 +16,11 @@ use Rattle.meaning.specs.Writing.{Step, steps}
 use Rattle.meaning.specs.declared.Checked.{Checked}
 use Rattle.meaning.specs.declared.Checked.the-variants.{Fine, Refused}
 use Rattle.meaning.specs.declared.Choices.{Choices}
+use Rattle.meaning.specs.declared.Edition.{Edition}
+use Rattle.meaning.specs.declared.Edition.the-variants.{First, Second}
 use Rattle.meaning.specs.declared.Kind.{Kind}
 use Rattle.meaning.specs.declared.Kind.the-variants.{Run, Quotes, Quoted, Open}
+use Rattle.meaning.specs.declared.Pair.{Pair}
 use Rattle.meaning.specs.declared.Pair.the-variants.{Full, Date}
 use Rattle.meaning.specs.declared.ParseUnit.{ParseUnit}
 use Rattle.meaning.specs.declared.Part.{Part}
@@ -27,9 +30,22 @@ use Rattle.meaning.specs.declared.Split.{Split}
 abbrev pub inRow : ℕ → Answer → Answer
 inRow n a = record { number = a .number; values = a .values ++ replicate (n - length (a .values)) (pos 0) }
 
--- the choices that a number stands for: 1 is the Date pair, 2 a strict reading, added
+-- the choices that a number stands for: 1 is the Date pair, 2 a strict reading, 4 the second edition, added
+abbrev pub pairOf : ℕ → Pair
+pairOf n = when (eqb (n % 2) 1) Date Full
+
+abbrev pub editionOf : ℕ → Edition
+editionOf n = when (eqb (n / 4 % 2) 1) Second First
+
 abbrev pub choicesOf : ℕ → Choices
-choicesOf n = record { pair = when (eqb (n % 2) 1) Date Full; strict = eqb (n / 2 % 2) 1 }
+choicesOf n = record { pair = pairOf n; strict = eqb (n / 2 % 2) 1; edition = editionOf n }
+
+-- whether a number stands for choices of a reading, and for those of a check, which is of the full pair
+abbrev pub ofReading : ℕ → Bool
+ofReading n = leb n 7
+
+abbrev pub ofCheck : ℕ → Bool
+ofCheck n = both (ofReading n) (eqb (n % 2) 0)
 
 -- whether a mask has the bit of a unit, of which there are fifteen; a number below 0 is no mask and has none
 abbrev pub isMarked : ℤ → ℕ → Bool

@@ -13,10 +13,11 @@ use Rattle.meaning.specs.Names.{english}
 use Rattle.meaning.specs.Trust.{Says}
 use Rattle.meaning.specs.Whole.{split, write, output, read, parseOffset}
 use Rattle.meaning.specs.declared.Choices.{Choices}
+use Rattle.meaning.specs.declared.Edition.{Edition}
 use Rattle.meaning.specs.declared.Fields.{Fields}
 use Rattle.meaning.specs.declared.Pair.{Pair}
 use Rattle.meaning.specs.declared.Verdict.{Verdict}
-use Rattle.sheet.specs.Rows.{inRow, Given, laid, choicesOf, isMarked, splitNumbers, unitEntries}
+use Rattle.sheet.specs.Rows.{inRow, Given, laid, editionOf, choicesOf, ofReading, ofCheck, isMarked, splitNumbers, unitEntries}
 
 -- whether a row has so many entries
 abbrev pub has : {A : Type 0} → ℕ → List A → Bool
@@ -27,8 +28,8 @@ abbrev pub ifRoom : Bool → Answer → Answer
 ifRoom room answer = when room answer (record { number = 100; values = [] })
 
 -- an answer where a number stands for choices
-abbrev pub ifChoices : ℕ → Answer → Answer
-ifChoices n answer = when (leb n 3) answer (record { number = 101; values = [] })
+abbrev pub ifChoices : Bool → Answer → Answer
+ifChoices stands answer = when stands answer (record { number = 101; values = [] })
 
 abbrev pub SheetWrites : Pair → List ℕ → Fields → List ℕ → List ℤ → ℕ → List ℕ → List ℤ → Type 0
 SheetWrites pair p f out row r outAfter rowAfter =
@@ -44,7 +45,7 @@ SheetReads choices p s current row r rowAfter = Given (readOf choices p s curren
 
 -- with choices by their number, where it is one
 abbrev pub SheetReadsWith : ℕ → List ℕ → List ℕ → ℤ → List ℤ → ℕ → List ℤ → Type 0
-SheetReadsWith n p s current row r rowAfter = Given (ifChoices n (readOf (choicesOf n) p s current row)) row rowAfter r
+SheetReadsWith n p s current row r rowAfter = Given (ifChoices (ofReading n) (readOf (choicesOf n) p s current row)) row rowAfter r
 
 abbrev pub SheetTellsRead : ℤ → ℕ → ℕ → Type 0
 SheetTellsRead mask unit r = r ≡ when (isMarked mask unit) 1 0
@@ -66,7 +67,18 @@ abbrev pub SheetUnits : List ℕ → List ℤ → List ℤ → ℕ → List ℤ 
 SheetUnits p = InTwoRows (splitAnswer (split p)) (unitEntries p) 256
 
 -- an answer that `Says` allows, which leaves open the failing record
-pub record SheetChecks (p : List ℕ) (current : ℤ) (row : List ℤ) (r : ℕ) (rowAfter : List ℤ) : Type 0 where
+pub record Checks (edition : Edition) (p : List ℕ) (current : ℤ) (answer : Verdict → Answer) (row : List ℤ) (r : ℕ) (rowAfter : List ℤ) : Type 0 where
   pub verdict : Verdict
-  pub says : Says english p current verdict
-  pub given : Given (ifRoom (has 10 row) (inRow 10 (verdictAnswer verdict))) row rowAfter r
+  pub says : Says edition english p current verdict
+  pub given : Given (answer verdict) row rowAfter r
+
+abbrev pub verdictIn : List ℤ → Verdict → Answer
+verdictIn row verdict = ifRoom (has 10 row) (inRow 10 (verdictAnswer verdict))
+
+abbrev pub SheetChecks : Edition → List ℕ → ℤ → List ℤ → ℕ → List ℤ → Type 0
+SheetChecks edition p current row = Checks edition p current (verdictIn row) row
+
+-- with choices by their number, where it is one of a check
+abbrev pub SheetChecksWith : ℕ → List ℕ → ℤ → List ℤ → ℕ → List ℤ → Type 0
+SheetChecksWith n p current row =
+    Checks (editionOf n) p current (λ verdict. ifChoices (ofCheck n) (verdictIn row verdict)) row

@@ -8,16 +8,18 @@ pub mod units;
 pub mod verdicts;
 
 ghost use Rattle.meaning.specs.Whole.{plain};
-ghost use Rattle.sheet.specs.Sheet.{SheetWrites, SheetReads, SheetReadsWith, SheetParsesOffset, SheetSplits, SheetUnits, SheetChecks, SheetTellsRead};
+ghost use Rattle.sheet.specs.Sheet.{SheetWrites, SheetReads, SheetReadsWith, SheetParsesOffset, SheetSplits, SheetUnits, SheetChecks, SheetChecksWith, SheetTellsRead};
 use crate::answers::give_offset;
 use crate::answers::give_wrote;
 use crate::readings::choices_of;
+use crate::readings::edition_of;
 use crate::readings::give_reading;
 use crate::readings::is_marked;
 use crate::splits::give_split;
 use crate::units::give_units;
 use crate::verdicts::give_verdict;
 use meaning::Choices;
+use meaning::Edition;
 use meaning::Fields;
 use meaning::Pair;
 use reader::offset::parse_offset;
@@ -121,8 +123,8 @@ pub extern "C" fn sheet_read_date(pattern: &[u8], text: &[u8], year: i32, answer
     read(plain(Pair::Date), pattern, text, year, answer)
 }
 
-// A reader with choices, each a number, added: 1 for the Date pair, 2 for a strict reading. The row as before. Another number
-// than 0 to 3 is no choice: 101, and nothing is altered.
+// A reader with choices, each a number, added: 1 for the Date pair, 2 for a strict reading, 4 for the second edition. The row as
+// before. Another number than 0 to 7 is no choice: 101, and nothing is altered.
 #[no_mangle]
 pub extern "C" fn sheet_read_with(
     choices: u32,
@@ -133,7 +135,7 @@ pub extern "C" fn sheet_read_with(
 ) -> u32
     ensures { λ r. ⌜ SheetReadsWith choices (now (pattern .entry)) (now (text .entry)) year (now (answer .entry)) r (now (answer .exit)) ⌝ }
 {
-    if 3 < choices {
+    if 7 < choices {
         return 101;
     }
     read(choices_of(choices), pattern, text, year, answer)
@@ -182,13 +184,35 @@ pub extern "C" fn sheet_units(pattern: &[u8], answer: &mut [i64], units: &mut [i
     give_units(pattern, answer, units)
 }
 
+fn check(edition: Edition, pattern: &[u8], year: i32, row: &mut [i64]) -> u32
+    ensures { λ r. ⌜ SheetChecks edition (now (pattern .entry)) year (now (row .entry)) r (now (row .exit)) ⌝ }
+{
+    if row.len() < 10 {
+        return 100;
+    }
+    give_verdict(verdict_on(edition, pattern, year), row)
+}
+
 // The row: 1 and zeros; or 0, the part and a record for which it fails; or the refusal's details and zeros, 10 numbers in all.
 #[no_mangle]
 pub extern "C" fn sheet_check(pattern: &[u8], year: i32, answer: &mut [i64]) -> u32
-    ensures { λ r. ⌜ SheetChecks (now (pattern .entry)) year (now (answer .entry)) r (now (answer .exit)) ⌝ }
+    ensures { λ r. ⌜ SheetChecks Edition.First (now (pattern .entry)) year (now (answer .entry)) r (now (answer .exit)) ⌝ }
 {
-    if answer.len() < 10 {
-        return 100;
+    check(Edition::First, pattern, year, answer)
+}
+
+// The check with a reader's choices. A strict reading has the same answer. The Date pair has no check: its numbers are no choice here.
+#[no_mangle]
+pub extern "C" fn sheet_check_with(
+    choices: u32,
+    pattern: &[u8],
+    year: i32,
+    answer: &mut [i64],
+) -> u32
+    ensures { λ r. ⌜ SheetChecksWith choices (now (pattern .entry)) year (now (answer .entry)) r (now (answer .exit)) ⌝ }
+{
+    if 7 < choices || choices % 2 == 1 {
+        return 101;
     }
-    give_verdict(verdict_on(pattern, year), answer)
+    check(edition_of(choices), pattern, year, answer)
 }

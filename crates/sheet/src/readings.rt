@@ -7,13 +7,14 @@ ghost use lib.ListN.{length};
 ghost use Rattle.meaning.specs.Answers.{accepted, readAnswer};
 ghost use Rattle.meaning.specs.Whole.{unitNumber};
 ghost use Rattle.sheet.specs.Fits.{NumberFits, ReadFits};
-ghost use Rattle.sheet.specs.Rows.{inRow, Given, choicesOf, isMarked};
+ghost use Rattle.sheet.specs.Rows.{inRow, Given, pairOf, editionOf, choicesOf, isMarked};
 use crate::answers::give_refusal;
 use crate::entries::entry;
 use crate::entries::lay;
 use crate::entries::lay_places;
 use meaning::Checked;
 use meaning::Choices;
+use meaning::Edition;
 use meaning::Pair;
 use meaning::ParseUnit;
 use meaning::Reading;
@@ -47,17 +48,32 @@ pub fn give_reading(reading: Reading, row: &mut [i64]) -> u32
     }
 }
 
+fn pair_of(number: u32) -> Pair
+    ensures { λ r. ⌜ r ≡ pairOf number ⌝ }
+{
+    if number % 2 == 1 {
+        return Pair::Date;
+    }
+    Pair::Full
+}
+
+pub fn edition_of(number: u32) -> Edition
+    ensures { λ r. ⌜ r ≡ editionOf number ⌝ }
+{
+    if number / 4 % 2 == 1 {
+        return Edition::Second;
+    }
+    Edition::First
+}
+
 // The choices that a number stands for.
 pub fn choices_of(number: u32) -> Choices
     ensures { λ r. ⌜ r ≡ choicesOf number ⌝ }
 {
     Choices {
-        pair: if number % 2 == 1 {
-            Pair::Date
-        } else {
-            Pair::Full
-        },
+        pair: pair_of(number),
         strict: number / 2 % 2 == 1,
+        edition: edition_of(number),
     }
 }
 

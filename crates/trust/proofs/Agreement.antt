@@ -13,6 +13,7 @@ use Rattle.meaning.specs.Writing.{Step}
 use Rattle.meaning.specs.declared.Checked.{Checked}
 use Rattle.meaning.specs.declared.Checked.the-variants.{Fine, Refused}
 use Rattle.meaning.specs.declared.Choices.{Choices}
+use Rattle.meaning.specs.declared.Edition.{Edition}
 use Rattle.meaning.specs.declared.Fields.{Fields}
 use Rattle.meaning.specs.declared.Refusal.{Refusal}
 use Rattle.meaning.specs.declared.Verdict.{Verdict}
@@ -65,5 +66,5 @@ answers-of-coincide choices book p current (Refuses why) (Refuses why′) a b =
     cc
 
 -- and so are two answers of the check
-pub answers-coincide : (book : Book) (p : List ℕ) (current : ℤ) (v w : Verdict) → Says book p current v → Says book p current w → SameButRecord v w
-answers-coincide book p current v w a b = answers-of-coincide (fullPair false) book p current v w (a false) (b false)
+pub answers-coincide : (edition : Edition) (book : Book) (p : List ℕ) (current : ℤ) (v w : Verdict) → Says edition book p current v → Says edition book p current w → SameButRecord v w
+answers-coincide edition book p current v w a b = answers-of-coincide (fullPair edition false) book p current v w (a false) (b false)

@@ -11,6 +11,7 @@ use lib.ListN.{length}
 use borrow.Author.Tests.{not-true}
 use Rattle.meaning.specs.Bytes.{when, both, digitAt}
 use Rattle.meaning.specs.Writing.{Step, literal, field}
+use Rattle.meaning.specs.declared.Edition.{Edition}
 use Rattle.meaning.specs.declared.Fields.{Fields}
 use Rattle.meaning.specs.declared.NameList.{NameList}
 use Rattle.meaning.specs.declared.Quantity.{Quantity}
@@ -45,23 +46,23 @@ meets-alike NoSecondDigit same = ap not (same .second)
 meets-alike Broken same = refl
 
 -- The parts before others, with some in their place that begin alike and hold; then those others.
-pub failing-join : (i : ℕ) (ss : List Step) {ts us : List Step} → BeginAlike ts us → ((j : ℕ) → firstFailing j us ≡ Yes)
-    → firstFailing i (ss ++ ts) ≡ andThen (firstFailing i (ss ++ us)) (firstFailing (i + length ss) ts)
-failing-join i [] same hold = rw (hold i, add-zero)
-failing-join i (s ∷ ss) {ts} {us} same hold =
+pub failing-join : (edition : Edition) (i : ℕ) (ss : List Step) {ts us : List Step} → BeginAlike ts us → ((j : ℕ) → firstFailing edition j us ≡ Yes)
+    → firstFailing edition i (ss ++ ts) ≡ andThen (firstFailing edition i (ss ++ us)) (firstFailing edition (i + length ss) ts)
+failing-join edition i [] same hold = rw (hold i, add-zero)
+failing-join edition i (s ∷ ss) {ts} {us} same hold =
     let next : i + suc (length ss) ≡ suc i + length ss = omega arith in
-    let as-well = meets-alike (stepNeed s) (alike-behind ss same) in
-    by-test (meets (stepNeed s) (ss ++ us))
-    (λ e. rw (failing-on i s (ss ++ ts) (as-well ∙ e), failing-on i s (ss ++ us) e, next) (failing-join (suc i) ss same hold))
-    (λ e. rw (failing-here i s (ss ++ ts) (as-well ∙ e), failing-here i s (ss ++ us) e))
+    let as-well = meets-alike (stepNeed edition s) (alike-behind ss same) in
+    by-test (meets (stepNeed edition s) (ss ++ us))
+    (λ e. rw (failing-on edition i s (ss ++ ts) (as-well ∙ e), failing-on edition i s (ss ++ us) e, next) (failing-join edition (suc i) ss same hold))
+    (λ e. rw (failing-here edition i s (ss ++ ts) (as-well ∙ e), failing-here edition i s (ss ++ us) e))
 
-pub failing-later : (k i : ℕ) (ss : List Step) → firstFailing (k + i) ss ≡ later k (firstFailing i ss)
-failing-later k i [] = unfold firstFailing in refl
-failing-later k i (s ∷ ss) =
+pub failing-later : (edition : Edition) (k i : ℕ) (ss : List Step) → firstFailing edition (k + i) ss ≡ later k (firstFailing edition i ss)
+failing-later edition k i [] = unfold firstFailing in refl
+failing-later edition k i (s ∷ ss) =
     let next : suc (k + i) ≡ k + suc i = omega arith in
-    by-test (meets (stepNeed s) ss)
-    (λ e. rw (failing-on (k + i) s ss e, failing-on i s ss e, next) (failing-later k (suc i) ss))
-    (λ e. rw (failing-here (k + i) s ss e, failing-here i s ss e))
+    by-test (meets (stepNeed edition s) ss)
+    (λ e. rw (failing-on edition (k + i) s ss e, failing-on edition i s ss e, next) (failing-later edition k (suc i) ss))
+    (λ e. rw (failing-here edition (k + i) s ss e, failing-here edition i s ss e))
 
 -- the two bytes that stand for parts begin as they do, and hold
 
@@ -82,9 +83,9 @@ stand-in-alike ss =
       second = unfold standIn in sym (mark-second (digitSecond ss) (digitFirst ss));
     }
 
-pub stand-in-holds : (ss : List Step) (j : ℕ) → firstFailing j (standIn ss) ≡ Yes
+pub stand-in-holds : (edition : Edition) (ss : List Step) (j : ℕ) → firstFailing edition j (standIn ss) ≡ Yes
 unfolding standIn firstFailing
-stand-in-holds ss j = refl
+stand-in-holds edition ss j = refl
 
 -- where they can begin with no digit, nothing stands for them
 
@@ -92,9 +93,9 @@ pub nothing-alike : (ss : List Step) → digitFirst ss ≡ false → digitSecond
 unfolding digitFirst digitSecond
 nothing-alike ss first second = record { first = first; second = second }
 
-pub nothing-holds : (j : ℕ) → firstFailing j [] ≡ Yes
+pub nothing-holds : (edition : Edition) (j : ℕ) → firstFailing edition j [] ≡ Yes
 unfolding firstFailing
-nothing-holds j = refl
+nothing-holds edition j = refl
 
 -- parts that hold before others hold alone
 
@@ -151,11 +152,11 @@ meets-alone NoDigit ss ts h = rw (first-less ss ts (not-true _ h))
 meets-alone NoSecondDigit ss ts h = rw (second-less ss ts (not-true _ h))
 meets-alone Broken ss ts h = h
 
-pub holds-alone : (i : ℕ) (ss ts : List Step) → firstFailing i (ss ++ ts) ≡ Yes → firstFailing i ss ≡ Yes
-holds-alone i [] ts h = nothing-holds i
-holds-alone i (s ∷ ss) ts h =
-    by-test (meets (stepNeed s) (ss ++ ts))
+pub holds-alone : (edition : Edition) (i : ℕ) (ss ts : List Step) → firstFailing edition i (ss ++ ts) ≡ Yes → firstFailing edition i ss ≡ Yes
+holds-alone edition i [] ts h = nothing-holds edition i
+holds-alone edition i (s ∷ ss) ts h =
+    by-test (meets (stepNeed edition s) (ss ++ ts))
     (λ e.
-    rw (failing-on i s ss (meets-alone (stepNeed s) ss ts e))
-    (holds-alone (suc i) ss ts (rw (failing-on i s (ss ++ ts) e) at h)))
-    (λ e. absurd (not-yes (rw (failing-here i s (ss ++ ts) e) at h)))
+    rw (failing-on edition i s ss (meets-alone (stepNeed edition s) ss ts e))
+    (holds-alone edition (suc i) ss ts (rw (failing-on edition i s (ss ++ ts) e) at h)))
+    (λ e. absurd (not-yes (rw (failing-here edition i s (ss ++ ts) e) at h)))

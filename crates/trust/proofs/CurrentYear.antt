@@ -1,5 +1,5 @@
--- Demand 3: the answer of the check does not depend on the current year, as long as that is one of 1..9999. Another record may
--- fail in one year alone: 2025 by yy comes back in 2025 and not in 1999.
+-- Demand 3: the answer of the check does not depend on the current year, as long as that is one of 1..9999, or of 81..9999 in the
+-- second edition. Another record may fail in one year alone: 2025 by yy comes back in 2025 and not in 1999.
 use mathlib.Core.Bool.{Bool, false}
 use mathlib.Core.List.{List}
 use mathlib.Core.Path.{_≡_, sym, _∙_}
@@ -10,6 +10,7 @@ use Rattle.meaning.specs.Names.{english}
 use Rattle.meaning.specs.Trust.{FailsFirst, fullPair, SaysOf, Says, trustCheck}
 use Rattle.meaning.specs.Writing.{steps}
 use Rattle.meaning.specs.declared.Checked.the-variants.{Fine}
+use Rattle.meaning.specs.declared.Edition.{Edition}
 use Rattle.meaning.specs.declared.Fields.{Fields}
 use Rattle.meaning.specs.declared.Pair.the-variants.{Full}
 use Rattle.meaning.specs.declared.Verdict.{Verdict}
@@ -18,23 +19,23 @@ use Rattle.trust.proofs.Agreement.{SameButRecord}
 use Rattle.trust.proofs.Verdicts.{verdict-says, told-as-checked}
 use Rattle.trust.specs.Check.{verdictOf}
 
-module _ (p : List ℕ) (current current′ : ℤ) (allowed : currentYearCheck current ≡ Fine) (allowed′ : currentYearCheck current′ ≡ Fine) where
+module _ (edition : Edition) (p : List ℕ) (current current′ : ℤ) (allowed : currentYearCheck edition current ≡ Fine) (allowed′ : currentYearCheck edition current′ ≡ Fine) where
   -- the check answers the same, its record included
-  pub same-verdict : verdictOf p current ≡ verdictOf p current′
+  pub same-verdict : verdictOf edition p current ≡ verdictOf edition p current′
   unfolding verdictOf trustCheck
   same-verdict = rw (allowed, allowed′)
 
   -- any two answers that the promise allows, one in each year, are the same but for the record
-  pub same-answer : (v v′ : Verdict) → Says english p current v → Says english p current′ v′ → SameButRecord v v′
+  pub same-answer : (v v′ : Verdict) → Says edition english p current v → Says edition english p current′ v′ → SameButRecord v v′
   same-answer v v′ says says′ =
-      told-as-checked p current false v (says false)
-      ∙ rw same-verdict (sym (told-as-checked p current′ false v′ (says′ false)))
+      told-as-checked edition p current false v (says false)
+      ∙ rw same-verdict (sym (told-as-checked edition p current′ false v′ (says′ false)))
 
   -- the record that the check shows in one year fails in the other as well
-  pub record-fails : (strict : Bool) (part : ℕ) (f : Fields) → verdictOf p current ≡ No part f
-      → FailsFirst (fullPair strict) english (natAbs current′) (steps Full p) part f
+  pub record-fails : (strict : Bool) (part : ℕ) (f : Fields) → verdictOf edition p current ≡ No part f
+      → FailsFirst (fullPair edition strict) english (natAbs current′) (steps Full p) part f
   unfolding SaysOf
   record-fails strict part f e =
-      let e′ : verdictOf p current′ ≡ No part f = sym same-verdict ∙ e in
-      let says : Says english p current′ (No part f) = rw e′ at (verdict-says p current′) in
+      let e′ : verdictOf edition p current′ ≡ No part f = sym same-verdict ∙ e in
+      let says : Says edition english p current′ (No part f) = rw e′ at (verdict-says edition p current′) in
       says strict .1

@@ -2,7 +2,7 @@
 -- numbers and years are cut or take a digit that follows, a zone takes it for a group that it left out, yy loses the century.
 use mathlib.Core.Bool.{Bool, true, false}
 use mathlib.Core.List.{List, [], _∷_, _++_, append-assoc, append-nil}
-use mathlib.Core.Path.{_≡_, refl, sym, _∙_}
+use mathlib.Core.Path.{_≡_, refl, sym, ap, _∙_}
 use Prim.Native.Nat.{ℕ, _+_, _*_, _-_, _/_, _%_, _≤_, _<_}
 use native.Mathlib.Omega.{arith}
 use lib.Dec.{eqb, leb, ltb}
@@ -13,10 +13,12 @@ use Rattle.meaning.specs.Bytes.{when, isDigit, digitAt, num, plus, minus}
 use Rattle.meaning.specs.Names.{english}
 use Rattle.meaning.specs.Numerals.{Signed, allDigits, numberOf}
 use Rattle.meaning.specs.Readers.{Reader, got, _>>=_, done, takeCount, reach, ahead, behindUtc, zoneSign}
-use Rattle.meaning.specs.Reading.{colonLength, millennium, zoneBehind, zoneGroup, zoneSizeWith, zoneSize, takenZone, yearLength, digitRun, minusFirst, readRule, carriedRule}
+use Rattle.meaning.specs.Reading.{colonLength, twoDigitsMean, mostRead, passed, takenUnit, zoneBehind, zoneGroup, zoneSizeWith, zoneSize, takenZone, yearLength, digitRun, minusFirst, readRule, carriedRule}
 use Rattle.meaning.specs.Writing.{quantityOf, groupText, offsetDigits, isMinus, offsetText, ruleText, twoDigitText, zoneText}
 use Rattle.meaning.specs.declared.Carried.{Carried}
 use Rattle.meaning.specs.declared.Carried.the-variants as carried
+use Rattle.meaning.specs.declared.Edition.the-variants.{First, Second}
+use Rattle.meaning.specs.declared.Edition.{Edition}
 use Rattle.meaning.specs.declared.Group.{Group}
 use Rattle.meaning.specs.declared.Group.the-variants.{Never, NotZero, Always}
 use Rattle.meaning.specs.declared.Numeral.the-variants.{Year}
@@ -34,7 +36,7 @@ use Rattle.laws.proofs.Zones.{group-comes-back, sign-read, two-digits}
 use Rattle.laws.specs.Widths.{mostDigits}
 use Rattle.trust.proofs.RulesAhead.{seven-digits}
 use Rattle.trust.proofs.Sound.{Back}
-use Rattle.trust.proofs.Table.{numberFits, zoneFits, fits, number-fits}
+use Rattle.trust.proofs.Table.{numberFits, zoneFits, fits, read-fits, number-fits}
 use Rattle.trust.proofs.Witness.{of-witness}
 use Rattle.trust.specs.Check.{shortNumbers, longNumbers, witness}
 use Rattle.trust.specs.Needs.{numberNeed, groupNeed, lastGroup, ruleNeed}
@@ -85,22 +87,21 @@ module _ (q : Quantity) (least most : ℕ) (fit : numberFits q least most ≡ tr
       when-is (Cut q least most r) (ltb most (mostDigits q)) (λ e. too-long (ltb-true most (mostDigits q) e))
       (λ _. when-is (Cut q least most r) (ltb least most) (λ e. too-far (ltb-true least most e)) (λ _ h _. h))
 
-  number-fails : (current : ℕ) (u : ParseUnit) (z : ℕ) → Shown (numberNeed q least most) r
-      → Back current (Number q least most u z) (witness (numberNeed q least most)) r → ⊥
-  unfolding readRule ruleText Cut reached
-  number-fails current u z shown e =
-      let s = num least (quantityOf q (witness (numberNeed q least most))) ++ r in
-      let k = reach (most - least) least s in
-      number-cut shown
-      (takes-got k (takes-unit u z k s) e)
+  number-fails : (u : ParseUnit) (z : ℕ) (c : Carried) → Shown (numberNeed q least most) r
+      → takenUnit u z (reached q least most (numberNeed q least most) r) (num least (quantityOf q (witness (numberNeed q least most))) ++ r)
+      ≡ got (length (num least (quantityOf q (witness (numberNeed q least most))))) c → ⊥
+  unfolding Cut
+  number-fails u z c shown e =
+      let k = reached q least most (numberNeed q least most) r in
+      number-cut shown (takes-got k (takes-unit u z k _) e)
 
-  skipped-number-fails : (current : ℕ) → Shown (numberNeed q least most) r
-      → Back current (SkippedNumber q least most) (witness (numberNeed q least most)) r → ⊥
-  unfolding readRule ruleText Cut reached
-  skipped-number-fails current shown e =
-      let s = num least (quantityOf q (witness (numberNeed q least most))) ++ r in
-      let k = reach (most - least) least s in
-      number-cut shown (takes-got k (takes-passed k s) e)
+  skipped-number-fails : (c : Carried) → Shown (numberNeed q least most) r
+      → passed (reached q least most (numberNeed q least most) r) (num least (quantityOf q (witness (numberNeed q least most))) ++ r)
+      ≡ got (length (num least (quantityOf q (witness (numberNeed q least most))))) c → ⊥
+  unfolding Cut
+  skipped-number-fails c shown e =
+      let k = reached q least most (numberNeed q least most) r in
+      number-cut shown (takes-got k (takes-passed k _) e)
 
 -- years
 
@@ -115,38 +116,43 @@ run-past (b ∷ s) r all h =
 no-minus-first : (k : ℕ) (r : List ℕ) → minusFirst (num k 1000001 ++ r) ≡ 0
 no-minus-first k r = no-minus (num k 1000001) r (all-num k 1000001) (num-some k 1000001)
 
-years-fail : (current k : ℕ) (r : List ℕ) → digitAt 0 r ≡ true → Back current (Years k) shortNumbers r → ⊥
+years-fail : (edition : Edition) (current k : ℕ) (r : List ℕ) → digitAt 0 r ≡ true → Back edition current (Years k) shortNumbers r → ⊥
 unfolding readRule ruleText
-years-fail current k r digit e =
+years-fail edition current k r digit e =
     let s = num k 1000001 in
     let taken : length s ≡ 0 + digitRun (s ++ r)
     = rw (no-minus-first k r) at (takes-got (yearLength (s ++ r)) (takes-full-year (yearLength (s ++ r)) (s ++ r)) e) in
     omega (arith, run-past s r (all-num k 1000001) digit)
 
-fixed-year-fails : (current k : ℕ) (r : List ℕ) → k < 7 → Back current (FixedYear k) longNumbers r → ⊥
+fixed-year-fails : (edition : Edition) (current k : ℕ) (r : List ℕ) → k < 7 → Back edition current (FixedYear k) longNumbers r → ⊥
 unfolding readRule ruleText
-fixed-year-fails current k r short e =
+fixed-year-fails edition current k r short e =
     let s = num k 1000001 in
     let taken : length s ≡ 0 + k
     = rw (no-minus-first k r) at (takes-got (minusFirst (s ++ r) + k) (takes-full-year (minusFirst (s ++ r) + k) (s ++ r)) e) in
     omega (arith, seven-digits k)
 
--- yy reads 01 as the first year of a millennium
-two-digit-read : (current : ℕ) (r : List ℕ) → readRule english current TwoDigitYear (twoDigitText (pos 1000001) ++ r)
-    ≡ got 2 (carried.Value unit.Year (pos (1 + millennium current)))
+-- yy reads 01 as a year that is no later than the last of its millennium, or of its window
+two-digit-read : (edition : Edition) (current : ℕ) (r : List ℕ) → readRule edition english current TwoDigitYear (twoDigitText (pos 1000001) ++ r)
+    ≡ got 2 (carried.Value unit.Year (twoDigitsMean edition current (pos 1)))
 unfolding readRule twoDigitText num numberOf
-two-digit-read current r =
+two-digit-read edition current r =
     let n : Signed = record { negative = false; size = 1 } in
     let s : List ℕ = 48 ∷ 49 ∷ r in
     rw (take-goes-on Year 2 s n (omega arith) refl)
 
-two-digit-year-fails : (current : ℕ) → current ≤ 9999 → (r : List ℕ) → Back current TwoDigitYear longNumbers r → ⊥
+two-digits-few : (edition : Edition) (current : ℕ) → current ≤ 9999 → natAbs (twoDigitsMean edition current (pos 1)) < 1000001
+unfolding twoDigitsMean
+two-digits-few First current small = omega arith
+two-digits-few Second current small = omega arith
+
+two-digit-year-fails : (edition : Edition) (current : ℕ) → current ≤ 9999 → (r : List ℕ) → Back edition current TwoDigitYear longNumbers r → ⊥
 unfolding ruleText carriedRule
-two-digit-year-fails current small r e =
-    let same : got 2 (carried.Value unit.Year (pos (1 + millennium current))) ≡ got (length (twoDigitText (pos 1000001))) (carried.Value unit.Year (pos 1000001))
-    = sym (two-digit-read current r) ∙ e in
-    let year : 1 + millennium current ≡ 1000001 = cc in
-    omega arith
+two-digit-year-fails edition current small r e =
+    let same : got 2 (carried.Value unit.Year (twoDigitsMean edition current (pos 1))) ≡ got (length (twoDigitText (pos 1000001))) (carried.Value unit.Year (pos 1000001))
+    = sym (two-digit-read edition current r) ∙ e in
+    let year : twoDigitsMean edition current (pos 1) ≡ pos 1000001 = cc in
+    omega (arith, two-digits-few edition current small, ap natAbs year)
 
 -- zones: whole hours, with no minutes and no seconds
 
@@ -185,7 +191,7 @@ record WholeHours (z : ℤ) : Type 0 where
   few : hours < 100
   size : natAbs z ≡ hours * 3600
 
-module _ (current : ℕ) (utc colon : Bool) (minutes seconds : Group) (no-seconds : groupText colon seconds 0 ≡ []) {z : ℤ} (whole : WholeHours z) (r : List ℕ) (missing : MissingTaken colon minutes seconds r) where
+module _ (edition : Edition) (current : ℕ) (utc colon : Bool) (minutes seconds : Group) (no-seconds : groupText colon seconds 0 ≡ []) {z : ℤ} (whole : WholeHours z) (r : List ℕ) (missing : MissingTaken colon minutes seconds r) where
   hours-text : zoneText utc colon minutes seconds z
       ≡ when (isMinus colon minutes seconds z) minus plus ∷ num 2 (whole .hours) ++ groupText colon minutes 0
   unfolding offsetDigits offsetText
@@ -213,7 +219,7 @@ module _ (current : ℕ) (utc colon : Bool) (minutes seconds : Group) (no-second
       (takes-behind-sign negative k size s
       (takes-then (length m + (colonLength colon + 2)) (takeCount 2) _ hh (m ++ r) (two-digits (whole .hours) (m ++ r) (whole .few)) (missing (whole .hours)))))
 
-  missing-group-fails : (c : Carried) → readRule english current (Zone utc colon minutes seconds) (zoneText utc colon minutes seconds z ++ r)
+  missing-group-fails : (c : Carried) → readRule edition english current (Zone utc colon minutes seconds) (zoneText utc colon minutes seconds z ++ r)
       ≡ got (length (zoneText utc colon minutes seconds z)) c → ⊥
   unfolding readRule
   missing-group-fails c e =
@@ -232,37 +238,37 @@ digit-in-place : (colon : Bool) (r : List ℕ) → Shown (groupNeed colon NotZer
 digit-in-place true r shown = shown
 digit-in-place false r shown = shown
 
-zone-fails : (current : ℕ) (utc colon : Bool) (minutes seconds : Group) → zoneFits minutes seconds ≡ true → (r : List ℕ)
+zone-fails : (edition : Edition) (current : ℕ) (utc colon : Bool) (minutes seconds : Group) → zoneFits minutes seconds ≡ true → (r : List ℕ)
     → Shown (groupNeed colon (lastGroup minutes seconds)) r
-    → Back current (Zone utc colon minutes seconds) (witness (groupNeed colon (lastGroup minutes seconds))) r → ⊥
+    → Back edition current (Zone utc colon minutes seconds) (witness (groupNeed colon (lastGroup minutes seconds))) r → ⊥
 unfolding ruleText
-zone-fails current utc colon Never seconds fit r shown e = true-is-not-false (sym fit)
-zone-fails current utc colon NotZero Never fit r shown e =
-    missing-group-fails current utc colon NotZero Never refl (witness-hours (groupNeed colon NotZero)) r
+zone-fails edition current utc colon Never seconds fit r shown e = true-is-not-false (sym fit)
+zone-fails edition current utc colon NotZero Never fit r shown e =
+    missing-group-fails edition current utc colon NotZero Never refl (witness-hours (groupNeed colon NotZero)) r
     (missing-minutes colon r (digit-in-place colon r shown)) _ e
-zone-fails current utc colon NotZero NotZero fit r shown e = true-is-not-false (sym fit)
-zone-fails current utc colon NotZero Always fit r shown e = true-is-not-false (sym fit)
-zone-fails current utc colon Always Never fit r shown e = shown
-zone-fails current utc colon Always NotZero fit r shown e =
-    missing-group-fails current utc colon Always NotZero refl (witness-hours (groupNeed colon NotZero)) r
+zone-fails edition current utc colon NotZero NotZero fit r shown e = true-is-not-false (sym fit)
+zone-fails edition current utc colon NotZero Always fit r shown e = true-is-not-false (sym fit)
+zone-fails edition current utc colon Always Never fit r shown e = shown
+zone-fails edition current utc colon Always NotZero fit r shown e =
+    missing-group-fails edition current utc colon Always NotZero refl (witness-hours (groupNeed colon NotZero)) r
     (missing-seconds colon r (digit-in-place colon r shown)) _ e
-zone-fails current utc colon Always Always fit r shown e = shown
+zone-fails edition current utc colon Always Always fit r shown e = shown
 
 -- every rule
 
-pub rule-fails : (current : ℕ) → current ≤ 9999 → (rule : Rule) → fits rule ≡ true → (r : List ℕ) → Shown (ruleNeed rule) r
-    → Back current rule (witness (ruleNeed rule)) r → ⊥
-unfolding fits ruleNeed
-rule-fails current small (Number q least most u z) fit r shown e =
-    number-fails q least most (both-true (numberFits q least most) _ fit .0) r current u z shown e
-rule-fails current small (SkippedNumber q least most) fit r shown e = skipped-number-fails q least most fit r current shown e
-rule-fails current small LetterQuarter fit r shown e = shown
-rule-fails current small (SkippedName l n) fit r shown e = shown
-rule-fails current small (MatchedName l) fit r shown e = shown
-rule-fails current small (Letters l n) fit r shown e = shown
-rule-fails current small (Years k) fit r shown e = years-fail current k r shown e
-rule-fails current small (FixedYear k) fit r shown e =
-    when-is (λ need. Shown need r → Back current (FixedYear k) (witness need) r → ⊥) (leb 7 k) (λ _ h _. h)
-    (λ short _ d. fixed-year-fails current k r (leb-false 7 k short) d) shown e
-rule-fails current small TwoDigitYear fit r shown e = two-digit-year-fails current small r e
-rule-fails current small (Zone utc colon minutes seconds) fit r shown e = zone-fails current utc colon minutes seconds fit r shown e
+pub rule-fails : (edition : Edition) (current : ℕ) → current ≤ 9999 → (rule : Rule) → fits rule ≡ true → (r : List ℕ) → Shown (ruleNeed edition rule) r
+    → Back edition current rule (witness (ruleNeed edition rule)) r → ⊥
+unfolding fits ruleNeed readRule ruleText carriedRule reached
+rule-fails edition current small (Number q least most u z) fit r shown e =
+    number-fails q least (mostRead edition q most) (read-fits q least most u z fit edition) r u z _ shown e
+rule-fails edition current small (SkippedNumber q least most) fit r shown e = skipped-number-fails q least most fit r _ shown e
+rule-fails edition current small LetterQuarter fit r shown e = shown
+rule-fails edition current small (SkippedName l n) fit r shown e = shown
+rule-fails edition current small (MatchedName l) fit r shown e = shown
+rule-fails edition current small (Letters l n) fit r shown e = shown
+rule-fails edition current small (Years k) fit r shown e = years-fail edition current k r shown e
+rule-fails edition current small (FixedYear k) fit r shown e =
+    when-is (λ need. Shown need r → Back edition current (FixedYear k) (witness need) r → ⊥) (leb 7 k) (λ _ h _. h)
+    (λ short _ d. fixed-year-fails edition current k r (leb-false 7 k short) d) shown e
+rule-fails edition current small TwoDigitYear fit r shown e = two-digit-year-fails edition current small r e
+rule-fails edition current small (Zone utc colon minutes seconds) fit r shown e = zone-fails edition current utc colon minutes seconds fit r shown e

@@ -17,6 +17,7 @@ use Rattle.meaning.specs.Whole.{Walk, walked, walk, text}
 use Rattle.meaning.specs.Writing.{Step, steps, stepText, texts}
 use Rattle.meaning.specs.declared.Checked.{Checked}
 use Rattle.meaning.specs.declared.Checked.the-variants as checked
+use Rattle.meaning.specs.declared.Edition.{Edition}
 use Rattle.meaning.specs.declared.Fields.{Fields}
 use Rattle.meaning.specs.declared.Pair.the-variants.{Full}
 use Rattle.meaning.specs.declared.Verdict.{Verdict}
@@ -48,11 +49,11 @@ yes-by : (c : Checked) (v w : Verdict) → (v ≡ Yes → w ≡ Yes) → verdict
 yes-by checked.Fine v w h k = h k
 yes-by (checked.Refused why) v w h k = k
 
-yes-alone : (p : List ℕ) (ts : List Step) (current : ℤ) → verdictBefore ts p current ≡ Yes → verdictOf p current ≡ Yes
+yes-alone : (edition : Edition) (p : List ℕ) (ts : List Step) (current : ℤ) → verdictBefore edition ts p current ≡ Yes → verdictOf edition p current ≡ Yes
 unfolding verdictBefore verdictOf
-yes-alone p ts current =
+yes-alone edition p ts current =
     let ss = steps Full p in
-    yes-by (trustCheck p current) (firstFailing 0 (ss ++ ts)) (firstFailing 0 ss) (holds-alone 0 ss ts)
+    yes-by (trustCheck edition p current) (firstFailing edition 0 (ss ++ ts)) (firstFailing edition 0 ss) (holds-alone edition 0 ss ts)
 
 -- `Says` and the check's own answer
 
@@ -61,12 +62,12 @@ told-yes Yes h = refl
 told-yes (No part f) h = absurd (let z : _≡_ {A = ℕ} 0 1 = cc in omega arith)
 told-yes (Refused why) h = absurd (let z : _≡_ {A = ℕ} 0 1 = cc in omega arith)
 
-says-yes : (p : List ℕ) (current : ℤ) → Says english p current Yes → verdictOf p current ≡ Yes
-says-yes p current h =
-    told-yes (verdictOf p current) (told-as-checked p current false Yes (h false))
+says-yes : (edition : Edition) (p : List ℕ) (current : ℤ) → Says edition english p current Yes → verdictOf edition p current ≡ Yes
+says-yes edition p current h =
+    told-yes (verdictOf edition p current) (told-as-checked edition p current false Yes (h false))
 
-yes-says : (p : List ℕ) (current : ℤ) → verdictOf p current ≡ Yes → Says english p current Yes
-yes-says p current e = rw e at (verdict-says p current)
+yes-says : (edition : Edition) (p : List ℕ) (current : ℤ) → verdictOf edition p current ≡ Yes → Says edition english p current Yes
+yes-says edition p current e = rw e at (verdict-says edition p current)
 
 -- what parts give of their texts, one after the other, and behind k bytes more
 
@@ -88,68 +89,68 @@ gave-further book f k at (s ∷ ss) =
 
 -- the answer for the join
 
-year-left : (p : List ℕ) (current : ℤ) → patternCheck p ≡ checked.Fine → trustCheck p current ≡ currentYearCheck current
+year-left : (edition : Edition) (p : List ℕ) (current : ℤ) → patternCheck p ≡ checked.Fine → trustCheck edition p current ≡ currentYearCheck edition current
 unfolding trustCheck
-year-left p current h = rw h
+year-left edition p current h = rw h
 
-before-nothing : (p : List ℕ) (current : ℤ) → verdictBefore [] p current ≡ verdictOf p current
+before-nothing : (edition : Edition) (p : List ℕ) (current : ℤ) → verdictBefore edition [] p current ≡ verdictOf edition p current
 unfolding verdictBefore verdictOf
-before-nothing p current = rw (append-nil (steps Full p))
+before-nothing edition p current = rw (append-nil (steps Full p))
 
-module _ {p q : List ℕ} (beside : Beside p q) (current : ℤ) where
-  module _ {us : List Step} (same : BeginAlike (steps Full q) us) (hold : (j : ℕ) → firstFailing j us ≡ Yes) where
+module _ (edition : Edition) {p q : List ℕ} (beside : Beside p q) (current : ℤ) where
+  module _ {us : List Step} (same : BeginAlike (steps Full q) us) (hold : (j : ℕ) → firstFailing edition j us ≡ Yes) where
     answers-join : (c : Checked)
-        → verdictBy c (firstFailing 0 (steps Full (p ++ q)))
-        ≡ andThen (verdictBy c (firstFailing 0 (steps Full p ++ us)))
-        (later (length (steps Full p)) (verdictBy c (firstFailing 0 (steps Full q))))
+        → verdictBy c (firstFailing edition 0 (steps Full (p ++ q)))
+        ≡ andThen (verdictBy c (firstFailing edition 0 (steps Full p ++ us)))
+        (later (length (steps Full p)) (verdictBy c (firstFailing edition 0 (steps Full q))))
     answers-join checked.Fine =
         let n = length (steps Full p) in
         let e : 0 + n ≡ n + 0 = omega arith in
-        rw (steps-join beside Full) (failing-join 0 (steps Full p) same hold ∙ rw (e, failing-later n 0 (steps Full q)))
+        rw (steps-join beside Full) (failing-join edition 0 (steps Full p) same hold ∙ rw (e, failing-later edition n 0 (steps Full q)))
     answers-join (checked.Refused why) = refl
 
-    verdict-by : verdictOf (p ++ q) current ≡ andThen (verdictBefore us p current) (later (length (steps Full p)) (verdictOf q current))
+    verdict-by : verdictOf edition (p ++ q) current ≡ andThen (verdictBefore edition us p current) (later (length (steps Full p)) (verdictOf edition q current))
     unfolding verdictOf verdictBefore
     verdict-by =
-        rw (year-left (p ++ q) current (check-join beside), year-left p current (beside .first), year-left q current (beside .second))
-        (answers-join (currentYearCheck current))
+        rw (year-left edition (p ++ q) current (check-join beside), year-left edition p current (beside .first), year-left edition q current (beside .second))
+        (answers-join (currentYearCheck edition current))
 
   -- All that the check of the join needs of the second, beside its own check, is what it begins with.
-  pub verdict-join : verdictOf (p ++ q) current
-      ≡ andThen (verdictBefore (standIn (steps Full q)) p current) (later (length (steps Full p)) (verdictOf q current))
-  verdict-join = verdict-by (stand-in-alike (steps Full q)) (stand-in-holds (steps Full q))
+  pub verdict-join : verdictOf edition (p ++ q) current
+      ≡ andThen (verdictBefore edition (standIn (steps Full q)) p current) (later (length (steps Full p)) (verdictOf edition q current))
+  verdict-join = verdict-by (stand-in-alike (steps Full q)) (stand-in-holds edition (steps Full q))
 
   -- and nothing, where its first two bytes can be no digit
   pub verdict-no-digit : digitFirst (steps Full q) ≡ false → digitSecond (steps Full q) ≡ false
-      → verdictOf (p ++ q) current ≡ andThen (verdictOf p current) (later (length (steps Full p)) (verdictOf q current))
+      → verdictOf edition (p ++ q) current ≡ andThen (verdictOf edition p current) (later (length (steps Full p)) (verdictOf edition q current))
   verdict-no-digit first second =
-      verdict-by (nothing-alike (steps Full q) first second) nothing-holds ∙ rw (before-nothing p current)
+      verdict-by (nothing-alike (steps Full q) first second) (nothing-holds edition) ∙ rw (before-nothing edition p current)
 
   -- Where the check says yes to the join, it says yes to both.
-  pub yes-halves : verdictOf (p ++ q) current ≡ Yes → (verdictOf p current ≡ Yes) × (verdictOf q current ≡ Yes)
+  pub yes-halves : verdictOf edition (p ++ q) current ≡ Yes → (verdictOf edition p current ≡ Yes) × (verdictOf edition q current ≡ Yes)
   yes-halves h =
       let us = standIn (steps Full q) in
       let k = length (steps Full p) in
-      let t = both-yes (verdictBefore us p current) (later k (verdictOf q current)) (sym verdict-join ∙ h) in
-      (yes-alone p us current (t .0), later-yes k (verdictOf q current) (t .1))
+      let t = both-yes (verdictBefore edition us p current) (later k (verdictOf edition q current)) (sym verdict-join ∙ h) in
+      (yes-alone edition p us current (t .0), later-yes k (verdictOf edition q current) (t .1))
 
   -- The same of what `Says` asks.
 
-  pub says-halves : Says english (p ++ q) current Yes → Says english p current Yes × Says english q current Yes
+  pub says-halves : Says edition english (p ++ q) current Yes → Says edition english p current Yes × Says edition english q current Yes
   says-halves h =
-      let t = yes-halves (says-yes (p ++ q) current h) in
-      (yes-says p current (t .0), yes-says q current (t .1))
+      let t = yes-halves (says-yes edition (p ++ q) current h) in
+      (yes-says edition p current (t .0), yes-says edition q current (t .1))
 
   pub says-join : digitFirst (steps Full q) ≡ false → digitSecond (steps Full q) ≡ false
-      → Says english p current Yes → Says english q current Yes → Says english (p ++ q) current Yes
+      → Says edition english p current Yes → Says edition english q current Yes → Says edition english (p ++ q) current Yes
   says-join first second a b =
-      yes-says (p ++ q) current (verdict-no-digit first second ∙ rw (says-yes p current a, says-yes q current b))
+      yes-says edition (p ++ q) current (verdict-no-digit first second ∙ rw (says-yes edition p current a, says-yes edition q current b))
 
   -- Where the check says yes to the join, each half is read from its own text, and the join as the one and then the other, which
   -- stands behind the first's text, by a strict reading and by a plain one.
-  module _ (strict : Bool) (says : Says english (p ++ q) current Yes) (f : Fields) (fine : fieldsCheck f ≡ checked.Fine) where
+  module _ (strict : Bool) (says : Says edition english (p ++ q) current Yes) (f : Fields) (fine : fieldsCheck f ≡ checked.Fine) where
     abbrev reading : List ℕ → List ℕ → Walk
-    reading pattern s = walk (fullPair strict) english (natAbs current) 0 0 (steps Full pattern) s []
+    reading pattern s = walk (fullPair edition strict) english (natAbs current) 0 0 (steps Full pattern) s []
 
     abbrev one : List ℕ
     one = text Full english p f
@@ -173,7 +174,7 @@ module _ {p q : List ℕ} (beside : Beside p q) (current : ℤ) where
         (map (furtherOn (length one)) (gaveBy english f 0 (steps Full q)) ++ gaveBy english f 0 (steps Full p)))
     walk-join =
         let halves = says-halves says in (
-          walk-yes (fullPair strict) english p current (halves .0 strict) f fine,
-          walk-yes (fullPair strict) english q current (halves .1 strict) f fine,
-          rw (text-join beside Full english f, length-append one other, gave-join) at (walk-yes (fullPair strict) english (p ++ q) current (says strict) f fine),
+          walk-yes (fullPair edition strict) english p current (halves .0 strict) f fine,
+          walk-yes (fullPair edition strict) english q current (halves .1 strict) f fine,
+          rw (text-join beside Full english f, length-append one other, gave-join) at (walk-yes (fullPair edition strict) english (p ++ q) current (says strict) f fine),
         )

@@ -16,6 +16,7 @@ use Rattle.meaning.specs.Readers.{got, firstName, letters, matchName}
 use Rattle.meaning.specs.Reading.{monthAt, periodAt, nameCarries, periodOf, carriedName, readRule}
 use Rattle.meaning.specs.Writing.{secondOfDay, periodPlace, noonPlace, placeOf, nameText}
 use Rattle.meaning.specs.declared.Carried.the-variants.{Nothing, Value}
+use Rattle.meaning.specs.declared.Edition.{Edition}
 use Rattle.meaning.specs.declared.Fields.{Fields}
 use Rattle.meaning.specs.declared.NameList.{NameList}
 use Rattle.meaning.specs.declared.NameList.the-variants.{EraAbbreviated, EraNarrow, EraWide, QuarterWide, MonthAbbreviated, MonthWide, MonthNarrow, WdayAbbreviated, WdayWide, WdayNarrow, WdayShort, PeriodUpper, PeriodLower, PeriodDotted, PeriodLetter, NoonUpper, NoonLower, NoonDotted, NoonLetter}
@@ -95,7 +96,7 @@ letters-come-back k l i r apart there e =
 
 -- the three rules, before r
 
-module _ (current : ℕ) (l : NameList) (f : Fields) (h : Allowed f) (r : List ℕ) where
+module _ (edition : Edition) (current : ℕ) (l : NameList) (f : Fields) (h : Allowed f) (r : List ℕ) where
   name-sameLength : (n : ℕ) → sameLength n l ≡ true → length (nameText english l f) ≡ n
   unfolding sameLength nameText
   name-sameLength n e =
@@ -103,20 +104,20 @@ module _ (current : ℕ) (l : NameList) (f : Fields) (h : Allowed f) (r : List �
       (every-at (λ name. eqb (length name) n) (names english l) [] e (placeOf l f) (place-there l f h))
 
   pub skipped-name-comes-back : (n : ℕ) → sameLength n l ≡ true
-      → readRule english current (SkippedName l n) (nameText english l f ++ r) ≡ got (length (nameText english l f)) Nothing
+      → readRule edition english current (SkippedName l n) (nameText english l f ++ r) ≡ got (length (nameText english l f)) Nothing
   unfolding readRule
   skipped-name-comes-back n e =
       let size : length (nameText english l f) ≡ n = name-sameLength n e in
       rw (skip-goes-on n (nameText english l f ++ r) (simp length-append (omega arith)), add-zero, size)
 
   pub matched-name-comes-back : allApart (names english l) ≡ true
-      → readRule english current (MatchedName l) (nameText english l f ++ r) ≡ got (length (nameText english l f)) (carriedName l f)
+      → readRule edition english current (MatchedName l) (nameText english l f ++ r) ≡ got (length (nameText english l f)) (carriedName l f)
   unfolding readRule nameText
   matched-name-comes-back apart =
       rw (name-comes-back (names english l) (placeOf l f) r apart (place-there l f h), add-zero, name-carried l f h)
 
   pub letters-rule-comes-back : (n : ℕ) → sameLength n l ≡ true → allApart (names english l) ≡ true
-      → readRule english current (Letters l n) (nameText english l f ++ r) ≡ got (length (nameText english l f)) (carriedName l f)
+      → readRule edition english current (Letters l n) (nameText english l f ++ r) ≡ got (length (nameText english l f)) (carriedName l f)
   unfolding readRule nameText
   letters-rule-comes-back n e apart =
       rw (letters-come-back n (names english l) (placeOf l f) r apart (place-there l f h) (name-sameLength n e), add-zero, name-carried l f h)

@@ -1,4 +1,4 @@
--- Where the check says yes, a read of what was written for an allowed record, strict or not, is accepted, takes all of it, and
+-- Where the check says yes, a read of what was written for an allowed record, strict or not, in the same edition, is accepted, takes all of it, and
 -- gives every unit that the pattern carries with the record's value, and with where the text of its part stands.
 use mathlib.Core.Bool.{Bool}
 use mathlib.Core.List.{List}
@@ -12,6 +12,7 @@ use Rattle.meaning.specs.Trust.{trustCheck, fullPair, SaysOf}
 use Rattle.meaning.specs.Whole.{readCheck, readingOf, read, text}
 use Rattle.meaning.specs.Writing.{steps}
 use Rattle.meaning.specs.declared.Checked.the-variants.{Fine}
+use Rattle.meaning.specs.declared.Edition.{Edition}
 use Rattle.meaning.specs.declared.Fields.{Fields}
 use Rattle.meaning.specs.declared.Pair.the-variants.{Full}
 use Rattle.meaning.specs.declared.Verdict.the-variants as verdict
@@ -21,16 +22,16 @@ use Rattle.trust.proofs.Walks.{walk-yes}
 use Rattle.trust.specs.ReadBack.{gaveBy}
 
 -- no check of the read refuses the written text
-written-is-read : (p : List ℕ) (current : ℤ) (f : Fields) → trustCheck p current ≡ Fine → fieldsCheck f ≡ Fine
-    → readCheck p (text Full english p f) current ≡ Fine
+written-is-read : (edition : Edition) (p : List ℕ) (current : ℤ) (f : Fields) → trustCheck edition p current ≡ Fine → fieldsCheck f ≡ Fine
+    → readCheck edition p (text Full english p f) current ≡ Fine
 unfolding trustCheck readCheck
-written-is-read p current f h k =
-    let t = else-fine (patternCheck p) (currentYearCheck current) h in
+written-is-read edition p current f h k =
+    let t = else-fine (patternCheck p) (currentYearCheck edition current) h in
     rw (t .0, t .1) (written-checks Full p f (t .0) k)
 
-pub read-back : (strict : Bool) (p : List ℕ) (current : ℤ) (f : Fields) → SaysOf (fullPair strict) english p current verdict.Yes → fieldsCheck f ≡ Fine
-    → read (fullPair strict) english p (text Full english p f) current
+pub read-back : (edition : Edition) (strict : Bool) (p : List ℕ) (current : ℤ) (f : Fields) → SaysOf (fullPair edition strict) english p current verdict.Yes → fieldsCheck f ≡ Fine
+    → read (fullPair edition strict) english p (text Full english p f) current
     ≡ readingOf Fine (length (text Full english p f)) (gaveBy english f 0 (steps Full p))
 unfolding read SaysOf
-read-back strict p current f says fine =
-    rw (written-is-read p current f (says .0) fine, walk-yes (fullPair strict) english p current says f fine)
+read-back edition strict p current f says fine =
+    rw (written-is-read edition p current f (says .0) fine, walk-yes (fullPair edition strict) english p current says f fine)

@@ -13,6 +13,7 @@ use borrow.Author.Tests.{eqb-true, leb-true, ltb-true, ltb-false, not-true}
 use Rattle.meaning.specs.Bytes.{when, both, digitAt, num, width, widthIn, digits}
 use Rattle.meaning.specs.Names.{english, names}
 use Rattle.meaning.specs.Writing.{isNegative, nameText, placeOf, offsetDigits, isMinus, offsetText, quantityOf, ruleText, signedText, twoDigitText, zoneText}
+use Rattle.meaning.specs.declared.Edition.the-variants.{First}
 use Rattle.meaning.specs.declared.Fields.{Fields}
 use Rattle.meaning.specs.declared.Group.{Group}
 use Rattle.meaning.specs.declared.NameList.{NameList}
@@ -25,7 +26,7 @@ use Rattle.laws.proofs.Fields.{Allowed, allowed, quantity-below}
 use Rattle.laws.proofs.Places.{place-there}
 use Rattle.laws.proofs.Tests.{both-true, by-test, every, every-at, true-is-not-false, when-is}
 use Rattle.laws.specs.Widths.{mostDigits}
-use Rattle.trust.proofs.Table.{fits, nameOpens, namesFit, numberFits, number-fits}
+use Rattle.trust.proofs.Table.{fits, nameOpens, namesFit, numberFits, read-fits, number-fits}
 use Rattle.trust.proofs.Witness.{witness-fine}
 use Rattle.trust.specs.Ahead.{hasLetters, nameFirst, numberSecond, ruleFirst, ruleSecond}
 use Rattle.trust.specs.Check.{longNumbers}
@@ -191,7 +192,7 @@ pub rule-second : (rule : Rule) → fits rule ≡ true → (f : Fields) → Allo
     → (d ≡ false → digitAt 0 t ≡ false) → digitAt 1 (ruleText english rule f ++ t) ≡ false
 unfolding fits ruleSecond ruleText
 rule-second (Number q least most u z) fit f h d t e behind =
-    number-second q least most (both-true (numberFits q least most) _ fit .0) f h d t e behind
+    number-second q least _ (read-fits q least most u z fit First) f h d t e behind
 rule-second (SkippedNumber q least most) fit f h d t e behind = number-second q least most fit f h d t e behind
 rule-second LetterQuarter fit f h d t e behind = true-is-not-false e
 rule-second (SkippedName l n) fit f h d t e behind = name-second l (both-true (namesFit l) _ fit .0) f h d t e behind
@@ -205,7 +206,7 @@ rule-second (Zone utc colon minutes seconds) fit f h d t e behind = true-is-not-
 pub rule-second-shown : (rule : Rule) → fits rule ≡ true → (t : List ℕ)
     → digitAt 1 (ruleText english rule longNumbers ++ t) ≡ ruleSecond rule (digitAt 0 t)
 unfolding fits ruleSecond ruleText
-rule-second-shown (Number q least most u z) fit t = number-second-shown q least most (both-true (numberFits q least most) _ fit .0) t
+rule-second-shown (Number q least most u z) fit t = number-second-shown q least _ (read-fits q least most u z fit First) t
 rule-second-shown (SkippedNumber q least most) fit t = number-second-shown q least most fit t
 rule-second-shown LetterQuarter fit t = unfold digitAt in num-first 1 (quantityOf Quarter longNumbers) t
 rule-second-shown (SkippedName l n) fit t = name-second-shown l (both-true (namesFit l) _ fit .0) t

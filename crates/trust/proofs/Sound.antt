@@ -3,19 +3,20 @@ use mathlib.Core.Bool.{Bool, true, false}
 use mathlib.Core.List.{List, _∷_, _++_}
 use mathlib.Core.Path.{_≡_, refl, ap, _∙_}
 use Prim.Native.Char.{Char, code}
-use Prim.Native.Nat.{ℕ, zero, suc, _+_, _%_, _^_, _≤_, _<_}
+use Prim.Native.Nat.{ℕ, zero, suc, _+_, _-_, _%_, _^_, _≤_, _<_}
 use native.Mathlib.Nat.{add-zero, lt-of-lt-of-le, pow-le-pow-right}
 use native.Mathlib.Omega.{arith}
-use lib.Dec.{eqb, leb, ltb}
+use lib.Dec.{leb, ltb}
 use lib.IntN.{pos}
 use lib.ListN.{length, length-append}
-use borrow.Author.Tests.{eq-eqb, ne-eqb, eqb-true, leb-true, ltb-false}
+use borrow.Author.Tests.{eq-eqb, ne-eqb, leb-true, ltb-false}
 use Rattle.meaning.specs.Bytes.{when, digitAt, num}
 use Rattle.meaning.specs.Names.{english, names}
-use Rattle.meaning.specs.Readers.{got}
-use Rattle.meaning.specs.Reading.{zeroFor, carriedAs, readRule, carriedRule}
+use Rattle.meaning.specs.Readers.{got, reach}
+use Rattle.meaning.specs.Reading.{zeroFor, carriedAs, mostRead, passed, takenUnit, readRule, carriedRule}
 use Rattle.meaning.specs.Writing.{hourOf, inPlaceOfZero, quantityOf, ruleText}
 use Rattle.meaning.specs.declared.Carried.the-variants as carried
+use Rattle.meaning.specs.declared.Edition.{Edition}
 use Rattle.meaning.specs.declared.Fields.{Fields}
 use Rattle.meaning.specs.declared.Group.{Group}
 use Rattle.meaning.specs.declared.Group.the-variants.{Never, NotZero, Always}
@@ -34,7 +35,7 @@ use Rattle.laws.proofs.Years.{years-come-back, fixed-year-comes-back}
 use Rattle.laws.proofs.Zones.{Free, zone-comes-back}
 use Rattle.laws.specs.Widths.{mostDigits}
 use Rattle.trust.proofs.NameRules.{skipped-name-comes-back, matched-name-comes-back, letters-rule-comes-back}
-use Rattle.trust.proofs.Table.{zeroOf, numberFits, namesFit, sameLength, zoneFits, fits, number-fits}
+use Rattle.trust.proofs.Table.{zeroOf, numberFits, namesFit, sameLength, zoneFits, fits, read-fits, zero-fits, number-fits}
 use Rattle.trust.specs.Needs.{numberNeed, groupNeed, lastGroup, ruleNeed}
 use Rattle.trust.specs.declared.Need.{Need}
 use Rattle.trust.specs.declared.Need.the-variants.{Nothing, NoDigit, NoSecondDigit, Broken}
@@ -47,9 +48,9 @@ Met NoSecondDigit r = digitAt 1 r ≡ false
 Met Broken r = ⊥
 
 -- a rule's text comes back before r
-abbrev pub Back : ℕ → Rule → Fields → List ℕ → Type 0
-Back current rule f r =
-    readRule english current rule (ruleText english rule f ++ r) ≡ got (length (ruleText english rule f)) (carriedRule rule f)
+abbrev pub Back : Edition → ℕ → Rule → Fields → List ℕ → Type 0
+Back edition current rule f r =
+    readRule edition english current rule (ruleText english rule f ++ r) ≡ got (length (ruleText english rule f)) (carriedRule rule f)
 
 -- what a number carries
 
@@ -90,7 +91,7 @@ number-met q least most r =
     (λ d h. (ltb-false most (mostDigits q) e, λ l. h))
     (λ d h. (ltb-false most (mostDigits q) e, λ l. absurd (omega (arith, ltb-false least most d)))))
 
-module _ (current : ℕ) (q : Quantity) (least most : ℕ) (fit : numberFits q least most ≡ true) (f : Fields) (h : Allowed f) (r : List ℕ) (met : Met (numberNeed q least most) r) where
+module _ (q : Quantity) (least most : ℕ) (fit : numberFits q least most ≡ true) (f : Fields) (h : Allowed f) (r : List ℕ) (met : Met (numberNeed q least most) r) where
   fits-in : quantityOf q f < 10 ^ most
   fits-in =
       lt-of-lt-of-le (quantity-below q f h)
@@ -107,26 +108,26 @@ module _ (current : ℕ) (q : Quantity) (least most : ℕ) (fit : numberFits q l
   free : length (num least (quantityOf q f)) < most → digitAt 0 r ≡ false
   free l = number-met q least most r met .1 (omega (arith, at-least))
 
-  number-comes-back : (u : ParseUnit) → Back current (Number q least most u (zeroOf q)) f r
-  unfolding ruleText carriedRule
+  number-comes-back : (u : ParseUnit) → takenUnit u (zeroOf q) (reach (most - least) least (num least (quantityOf q f) ++ r)) (num least (quantityOf q f) ++ r)
+      ≡ got (length (num least (quantityOf q f))) (carried.Value u (pos (quantityOf (carriedAs q) f)))
   number-comes-back u =
       let n = number-fits q least most fit in
       let s = num least (quantityOf q f) in
       let nine : 10 ^ most ≤ 10 ^ 9 = pow-le-pow-right (omega arith) (n .few) in
       let small : quantityOf q f ≤ 4294967295 = omega (arith, fits-in) in
-      taken-comes-back least most s r at-least (num-some least (quantityOf q f)) at-most (all-num least (quantityOf q f)) free english current q u (zeroOf q)
+      taken-comes-back least most s r at-least (num-some least (quantityOf q f)) at-most (all-num least (quantityOf q f)) free u (zeroOf q)
       (rw decimal-num small)
       ∙ ap (λ (m : ℕ). got (length s) (carried.Value u (pos m)))
       (ap (zeroFor (zeroOf q)) (decimal-num least (quantityOf q f)) ∙ carried-quantity q f h)
 
-  skipped-number-comes-back : Back current (SkippedNumber q least most) f r
-  unfolding ruleText carriedRule
+  skipped-number-comes-back : passed (reach (most - least) least (num least (quantityOf q f) ++ r)) (num least (quantityOf q f) ++ r)
+      ≡ got (length (num least (quantityOf q f))) carried.Nothing
   skipped-number-comes-back =
-      skipped-comes-back least most (num least (quantityOf q f)) r at-least (num-some least (quantityOf q f)) at-most (all-num least (quantityOf q f)) free english current q
+      skipped-comes-back least most (num least (quantityOf q f)) r at-least (num-some least (quantityOf q f)) at-most (all-num least (quantityOf q f)) free
 
-letter-quarter-comes-back : (current : ℕ) (f : Fields) → Allowed f → (r : List ℕ) → Back current LetterQuarter f r
+letter-quarter-comes-back : (edition : Edition) (current : ℕ) (f : Fields) → Allowed f → (r : List ℕ) → Back edition current LetterQuarter f r
 unfolding readRule ruleText carriedRule mostDigits
-letter-quarter-comes-back current f h r =
+letter-quarter-comes-back edition current f h r =
     let n = quantityOf Quarter f in
     let size : length (num 1 n) ≡ 1 = num-fits 1 n (omega arith) (quantity-below Quarter f h) in
     rw (skip-goes-on 2 (code "Q" ∷ num 1 n ++ r) (simp length-append (omega arith)), add-zero)
@@ -143,38 +144,37 @@ group-free true NotZero r met = met
 group-free false NotZero r met = met
 group-free colon Always r met = tt
 
-zone-rule-comes-back : (current : ℕ) (utc colon : Bool) (minutes seconds : Group) → zoneFits minutes seconds ≡ true → (f : Fields) → Allowed f
-    → (r : List ℕ) → Met (groupNeed colon (lastGroup minutes seconds)) r → Back current (Zone utc colon minutes seconds) f r
+zone-rule-comes-back : (edition : Edition) (current : ℕ) (utc colon : Bool) (minutes seconds : Group) → zoneFits minutes seconds ≡ true → (f : Fields) → Allowed f
+    → (r : List ℕ) → Met (groupNeed colon (lastGroup minutes seconds)) r → Back edition current (Zone utc colon minutes seconds) f r
 unfolding ruleText carriedRule
-zone-rule-comes-back current utc colon Never seconds fit f h r met = true-is-not-false (rw fit)
-zone-rule-comes-back current utc colon NotZero Never fit f h r met =
-    zone-comes-back english current utc colon NotZero Never refl (f .offset) r (h .offset) (group-free colon NotZero r met) tt
-zone-rule-comes-back current utc colon NotZero NotZero fit f h r met = true-is-not-false (rw fit)
-zone-rule-comes-back current utc colon NotZero Always fit f h r met = true-is-not-false (rw fit)
-zone-rule-comes-back current utc colon Always Never fit f h r met =
-    zone-comes-back english current utc colon Always Never refl (f .offset) r (h .offset) tt tt
-zone-rule-comes-back current utc colon Always NotZero fit f h r met =
-    zone-comes-back english current utc colon Always NotZero refl (f .offset) r (h .offset) tt (group-free colon NotZero r met)
-zone-rule-comes-back current utc colon Always Always fit f h r met =
-    zone-comes-back english current utc colon Always Always refl (f .offset) r (h .offset) tt tt
+zone-rule-comes-back edition current utc colon Never seconds fit f h r met = true-is-not-false (rw fit)
+zone-rule-comes-back edition current utc colon NotZero Never fit f h r met =
+    zone-comes-back edition english current utc colon NotZero Never refl (f .offset) r (h .offset) (group-free colon NotZero r met) tt
+zone-rule-comes-back edition current utc colon NotZero NotZero fit f h r met = true-is-not-false (rw fit)
+zone-rule-comes-back edition current utc colon NotZero Always fit f h r met = true-is-not-false (rw fit)
+zone-rule-comes-back edition current utc colon Always Never fit f h r met =
+    zone-comes-back edition english current utc colon Always Never refl (f .offset) r (h .offset) tt tt
+zone-rule-comes-back edition current utc colon Always NotZero fit f h r met =
+    zone-comes-back edition english current utc colon Always NotZero refl (f .offset) r (h .offset) tt (group-free colon NotZero r met)
+zone-rule-comes-back edition current utc colon Always Always fit f h r met =
+    zone-comes-back edition english current utc colon Always Always refl (f .offset) r (h .offset) tt tt
 
 -- every rule
 
-pub rule-comes-back : (current : ℕ) (rule : Rule) → fits rule ≡ true → (f : Fields) → Allowed f → (r : List ℕ) → Met (ruleNeed rule) r → Back current rule f r
-unfolding fits ruleNeed ruleText carriedRule
-rule-comes-back current (Number q least most u z) fit f h r met =
-    let t = both-true (numberFits q least most) (eqb z (zeroOf q)) fit in
-    rw (eqb-true z (zeroOf q) (t .1)) (number-comes-back current q least most (t .0) f h r met u)
-rule-comes-back current (SkippedNumber q least most) fit f h r met = skipped-number-comes-back current q least most fit f h r met
-rule-comes-back current LetterQuarter fit f h r met = letter-quarter-comes-back current f h r
-rule-comes-back current (SkippedName l n) fit f h r met =
-    skipped-name-comes-back current l f h r n (both-true (namesFit l) (sameLength n l) fit .1)
-rule-comes-back current (MatchedName l) fit f h r met =
-    matched-name-comes-back current l f h r (both-true (namesFit l) (allApart (names english l)) fit .1)
-rule-comes-back current (Letters l n) fit f h r met =
+pub rule-comes-back : (edition : Edition) (current : ℕ) (rule : Rule) → fits rule ≡ true → (f : Fields) → Allowed f → (r : List ℕ) → Met (ruleNeed edition rule) r → Back edition current rule f r
+unfolding fits ruleNeed readRule ruleText carriedRule
+rule-comes-back edition current (Number q least most u z) fit f h r met =
+    rw (zero-fits q least most u z fit) (number-comes-back q least (mostRead edition q most) (read-fits q least most u z fit edition) f h r met u)
+rule-comes-back edition current (SkippedNumber q least most) fit f h r met = skipped-number-comes-back q least most fit f h r met
+rule-comes-back edition current LetterQuarter fit f h r met = letter-quarter-comes-back edition current f h r
+rule-comes-back edition current (SkippedName l n) fit f h r met =
+    skipped-name-comes-back edition current l f h r n (both-true (namesFit l) (sameLength n l) fit .1)
+rule-comes-back edition current (MatchedName l) fit f h r met =
+    matched-name-comes-back edition current l f h r (both-true (namesFit l) (allApart (names english l)) fit .1)
+rule-comes-back edition current (Letters l n) fit f h r met =
     let t = both-true (sameLength n l) (allApart (names english l)) (both-true (namesFit l) _ fit .1) in
-    letters-rule-comes-back current l f h r n (t .0) (t .1)
-rule-comes-back current (Years k) fit f h r met = years-come-back english current k (f .year) r (h .year .1) met
-rule-comes-back current (FixedYear k) fit f h r met = fixed-year-comes-back english current k (f .year) r (h .year .1) (seven k r met)
-rule-comes-back current TwoDigitYear fit f h r met = absurd met
-rule-comes-back current (Zone utc colon minutes seconds) fit f h r met = zone-rule-comes-back current utc colon minutes seconds fit f h r met
+    letters-rule-comes-back edition current l f h r n (t .0) (t .1)
+rule-comes-back edition current (Years k) fit f h r met = years-come-back edition english current k (f .year) r (h .year .1) met
+rule-comes-back edition current (FixedYear k) fit f h r met = fixed-year-comes-back edition english current k (f .year) r (h .year .1) (seven k r met)
+rule-comes-back edition current TwoDigitYear fit f h r met = absurd met
+rule-comes-back edition current (Zone utc colon minutes seconds) fit f h r met = zone-rule-comes-back edition current utc colon minutes seconds fit f h r met

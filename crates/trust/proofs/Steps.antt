@@ -54,10 +54,10 @@ literal-comes-back : (strict : Bool) (s r : List ℕ) → literalRead strict s (
 literal-comes-back true s r = rw (same-goes-on s r, add-zero)
 literal-comes-back false s r = rw (skip-goes-on (length s) (s ++ r) (simp length-append (omega arith)), add-zero)
 
-pub step-comes-back : (choices : Choices) (current : ℕ) {s : Step} {ss : List Step} → Fitting (s ∷ ss) → meets (stepNeed s) ss ≡ true → (f : Fields)
+pub step-comes-back : (choices : Choices) (current : ℕ) {s : Step} {ss : List Step} → Fitting (s ∷ ss) → meets (stepNeed (choices .edition) s) ss ≡ true → (f : Fields)
     → Allowed f → StepBack choices current s ss f
 unfolding stepNeed readStep stepText carriedStep
-step-comes-back choices current (symbol-first {rule} {ss} fit rest) e f h = rule-comes-back current rule fit f h (texts english f ss) (met _ rest e f h)
+step-comes-back choices current (symbol-first {rule} {ss} fit rest) e f h = rule-comes-back (choices .edition) current rule fit f h (texts english f ss) (met _ rest e f h)
 step-comes-back choices current (literal-first {s} {ss} k rest) e f h = literal-comes-back (choices .strict) s (texts english f ss)
 step-comes-back choices current (open-last {s} {lost = true} k) e f h = true-is-not-false (unfold meets in sym e)
 step-comes-back choices current (open-last {s} {lost = false} k) e f h = literal-comes-back (choices .strict) s (texts english f [])
@@ -78,10 +78,10 @@ lost-fails strict s r k e =
     let t = take (length s - 1) s ++ r in
     omega (arith, has-a-quote s k, length-take (length s - 1) s, takes-got (length s) (takes-literal strict s t) e)
 
-pub step-fails : (choices : Choices) (current : ℕ) → current ≤ 9999 → {s : Step} {ss : List Step} → Fitting (s ∷ ss) → meets (stepNeed s) ss ≡ false
-    → StepBack choices current s ss (witness (stepNeed s)) → ⊥
+pub step-fails : (choices : Choices) (current : ℕ) → current ≤ 9999 → {s : Step} {ss : List Step} → Fitting (s ∷ ss) → meets (stepNeed (choices .edition) s) ss ≡ false
+    → StepBack choices current s ss (witness (stepNeed (choices .edition) s)) → ⊥
 unfolding stepNeed readStep stepText carriedStep
-step-fails choices current small (symbol-first {rule} {ss} fit rest) e back = rule-fails current small rule fit _ (shown _ rest e) back
+step-fails choices current small (symbol-first {rule} {ss} fit rest) e back = rule-fails (choices .edition) current small rule fit _ (shown _ rest e) back
 step-fails choices current small (literal-first {s} {ss} k rest) e back = true-is-not-false (unfold meets in e)
 step-fails choices current small (open-last {s} {lost = true} k) e back = lost-fails (choices .strict) s _ (sym k) back
 step-fails choices current small (open-last {s} {lost = false} k) e back = true-is-not-false (unfold meets in e)

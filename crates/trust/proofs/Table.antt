@@ -6,15 +6,19 @@ use mathlib.Core.Path.{_≡_, refl}
 use Prim.Native.Nat.{ℕ, _≤_, _<_}
 use lib.Dec.{eqb, leb, ltb}
 use lib.ListN.{length}
-use borrow.Author.Tests.{leb-true, lt-ltb, ltb-true}
+use borrow.Author.Tests.{eqb-true, leb-true, lt-ltb, ltb-true}
 use Rattle.meaning.specs.Bytes.{when, both, digitAt, num}
 use Rattle.meaning.specs.Names.{english, names}
+use Rattle.meaning.specs.Reading.{mostRead}
 use Rattle.meaning.specs.Rules.{roleOf}
 use Rattle.meaning.specs.Writing.{quantityOf, nameText}
+use Rattle.meaning.specs.declared.Edition.the-variants.{First, Second}
+use Rattle.meaning.specs.declared.Edition.{Edition}
 use Rattle.meaning.specs.declared.Group.{Group}
 use Rattle.meaning.specs.declared.Group.the-variants.{Never, NotZero, Always}
 use Rattle.meaning.specs.declared.NameList.{NameList}
 use Rattle.meaning.specs.declared.Pair.the-variants.{Full}
+use Rattle.meaning.specs.declared.ParseUnit.{ParseUnit}
 use Rattle.meaning.specs.declared.Quantity.{Quantity}
 use Rattle.meaning.specs.declared.Quantity.the-variants.{Month, Quarter, Week, Day, DayOfYear, Weekday, WeekdayFromMonday, Hour1To12, Hour0To11, Hour0To23, Hour1To24, Minute, Second, Fraction}
 use Rattle.meaning.specs.declared.Rule.{Rule}
@@ -73,8 +77,16 @@ zoneFits NotZero NotZero = false
 zoneFits NotZero Always = false
 zoneFits Always seconds = true
 
+-- a test of an edition, of both
+abbrev pub inBoth : (Edition → Bool) → Bool
+inBoth test = both (test First) (test Second)
+
+pub in-either : (test : Edition → Bool) → inBoth test ≡ true → (edition : Edition) → test edition ≡ true
+in-either test h First = both-true (test First) (test Second) h .0
+in-either test h Second = both-true (test First) (test Second) h .1
+
 unfoldable pub fits : Rule → Bool
-fits (Number q least most u z) = both (numberFits q least most) (eqb z (zeroOf q))
+fits (Number q least most u z) = both (inBoth (λ edition. numberFits q least (mostRead edition q most))) (eqb z (zeroOf q))
 fits (SkippedNumber q least most) = numberFits q least most
 fits LetterQuarter = true
 fits (SkippedName l n) = both (namesFit l) (sameLength n l)
@@ -84,6 +96,19 @@ fits (Years k) = true
 fits (FixedYear k) = true
 fits TwoDigitYear = true
 fits (Zone utc colon minutes seconds) = zoneFits minutes seconds
+
+-- a number that is read fits in either edition, and reads zero for what stands for it
+module _ (q : Quantity) (least most : ℕ) (u : ParseUnit) (z : ℕ) (fit : fits (Number q least most u z) ≡ true) where
+  abbrev readFits : Edition → Bool
+  readFits edition = numberFits q least (mostRead edition q most)
+
+  pub read-fits : (edition : Edition) → readFits edition ≡ true
+  unfolding fits
+  read-fits = in-either readFits (both-true (inBoth readFits) (eqb z (zeroOf q)) fit .0)
+
+  pub zero-fits : z ≡ zeroOf q
+  unfolding fits
+  zero-fits = eqb-true z (zeroOf q) (both-true (inBoth readFits) (eqb z (zeroOf q)) fit .1)
 
 -- what it says that a number fits
 pub record NumberFits (q : Quantity) (least most : ℕ) : Type 0 where
@@ -114,7 +139,7 @@ number-fits q least most h =
 -- the whole table
 
 table-fits : tablePasses (symbolPasses fits) ≡ true
-unfolding fits numberFits namesFit sameLength allApart english opening nameFirst hasLetters mostDigits quantityOf num digitAt nameText
+unfolding fits mostRead numberFits namesFit sameLength allApart english opening nameFirst hasLetters mostDigits quantityOf num digitAt nameText
 table-fits = refl
 
 fixed-fits : (c : ℕ) → fits (FixedYear c) ≡ true

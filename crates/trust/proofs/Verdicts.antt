@@ -1,4 +1,4 @@
--- The check is right: its answer is what `Says` asks of it, for every pattern and every current year.
+-- The check is right: its answer is what `Says` asks of it, for every pattern and every current year, in either edition.
 use mathlib.Core.Bool.{Bool, true, false}
 use mathlib.Core.List.{List, [], _∷_}
 use mathlib.Core.Path.{_≡_, refl, sym, _∙_}
@@ -8,13 +8,14 @@ use lib.Dec.{leb}
 use lib.IntN.{ℤ, pos, negsuc, natAbs}
 use lib.ListN.{length, drop}
 use borrow.Author.Tests.{leb-true}
-use Rattle.meaning.specs.Answers.{currentYearCheck, fieldsCheck, patternCheck, within}
+use Rattle.meaning.specs.Answers.{firstCurrentYear, currentYearCheck, fieldsCheck, patternCheck, within}
 use Rattle.meaning.specs.Names.{english}
 use Rattle.meaning.specs.Trust.{partAt, ComesBack, AllComeBack, FailsFirst, trustCheck, fullPair, SaysOf, Says}
 use Rattle.meaning.specs.Writing.{Step, steps}
 use Rattle.meaning.specs.declared.Checked.{Checked}
 use Rattle.meaning.specs.declared.Checked.the-variants.{Fine, Refused}
 use Rattle.meaning.specs.declared.Choices.{Choices}
+use Rattle.meaning.specs.declared.Edition.{Edition}
 use Rattle.meaning.specs.declared.Fields.{Fields}
 use Rattle.meaning.specs.declared.Pair.the-variants.{Full}
 use Rattle.meaning.specs.declared.Refusal.the-variants.{CurrentYear}
@@ -35,29 +36,29 @@ use Rattle.trust.specs.Needs.{stepNeed}
 -- what the first part that fails is, by the definition
 
 -- whether the check takes part i to hold
-holds : List Step → ℕ → Bool
-holds ss i = meets (stepNeed (partAt ss i)) (drop (suc i) ss)
+holds : Edition → List Step → ℕ → Bool
+holds edition ss i = meets (stepNeed edition (partAt ss i)) (drop (suc i) ss)
 
-record FirstOf (ss : List Step) (i : ℕ) (f : Fields) : Type 0 where
+record FirstOf (edition : Edition) (ss : List Step) (i : ℕ) (f : Fields) : Type 0 where
   there : i < length ss
-  fails : holds ss i ≡ false
-  shows : f ≡ witness (stepNeed (partAt ss i))
-  earlier : (j : ℕ) → j < i → holds ss j ≡ true
+  fails : holds edition ss i ≡ false
+  shows : f ≡ witness (stepNeed edition (partAt ss i))
+  earlier : (j : ℕ) → j < i → holds edition ss j ≡ true
 
 -- what an answer about parts that are counted on from k says
-Tells : ℕ → List Step → Verdict → Type 0
-Tells k ss verdict.Yes = (j : ℕ) → j < length ss → holds ss j ≡ true
-Tells k ss (verdict.No part f) = (i : ℕ) × (part ≡ k + i) × FirstOf ss i f
-Tells k ss (verdict.Refused why) = ⊥
+Tells : Edition → ℕ → List Step → Verdict → Type 0
+Tells edition k ss verdict.Yes = (j : ℕ) → j < length ss → holds edition ss j ≡ true
+Tells edition k ss (verdict.No part f) = (i : ℕ) × (part ≡ k + i) × FirstOf edition ss i f
+Tells edition k ss (verdict.Refused why) = ⊥
 
 -- with a part in front that holds
-module _ (s : Step) (ss : List Step) (first : meets (stepNeed s) ss ≡ true) where
-  holds-from : (n : ℕ) → ((j : ℕ) → j < n → holds ss j ≡ true) → (j : ℕ) → j < suc n → holds (s ∷ ss) j ≡ true
+module _ (edition : Edition) (s : Step) (ss : List Step) (first : meets (stepNeed edition s) ss ≡ true) where
+  holds-from : (n : ℕ) → ((j : ℕ) → j < n → holds edition ss j ≡ true) → (j : ℕ) → j < suc n → holds edition (s ∷ ss) j ≡ true
   unfolding holds
   holds-from n rest zero h = first
   holds-from n rest (suc j) h = rest j (omega arith)
 
-  tells-from : (k : ℕ) (v : Verdict) → Tells (suc k) ss v → Tells k (s ∷ ss) v
+  tells-from : (k : ℕ) (v : Verdict) → Tells edition (suc k) ss v → Tells edition k (s ∷ ss) v
   unfolding Tells
   tells-from k verdict.Yes h = holds-from (length ss) h
   tells-from k (verdict.No part f) h =
@@ -74,14 +75,14 @@ module _ (s : Step) (ss : List Step) (first : meets (stepNeed s) ss ≡ true) wh
       )
   tells-from k (verdict.Refused why) h = h
 
-tells : (k : ℕ) (ss : List Step) → Tells k ss (firstFailing k ss)
+tells : (edition : Edition) (k : ℕ) (ss : List Step) → Tells edition k ss (firstFailing edition k ss)
 unfolding firstFailing Tells
-tells k [] = λ j h. absurd (omega arith)
-tells k (s ∷ ss) =
-    by-test (meets (stepNeed s) ss)
-    (λ e. rw (failing-on k s ss e) (tells-from s ss e k (firstFailing (suc k) ss) (tells (suc k) ss)))
+tells edition k [] = λ j h. absurd (omega arith)
+tells edition k (s ∷ ss) =
+    by-test (meets (stepNeed edition s) ss)
+    (λ e. rw (failing-on edition k s ss e) (tells-from edition s ss e k (firstFailing edition (suc k) ss) (tells edition (suc k) ss)))
     (λ e.
-    rw (failing-here k s ss e) (
+    rw (failing-here edition k s ss e) (
       0,
       omega arith,
       record { there = omega arith; fails = unfold holds in e; shows = refl; earlier = λ j h. absurd (omega arith) },
@@ -90,63 +91,64 @@ tells k (s ∷ ss) =
 -- and what that says of the written text
 
 module _ (choices : Choices) (current : ℕ) {ss : List Step} (fit : Fitting ss) (i : ℕ) (there : i < length ss) where
-  part-comes-back : holds ss i ≡ true → (f : Fields) → fieldsCheck f ≡ Fine → ComesBack choices english current ss f i
+  part-comes-back : holds (choices .edition) ss i ≡ true → (f : Fields) → fieldsCheck f ≡ Fine → ComesBack choices english current ss f i
   unfolding holds ComesBack
   part-comes-back e f h = rw (text-from english f ss i there) (step-comes-back choices current (fitting-from fit i there) e f (allowed f h))
 
-  part-fails : current ≤ 9999 → holds ss i ≡ false → ComesBack choices english current ss (witness (stepNeed (partAt ss i))) i → ⊥
+  part-fails : current ≤ 9999 → holds (choices .edition) ss i ≡ false → ComesBack choices english current ss (witness (stepNeed (choices .edition) (partAt ss i))) i → ⊥
   unfolding holds ComesBack
   part-fails small e back =
-      step-fails choices current small (fitting-from fit i there) e (rw (text-from english (witness (stepNeed (partAt ss i))) ss i there) at back)
+      step-fails choices current small (fitting-from fit i there) e (rw (text-from english (witness (stepNeed (choices .edition) (partAt ss i))) ss i there) at back)
 
-all-come-back : (choices : Choices) (current : ℕ) {ss : List Step} → Fitting ss → (n : ℕ) → n ≤ length ss → ((j : ℕ) → j < n → holds ss j ≡ true)
+all-come-back : (choices : Choices) (current : ℕ) {ss : List Step} → Fitting ss → (n : ℕ) → n ≤ length ss → ((j : ℕ) → j < n → holds (choices .edition) ss j ≡ true)
     → AllComeBack choices english current ss n
 unfolding AllComeBack
 all-come-back choices current fit n h all f fine i k = part-comes-back choices current fit i (omega arith) (all i k) f fine
 
-fails-first : (choices : Choices) (current : ℕ) → current ≤ 9999 → {ss : List Step} → Fitting ss → (i : ℕ) (f : Fields) → FirstOf ss i f
+fails-first : (choices : Choices) (current : ℕ) → current ≤ 9999 → {ss : List Step} → Fitting ss → (i : ℕ) (f : Fields) → FirstOf (choices .edition) ss i f
     → FailsFirst choices english current ss i f
 fails-first choices current small {ss} fit i f first =
     record {
       there = first .there;
-      allowed = rw (first .shows) (witness-fine (stepNeed (partAt ss i)));
+      allowed = rw (first .shows) (witness-fine (stepNeed (choices .edition) (partAt ss i)));
       fails = λ back. part-fails choices current fit i (first .there) small (first .fails) (rw (first .shows) at back);
       earlier = all-come-back choices current fit i (omega (arith, first .there)) (first .earlier);
     }
 
 -- the whole answer
 
-year-bound : (current : ℤ) → currentYearCheck current ≡ Fine → natAbs current ≤ 9999
+year-bound : (edition : Edition) (current : ℤ) → currentYearCheck edition current ≡ Fine → natAbs current ≤ 9999
 unfolding currentYearCheck
-year-bound (pos n) h =
-    leb-true n 9999 (both-true (leb 1 n) (leb n 9999) (fine-unless (within 1 9999 n) (CurrentYear (pos n)) h) .1)
-year-bound (negsuc n) h = absurd (let z : _≡_ {A = ℕ} 0 1 = cc in omega arith)
+year-bound edition (pos n) h =
+    let first = firstCurrentYear edition in
+    leb-true n 9999 (both-true (leb first n) (leb n 9999) (fine-unless (within first 9999 n) (CurrentYear (pos n)) h) .1)
+year-bound edition (negsuc n) h = absurd (let z : _≡_ {A = ℕ} 0 1 = cc in omega arith)
 
-answer-says : (p : List ℕ) (current : ℤ) → trustCheck p current ≡ Fine → (v : Verdict) → Tells 0 (steps Full p) v → Says english p current v
+answer-says : (edition : Edition) (p : List ℕ) (current : ℤ) → trustCheck edition p current ≡ Fine → (v : Verdict) → Tells edition 0 (steps Full p) v → Says edition english p current v
 unfolding Tells SaysOf
-answer-says p current fine verdict.Yes h strict =
-    (fine, all-come-back (fullPair strict) (natAbs current) (steps-fit p) (length (steps Full p)) (omega arith) h)
-answer-says p current fine (verdict.No part f) h strict =
-    let small = year-bound current (else-fine (patternCheck p) (currentYearCheck current) fine .1) in
+answer-says edition p current fine verdict.Yes h strict =
+    (fine, all-come-back (fullPair edition strict) (natAbs current) (steps-fit p) (length (steps Full p)) (omega arith) h)
+answer-says edition p current fine (verdict.No part f) h strict =
+    let small = year-bound edition current (else-fine (patternCheck p) (currentYearCheck edition current) fine .1) in
     let e : part ≡ h .0 = omega (arith, h .1) in
-    (fine, rw e (fails-first (fullPair strict) (natAbs current) small (steps-fit p) (h .0) f (h .2)))
-answer-says p current fine (verdict.Refused why) h strict = absurd h
+    (fine, rw e (fails-first (fullPair edition strict) (natAbs current) small (steps-fit p) (h .0) f (h .2)))
+answer-says edition p current fine (verdict.Refused why) h strict = absurd h
 
-pub verdict-says : (p : List ℕ) (current : ℤ) → Says english p current (verdictOf p current)
+pub verdict-says : (edition : Edition) (p : List ℕ) (current : ℤ) → Says edition english p current (verdictOf edition p current)
 unfolding verdictOf
-verdict-says p current = go (trustCheck p current) refl
+verdict-says edition p current = go (trustCheck edition p current) refl
   where
-    go : (c : Checked) → trustCheck p current ≡ c → Says english p current (verdictBy c (firstFailing 0 (steps Full p)))
-    go Fine e = answer-says p current e (firstFailing 0 (steps Full p)) (tells 0 (steps Full p))
+    go : (c : Checked) → trustCheck edition p current ≡ c → Says edition english p current (verdictBy c (firstFailing edition 0 (steps Full p)))
+    go Fine e = answer-says edition p current e (firstFailing edition 0 (steps Full p)) (tells edition 0 (steps Full p))
     go (Refused why) e = λ strict. unfold SaysOf in e
 
 -- what is said of a reading, strict or not, is what the check answers, but for the record
-pub told-as-checked : (p : List ℕ) (current : ℤ) (strict : Bool) (v : Verdict) → SaysOf (fullPair strict) english p current v
-    → SameButRecord v (verdictOf p current)
-told-as-checked p current strict v says =
-    answers-of-coincide (fullPair strict) english p current v (verdictOf p current) says (verdict-says p current strict)
+pub told-as-checked : (edition : Edition) (p : List ℕ) (current : ℤ) (strict : Bool) (v : Verdict) → SaysOf (fullPair edition strict) english p current v
+    → SameButRecord v (verdictOf edition p current)
+told-as-checked edition p current strict v says =
+    answers-of-coincide (fullPair edition strict) english p current v (verdictOf edition p current) says (verdict-says edition p current strict)
 
 -- so it is the same of both
-pub same-strict-or-not : (p : List ℕ) (current : ℤ) (v w : Verdict) → SaysOf (fullPair true) english p current v
-    → SaysOf (fullPair false) english p current w → SameButRecord v w
-same-strict-or-not p current v w says says′ = told-as-checked p current true v says ∙ sym (told-as-checked p current false w says′)
+pub same-strict-or-not : (edition : Edition) (p : List ℕ) (current : ℤ) (v w : Verdict) → SaysOf (fullPair edition true) english p current v
+    → SaysOf (fullPair edition false) english p current w → SameButRecord v w
+same-strict-or-not edition p current v w says says′ = told-as-checked edition p current true v says ∙ sym (told-as-checked edition p current false w says′)

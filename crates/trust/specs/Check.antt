@@ -8,6 +8,7 @@ use Rattle.meaning.specs.Trust.{trustCheck}
 use Rattle.meaning.specs.Writing.{Step, steps}
 use Rattle.meaning.specs.declared.Checked.{Checked}
 use Rattle.meaning.specs.declared.Checked.the-variants.{Fine, Refused}
+use Rattle.meaning.specs.declared.Edition.{Edition}
 use Rattle.meaning.specs.declared.Fields.{Fields}
 use Rattle.meaning.specs.declared.Pair.the-variants.{Full}
 use Rattle.meaning.specs.declared.Verdict.{Verdict}
@@ -55,18 +56,21 @@ witness NoSecondDigit = longNumbers
 witness Broken = longNumbers
 
 -- the first of these parts that does not hold, counted on from i
-unfoldable pub firstFailing : ℕ → List Step → Verdict
+unfoldable pub firstFailing : Edition → ℕ → List Step → Verdict
 unfolding stepNeed meets
-firstFailing i [] = verdict.Yes
-firstFailing i (s ∷ ss) =
-    elim (meets (stepNeed s) ss) [ true ↦ firstFailing (suc i) ss | false ↦ verdict.No i (witness (stepNeed s)) ]
+firstFailing edition i [] = verdict.Yes
+firstFailing edition i (s ∷ ss) =
+    elim (meets (stepNeed edition s) ss) [
+      | true ↦ firstFailing edition (suc i) ss
+      | false ↦ verdict.No i (witness (stepNeed edition s))
+    ]
 
 -- a refusal, or else what is found of the parts
 abbrev pub verdictBy : Checked → Verdict → Verdict
 verdictBy Fine answer = answer
 verdictBy (Refused why) answer = verdict.Refused why
 
--- the answer of the check, of the full pair: yes, or no with the part from 0 and the record
-unfoldable pub verdictOf : List ℕ → ℤ → Verdict
+-- the answer of the check, of the full pair in an edition: yes, or no with the part from 0 and the record
+unfoldable pub verdictOf : Edition → List ℕ → ℤ → Verdict
 unfolding trustCheck firstFailing steps
-verdictOf p current = verdictBy (trustCheck p current) (firstFailing 0 (steps Full p))
+verdictOf edition p current = verdictBy (trustCheck edition p current) (firstFailing edition 0 (steps Full p))

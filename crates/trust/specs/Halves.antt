@@ -9,6 +9,7 @@ use Rattle.meaning.specs.Bytes.{when}
 use Rattle.meaning.specs.Trust.{trustCheck}
 use Rattle.meaning.specs.Whole.{Gave}
 use Rattle.meaning.specs.Writing.{Step, literal, steps}
+use Rattle.meaning.specs.declared.Edition.{Edition}
 use Rattle.meaning.specs.declared.Pair.the-variants.{Full}
 use Rattle.meaning.specs.declared.Verdict.{Verdict}
 use Rattle.meaning.specs.declared.Verdict.the-variants.{Yes, No, Refused}
@@ -25,9 +26,9 @@ unfolding digitFirst digitSecond
 standIn ss = literal (mark (digitFirst ss) ∷ mark (digitSecond ss) ∷ []) false ∷ []
 
 -- the answer of the check for a pattern with these parts behind it
-unfoldable pub verdictBefore : List Step → List ℕ → ℤ → Verdict
+unfoldable pub verdictBefore : Edition → List Step → List ℕ → ℤ → Verdict
 unfolding trustCheck firstFailing steps
-verdictBefore ss p current = verdictBy (trustCheck p current) (firstFailing 0 (steps Full p ++ ss))
+verdictBefore edition ss p current = verdictBy (trustCheck edition p current) (firstFailing edition 0 (steps Full p ++ ss))
 
 -- an answer for parts with so many others before them
 abbrev pub later : ℕ → Verdict → Verdict

@@ -4,7 +4,9 @@ use mathlib.Core.Bool.{Bool}
 use Prim.Native.Nat.{ℕ}
 use lib.Dec.{leb, ltb}
 use Rattle.meaning.specs.Bytes.{when}
+use Rattle.meaning.specs.Reading.{mostRead}
 use Rattle.meaning.specs.Writing.{Step, literal, field}
+use Rattle.meaning.specs.declared.Edition.{Edition}
 use Rattle.meaning.specs.declared.Group.{Group}
 use Rattle.meaning.specs.declared.Group.the-variants.{Never, NotZero, Always}
 use Rattle.meaning.specs.declared.Quantity.{Quantity}
@@ -14,7 +16,7 @@ use Rattle.laws.specs.Widths.{mostDigits}
 use Rattle.trust.specs.declared.Need.{Need}
 use Rattle.trust.specs.declared.Need.the-variants.{Nothing, NoDigit, NoSecondDigit, Broken}
 
--- A number with more digits than a read takes is cut: single M. One read by a least count takes a digit that follows it.
+-- A number with more digits than a read takes is cut: single M in the first edition. One read by a least count takes a digit that follows it.
 abbrev pub numberNeed : Quantity → ℕ → ℕ → Need
 numberNeed q least most = when (ltb most (mostDigits q)) Broken (when (ltb least most) NoDigit Nothing)
 
@@ -31,21 +33,21 @@ lastGroup minutes NotZero = NotZero
 lastGroup minutes Always = Always
 
 -- "years have up to seven digits, so 7 is the first count from 5 up that always does"; yy loses all but two digits
-unfoldable pub ruleNeed : Rule → Need
-unfolding mostDigits
-ruleNeed (Number q least most u z) = numberNeed q least most
-ruleNeed (SkippedNumber q least most) = numberNeed q least most
-ruleNeed LetterQuarter = Nothing
-ruleNeed (SkippedName l n) = Nothing
-ruleNeed (MatchedName l) = Nothing
-ruleNeed (Letters l n) = Nothing
-ruleNeed (Years k) = NoDigit
-ruleNeed (FixedYear k) = when (leb 7 k) Nothing Broken
-ruleNeed TwoDigitYear = Broken
-ruleNeed (Zone utc colon minutes seconds) = groupNeed colon (lastGroup minutes seconds)
+unfoldable pub ruleNeed : Edition → Rule → Need
+unfolding mostDigits mostRead
+ruleNeed edition (Number q least most u z) = numberNeed q least (mostRead edition q most)
+ruleNeed edition (SkippedNumber q least most) = numberNeed q least most
+ruleNeed edition LetterQuarter = Nothing
+ruleNeed edition (SkippedName l n) = Nothing
+ruleNeed edition (MatchedName l) = Nothing
+ruleNeed edition (Letters l n) = Nothing
+ruleNeed edition (Years k) = NoDigit
+ruleNeed edition (FixedYear k) = when (leb 7 k) Nothing Broken
+ruleNeed edition TwoDigitYear = Broken
+ruleNeed edition (Zone utc colon minutes seconds) = groupNeed colon (lastGroup minutes seconds)
 
 -- "`'abc''` writes abc, yet a read skips 4 bytes"
-unfoldable pub stepNeed : Step → Need
+unfoldable pub stepNeed : Edition → Step → Need
 unfolding ruleNeed
-stepNeed (literal s lost) = when lost Broken Nothing
-stepNeed (field rule) = ruleNeed rule
+stepNeed edition (literal s lost) = when lost Broken Nothing
+stepNeed edition (field rule) = ruleNeed edition rule

@@ -15,6 +15,7 @@ use crate::needs::step_need;
 use fields::checks::current_year_check;
 use fields::checks::or_else;
 use meaning::Checked;
+use meaning::Edition;
 use meaning::Fields;
 use meaning::Pair;
 use meaning::Verdict;
@@ -79,14 +80,14 @@ fn witness(need: Need) -> Fields
     }
 }
 
-fn first_failing(pattern: &[u8]) -> Verdict
-    ensures { λ r. ⌜ r ≡ trust.firstFailing 0 (steps Pair.Full (now (pattern .entry))) ⌝ }
+fn first_failing(edition: Edition, pattern: &[u8]) -> Verdict
+    ensures { λ r. ⌜ r ≡ trust.firstFailing edition 0 (steps Pair.Full (now (pattern .entry))) ⌝ }
 {
     let mut place = 0;
     let mut i = 0;
     while place < pattern.len() {
         let part = next_part(pattern, place);
-        let need = step_need(step_of(Pair::Full, pattern, part), pattern);
+        let need = step_need(edition, step_of(Pair::Full, pattern, part), pattern);
         place += part.length;
         if !meets(need, pattern, place) {
             return Verdict::No {
@@ -99,21 +100,21 @@ fn first_failing(pattern: &[u8]) -> Verdict
     Verdict::Yes
 }
 
-fn trust_check(pattern: &[u8], year: i32) -> Checked
-    ensures { λ r. ⌜ r ≡ trustCheck (now (pattern .entry)) year ⌝ }
+fn trust_check(edition: Edition, pattern: &[u8], year: i32) -> Checked
+    ensures { λ r. ⌜ r ≡ trustCheck edition (now (pattern .entry)) year ⌝ }
 {
     let of_pattern = quoted_check(pattern);
-    let of_year = current_year_check(year);
+    let of_year = current_year_check(edition, year);
     or_else(of_pattern, of_year)
 }
 
-// Whether a pattern can be trusted to read back what it wrote, in a current year: the refusals 1, 2, 3, 14; yes exactly when
+// Whether a pattern can be trusted to read back what it wrote, in an edition and a current year: the refusals 1, 2, 3, 14; yes exactly when
 // every part comes back for every allowed record; else the first part that fails for some record, with such a record.
-pub fn verdict_on(pattern: &[u8], year: i32) -> Verdict
-    ensures { λ r. ⌜ Says english (now (pattern .entry)) year r ⌝ }
+pub fn verdict_on(edition: Edition, pattern: &[u8], year: i32) -> Verdict
+    ensures { λ r. ⌜ Says edition english (now (pattern .entry)) year r ⌝ }
 {
-    match trust_check(pattern, year) {
-        Checked::Fine => first_failing(pattern),
+    match trust_check(edition, pattern, year) {
+        Checked::Fine => first_failing(edition, pattern),
         Checked::Refused(why) => Verdict::Refused(why),
     }
 }

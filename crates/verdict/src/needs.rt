@@ -1,14 +1,18 @@
 // What a part needs of the text behind it.
 ghost use mathlib.Core.Path.{_≡_};
+ghost use lib.Dec.{leb};
 ghost use Rattle.laws.specs.Widths.{mostDigits};
 ghost use Rattle.meaning.specs.Bytes.{when};
+ghost use Rattle.meaning.specs.Reading.{mostRead};
 ghost use Rattle.rules.specs.Steps.{longYear, means, Held};
 ghost use Rattle.trust.specs.Needs as needs;
+use meaning::Edition;
 use meaning::Group;
 use meaning::Quantity;
 use meaning::Role;
 use meaning::Rule;
 use pattern::quoted::ends_in_quote;
+use rules::numbers::most_read;
 use rules::short::short_most;
 use rules::short::short_quantity;
 use rules::step::Step;
@@ -48,6 +52,13 @@ fn number_need(quantity: Quantity, least: u8, most: u8) -> Need
     Need::Nothing
 }
 
+// The same of a number that is read in an edition.
+fn read_need(edition: Edition, quantity: Quantity, least: u8, most: u8) -> Need
+    ensures { λ r. ⌜ r ≡ needs.numberNeed quantity least (mostRead edition quantity most) ⌝ }
+{
+    number_need(quantity, least, most_read(edition, quantity, most))
+}
+
 fn group_need(colon: bool, group: Group) -> Need
     ensures { λ r. ⌜ r ≡ needs.groupNeed colon group ⌝ }
 {
@@ -75,7 +86,7 @@ fn last_group(minutes: Group, seconds: Group) -> Group
 
 // "7 is the first count from 5 up that always does."
 fn fixed_year_need(count: usize) -> Need
-    ensures { λ r. ⌜ r ≡ needs.ruleNeed (Rule.FixedYear count) ⌝ }
+    ensures { λ r. ⌜ r ≡ when (leb 7 count) Need.Nothing Need.Broken ⌝ }
 {
     if 7 <= count {
         return Need::Nothing;
@@ -83,8 +94,8 @@ fn fixed_year_need(count: usize) -> Need
     Need::Broken
 }
 
-fn rule_need(rule: Rule) -> Need
-    ensures { λ r. ⌜ r ≡ needs.ruleNeed rule ⌝ }
+fn rule_need(edition: Edition, rule: Rule) -> Need
+    ensures { λ r. ⌜ r ≡ needs.ruleNeed edition rule ⌝ }
 {
     match rule {
         Rule::Number {
@@ -93,7 +104,7 @@ fn rule_need(rule: Rule) -> Need
             most,
             unit: _,
             zero: _,
-        } => number_need(quantity, least, most),
+        } => read_need(edition, quantity, least, most),
         Rule::SkippedNumber {
             quantity,
             least,
@@ -122,8 +133,8 @@ fn rule_need(rule: Rule) -> Need
 }
 
 // y, more than twice.
-fn year_need(count: usize) -> Need
-    ensures { λ r. ⌜ r ≡ needs.ruleNeed (longYear count) ⌝ }
+fn year_need(edition: Edition, count: usize) -> Need
+    ensures { λ r. ⌜ r ≡ needs.ruleNeed edition (longYear count) ⌝ }
 {
     if count <= 4 {
         return Need::NoDigit;
@@ -138,18 +149,21 @@ fn loss_need(lost: bool) -> Need
     if lost { Need::Broken } else { Need::Nothing }
 }
 
-pub fn step_need(step: Step, pattern: &[u8]) -> Need
+pub fn step_need(edition: Edition, step: Step, pattern: &[u8]) -> Need
     requires { ⌜ Held (now pattern) step ⌝ }
-    ensures { λ r. ⌜ r ≡ needs.stepNeed (means (now (pattern .entry)) step) ⌝ }
+    ensures { λ r. ⌜ r ≡ needs.stepNeed edition (means (now (pattern .entry)) step) ⌝ }
 {
     match step {
         Step::Times { byte: _, count: _ } => Need::Nothing,
         Step::Quoted { from: _, to: _ } => Need::Nothing,
         Step::Open { from } => loss_need(ends_in_quote(&pattern[from..])),
-        Step::Short { number, count } => {
-            number_need(short_quantity(number), count, short_most(number, count))
-        }
-        Step::Year(count) => year_need(count),
+        Step::Short { number, count } => read_need(
+            edition,
+            short_quantity(number),
+            count,
+            short_most(number, count),
+        ),
+        Step::Year(count) => year_need(edition, count),
         Step::MonthAbbreviated => Need::Nothing,
         Step::MonthWide => Need::Nothing,
         Step::WdayWide => Need::Nothing,
@@ -159,7 +173,7 @@ pub fn step_need(step: Step, pattern: &[u8]) -> Need
             count: _,
         } => match role {
             Role::Literal => Need::Nothing,
-            Role::Symbol(rule) => rule_need(rule),
+            Role::Symbol(rule) => rule_need(edition, rule),
         },
     }
 }

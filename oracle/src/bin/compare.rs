@@ -12,7 +12,7 @@ const COMPARE: Comparer = Comparer {
 };
 
 fn main() -> ExitCode {
-    let options = Options::from_args(std::env::args().skip(1));
+    let options = Options::of_requests(std::env::args().skip(1));
     let generated = |options: &Options| options.generated().map(|request| request.to_string());
     COMPARE.run(options, generated, |_| Tally::default())
 }

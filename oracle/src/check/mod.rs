@@ -10,6 +10,7 @@ pub use tally::CheckTally;
 
 use crate::answer::as_pattern;
 use crate::calendar::Fields;
+use crate::choices::Edition;
 use crate::expected::lone_quote;
 use crate::generator::{at_boundaries, in_range, Random, BOUNDARIES};
 use crate::limits::{pattern_limit, year_limit};
@@ -41,11 +42,12 @@ pub fn verdict(request: &CheckRequest, random: &mut Random) -> Verdict {
 fn refused(request: &CheckRequest) -> Option<String> {
     pattern_limit(&request.pattern)
         .or_else(|| lone_quote(&request.pattern))
-        .or_else(|| year_limit(request.now))
+        .or_else(|| year_limit(request.edition, request.now))
 }
 
 /// A pattern within the limits, to be tried on records.
 struct Trial {
+    edition: Edition,
     parts: Parts,
     now: i32,
 }
@@ -54,6 +56,7 @@ impl Trial {
     fn of(request: &CheckRequest) -> Trial {
         let pattern = as_pattern(&request.pattern).expect("a pattern within the limits is ASCII");
         Trial {
+            edition: request.edition,
             parts: Parts::of(pattern),
             now: request.now,
         }
@@ -104,7 +107,7 @@ impl Trial {
             .run(part)
             .and_then(|(symbol, count)| carried::carried(symbol, count, fields));
         self.parts
-            .read_one(part, text, self.now)
+            .read_one(self.edition, part, text, self.now)
             .is_ok_and(|read| read.taken == length && read.carried == carried)
     }
 }

@@ -1,15 +1,17 @@
-//! The request `check P NOW` and its answers.
+//! The request `check P NOW`, also with the word `second`, and its answers.
 
 use super::{Trial, Verdict};
 use crate::calendar::Fields;
+use crate::choices::Edition;
 use crate::limits::field_limit;
-use crate::request::{bytes, field_words, fields, hex, number};
+use crate::request::{bytes, edition, edition_word, field_words, fields, hex, number};
 use std::fmt;
 
 pub(super) const OTHER_ANSWER: &str = "another answer";
 
 #[derive(Clone, Debug, PartialEq, Eq)]
 pub struct CheckRequest {
+    pub edition: Edition,
     pub pattern: Vec<u8>,
     pub now: i32,
 }
@@ -17,10 +19,11 @@ pub struct CheckRequest {
 impl CheckRequest {
     /// None where the line is no such request.
     pub fn from_line(line: &str) -> Option<CheckRequest> {
-        let mut words = line.strip_prefix("check ")?.split(' ');
+        let mut words = line.strip_prefix("check ")?.split(' ').peekable();
         let request = CheckRequest {
             pattern: bytes(&mut words)?,
             now: number(&mut words)?,
+            edition: edition(&mut words),
         };
         words.next().is_none().then_some(request)
     }
@@ -63,7 +66,8 @@ fn no(answer: &str) -> Option<(usize, Fields)> {
 
 impl fmt::Display for CheckRequest {
     fn fmt(&self, f: &mut fmt::Formatter<'_>) -> fmt::Result {
-        write!(f, "check {} {}", hex(&self.pattern), self.now)
+        let edition = edition_word(self.edition);
+        write!(f, "check {} {}{edition}", hex(&self.pattern), self.now)
     }
 }
 

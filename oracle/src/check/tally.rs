@@ -3,6 +3,7 @@
 use super::request::OTHER_ANSWER;
 use super::{verdict, CheckRequest, Verdict};
 use crate::answer::BAD_REQUEST;
+use crate::choices::Edition;
 use crate::differences::Differences;
 use crate::generator::Random;
 use crate::tally::Hold;
@@ -29,6 +30,8 @@ pub struct CheckTally {
 #[derive(Clone, Copy, Default)]
 struct Row {
     requests: usize,
+    /// Of them in the second edition.
+    second: usize,
     differences: usize,
 }
 
@@ -44,7 +47,9 @@ impl CheckTally {
 
 impl Hold for CheckTally {
     fn hold(&mut self, line: &str, answer: &str) {
-        let (row, expected, fault) = match CheckRequest::from_line(line) {
+        let request = CheckRequest::from_line(line);
+        let second = matches!(&request, Some(request) if request.edition == Edition::Second);
+        let (row, expected, fault) = match request {
             Some(request) => {
                 let verdict = verdict(&request, &mut self.random);
                 let fault = request.fault(&verdict, answer);
@@ -56,6 +61,7 @@ impl Hold for CheckTally {
             }
         };
         self.rows[row].requests += 1;
+        self.rows[row].second += usize::from(second);
         if let Some(fault) = fault {
             self.rows[row].differences += 1;
             self.differences.note(&[
@@ -82,18 +88,25 @@ fn row_of(verdict: &Verdict) -> usize {
 
 impl Row {
     fn print(&self, name: &str, f: &mut fmt::Formatter<'_>) -> fmt::Result {
-        writeln!(f, "{name:<14}{:>10}{:>13}", self.requests, self.differences)
+        let Row {
+            requests,
+            second,
+            differences,
+        } = self;
+        writeln!(f, "{name:<14}{requests:>10}{second:>10}{differences:>13}")
     }
 }
 
 impl fmt::Display for CheckTally {
     fn fmt(&self, f: &mut fmt::Formatter<'_>) -> fmt::Result {
         self.differences.print_first(f)?;
-        writeln!(f, "{:<14}{:>10}{:>13}", "", "requests", "differences")?;
+        let columns = format!("{:>10}{:>10}{:>13}", "requests", "second", "differences");
+        writeln!(f, "{:<14}{columns}", "")?;
         let mut all = Row::default();
         for (name, row) in ROWS.iter().zip(self.rows) {
             row.print(name, f)?;
             all.requests += row.requests;
+            all.second += row.second;
             all.differences += row.differences;
         }
         all.print("all", f)?;

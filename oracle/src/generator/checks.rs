@@ -4,6 +4,7 @@ use super::current_year;
 use super::patterns::{self, COUNTS, SYMBOLS};
 use super::random::Random;
 use crate::check::CheckRequest;
+use crate::choices::Edition;
 
 /// Each pattern of this step is a random one.
 const EVERY: usize = 4;
@@ -11,7 +12,8 @@ const EVERY: usize = 4;
 /// Prime and larger than the list, so that any number of steps spreads over it and all steps go through it.
 const STRIDE: usize = 1_000_003;
 
-const YEARS: [i32; 6] = [1, 999, 1000, 1999, 2025, 9999];
+/// Beside the first that an edition takes.
+const YEARS: [i32; 5] = [999, 1000, 1999, 2025, 9999];
 
 const LITERALS: [&[u8]; 27] = [
     b"5", b"0", b"55", b"/", b"//", b"-", b"+", b":", b".", b" ", b"T", b"Z", b"A", b"'5'", b"'a'",
@@ -112,32 +114,37 @@ fn length(families: &[Family]) -> usize {
     families.iter().map(size).sum()
 }
 
-/// Requests without end, the same for the same seed.
+/// Requests without end, the same for the same seed and editions: each pattern in each of these.
 pub struct CheckGenerator {
     random: Random,
+    editions: Vec<Edition>,
     families: Vec<Family>,
     /// How long the list is.
     length: usize,
     /// Where in the list the seed begins.
     start: usize,
     made: usize,
+    /// The pattern of the last request.
+    pattern: Vec<u8>,
 }
 
 impl CheckGenerator {
-    pub fn new(seed: u64) -> CheckGenerator {
+    pub fn new(seed: u64, editions: Vec<Edition>) -> CheckGenerator {
         let mut random = Random::new(seed);
         let families = families();
         let length = length(&families);
         CheckGenerator {
             start: random.below(length),
             random,
+            editions,
             families,
             length,
             made: 0,
+            pattern: Vec::new(),
         }
     }
 
-    /// How many requests go through the list once.
+    /// How many patterns go through the list once.
     pub fn whole_list() -> usize {
         length(&families()).div_ceil(EVERY - 1) * EVERY
     }
@@ -158,40 +165,61 @@ impl Iterator for CheckGenerator {
     type Item = CheckRequest;
 
     fn next(&mut self) -> Option<CheckRequest> {
-        let (round, turn) = (self.made / EVERY, self.made % EVERY);
+        let (number, place) = (
+            self.made / self.editions.len(),
+            self.made % self.editions.len(),
+        );
         self.made += 1;
-        Some(if turn == EVERY - 1 {
-            CheckRequest {
-                pattern: random_pattern(round, &mut self.random),
-                now: current_year(&mut self.random),
-            }
-        } else {
-            let step = round * (EVERY - 1) + turn;
-            CheckRequest {
-                pattern: self.listed(step),
-                now: YEARS[step % YEARS.len()],
-            }
+        let edition = self.editions[place];
+        let (round, turn) = (number / EVERY, number % EVERY);
+        let listed = (turn < EVERY - 1).then_some(round * (EVERY - 1) + turn);
+        if place == 0 {
+            self.pattern = match listed {
+                Some(step) => self.listed(step),
+                None => random_pattern(round, &mut self.random),
+            };
+        }
+        Some(CheckRequest {
+            edition,
+            pattern: self.pattern.clone(),
+            now: match listed {
+                Some(step) => listed_year(edition, step),
+                None => current_year(edition, &mut self.random),
+            },
         })
     }
 }
 
-/// One of the other requests' random families, or parts kept apart.
-fn random_pattern(round: usize, random: &mut Random) -> Vec<u8> {
-    match round % 2 {
-        0 => patterns::at_random(random),
-        _ => kept_apart(random),
+fn listed_year(edition: Edition, step: usize) -> i32 {
+    match step % (1 + YEARS.len()) {
+        0 => edition.first_year(),
+        place => YEARS[place - 1],
     }
 }
 
-/// Seldom with a part that fails, so that it comes late.
-fn kept_apart(random: &mut Random) -> Vec<u8> {
+/// One of the other requests' random families, one with what the second edition reads otherwise, or parts kept apart.
+fn random_pattern(round: usize, random: &mut Random) -> Vec<u8> {
+    match round % 4 {
+        0 => patterns::at_random(random),
+        1 => kept_apart(Edition::First, random),
+        2 => patterns::with_what_differs(random),
+        _ => kept_apart(Edition::Second, random),
+    }
+}
+
+/// Seldom with a part that fails in the edition, so that it comes late.
+fn kept_apart(edition: Edition, random: &mut Random) -> Vec<u8> {
     const BETWEEN: [&[u8]; 8] = [b"-", b" ", b"/", b"T", b", ", b"' of '", b"''", b": "];
     let most = random.pick(&[3, 6, 12, 60]);
     let mut pattern = Vec::new();
     for _ in 0..random.between(1, most) {
         let (symbol, most) = random.pick(&KINDS);
         let count = random.between(1, most as i64) as usize;
-        let broken = matches!((symbol, count), (b'M', 1) | (b'y', 2 | 5 | 6));
+        let broken = match (symbol, count) {
+            (b'M', 1) => edition == Edition::First,
+            (b'y', 2 | 5 | 6) => true,
+            _ => false,
+        };
         if !broken || random.one_in(40) {
             pattern.extend(vec![symbol; count]);
         }

@@ -10,6 +10,7 @@ mod texts;
 
 use crate::answer::text_of;
 use crate::calendar::Fields;
+use crate::choices::{Choices, Edition};
 use crate::request::{Op, Request, MOST_ROOM};
 use crate::walk::Pair;
 pub use checks::CheckGenerator;
@@ -47,13 +48,10 @@ impl Iterator for Generator {
             },
             Op::Write => write_request(Pair::Full, turn, random),
             Op::WriteDate => write_request(Pair::Date, turn, random),
-            Op::Read => read_request(Pair::Full, false, turn, random),
-            Op::ReadDate => read_request(Pair::Date, false, turn, random),
-            Op::ReadStrict => read_request(Pair::Full, true, turn, random),
-            Op::ReadDateStrict => read_request(Pair::Date, true, turn, random),
             Op::ParseOffset => Request::ParseOffset {
                 text: offsets::offset_text(random),
             },
+            read => read_request(read.choices()?, turn, random),
         })
     }
 }
@@ -77,16 +75,19 @@ fn write_request(pair: Pair, turn: usize, random: &mut Random) -> Request {
     }
 }
 
-fn read_request(pair: Pair, strict: bool, turn: usize, random: &mut Random) -> Request {
-    let pattern = patterns::pattern(turn, random);
+fn read_request(choices: Choices, turn: usize, random: &mut Random) -> Request {
+    let pattern = patterns::pattern_in(choices.edition, turn, random);
     let fields = good_fields(turn, random);
-    let text = if strict { literals::text } else { texts::text };
+    let text = if choices.strict {
+        literals::text
+    } else {
+        texts::text
+    };
     Request::Read {
-        pair,
-        strict,
-        text: text(pair, &pattern, &fields, random),
+        choices,
+        text: text(choices.pair, &pattern, &fields, random),
         pattern,
-        now: current_year(random),
+        now: current_year(choices.edition, random),
     }
 }
 
@@ -108,10 +109,15 @@ fn room(needed: usize, random: &mut Random) -> usize {
     }
 }
 
-fn current_year(random: &mut Random) -> i32 {
-    match random.below(24) {
-        0 => random.pick(&[0, 10_000, -1, -2025, i32::MAX, i32::MIN]),
-        1..=8 => random.pick(&[1, 999, 1000, 1999, 2025, 9999]),
-        _ => random.between(1, 9999) as i32,
+/// The second edition has others at the ends of its years, and some that the first alone takes.
+fn current_year(edition: Edition, random: &mut Random) -> i32 {
+    match (random.below(24), edition) {
+        (0, _) => random.pick(&[0, 10_000, -1, -2025, i32::MAX, i32::MIN]),
+        (1..=8, Edition::First) => random.pick(&[1, 999, 1000, 1999, 2025, 9999]),
+        (1, Edition::Second) => random.pick(&[1, 2, 19, 50, 79, 80]),
+        (2..=8, Edition::Second) => {
+            random.pick(&[81, 82, 99, 100, 180, 999, 1999, 2025, 9980, 9999])
+        }
+        _ => random.between(i64::from(edition.first_year()), 9999) as i32,
     }
 }

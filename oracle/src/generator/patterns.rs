@@ -1,6 +1,7 @@
 //! Families of patterns.
 
 use super::random::Random;
+use crate::choices::Edition;
 
 pub const SYMBOLS: &[u8; 19] = b"GyqMwdDeabhHKkmsnXx";
 pub const COUNTS: [usize; 16] = [1, 2, 3, 4, 5, 6, 7, 8, 9, 10, 11, 12, 20, 100, 255, 256];
@@ -19,6 +20,16 @@ pub fn pattern(turn: usize, random: &mut Random) -> Vec<u8> {
         1 => short(step),
         2 => short_with_quotes(step),
         family => of_random_family(family, random),
+    }
+}
+
+/// The same for a read in an edition: the second has each other pattern that is not enumerated with what it reads otherwise.
+pub fn pattern_in(edition: Edition, turn: usize, random: &mut Random) -> Vec<u8> {
+    let enumerated = turn % FAMILIES < FIRST_RANDOM;
+    if edition == Edition::Second && !enumerated && random.one_in(2) {
+        with_what_differs(random)
+    } else {
+        pattern(turn, random)
     }
 }
 
@@ -108,6 +119,18 @@ fn disturbed(random: &mut Random) -> Vec<u8> {
 pub fn ordinary(random: &mut Random) -> Vec<u8> {
     let pieces = random.between(1, 7);
     (0..pieces).flat_map(|_| piece(random)).collect()
+}
+
+/// With single months and years of two digits among the other pieces.
+pub fn with_what_differs(random: &mut Random) -> Vec<u8> {
+    let pieces = random.between(1, 6);
+    let some = |random: &mut Random| match random.below(5) {
+        0 => b"M".to_vec(),
+        1 => b"yy".to_vec(),
+        2 => vec![random.pick(b"d/-. '")],
+        _ => piece(random),
+    };
+    (0..pieces).flat_map(|_| some(random)).collect()
 }
 
 fn piece(random: &mut Random) -> Vec<u8> {

@@ -143,7 +143,8 @@ fn name(choices: &[&str], random: &mut Random) -> Vec<u8> {
 
 fn month(count: usize, random: &mut Random) -> Vec<u8> {
     match count {
-        1 | 2 => number(count, random),
+        1 => number(random.pick(&[1, 2]), random),
+        2 => number(2, random),
         _ => name(&["May", "March", "Mar", "December", "june", "Mai"], random),
     }
 }

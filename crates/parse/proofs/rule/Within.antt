@@ -11,10 +11,11 @@ use Rattle.laws.proofs.Readers.{same-byte, other-byte}
 use Rattle.laws.proofs.Tests.{by-test, when-is}
 use Rattle.meaning.specs.Names.{Book, names}
 use Rattle.meaning.specs.Readers.{Got, got, stopped, _>>=_, skip, firstDiffering, sameBy, same, takeNumber, takeCount, takeYear, reach, matchName, letters, zoneSign}
-use Rattle.meaning.specs.Reading.{literalRead, readRule, readStep, passed, takenYear, minusFirst, zoneBehind, zoneSize}
+use Rattle.meaning.specs.Reading.{literalRead, mostRead, readRule, readStep, passed, takenYear, minusFirst, zoneBehind, zoneSize}
 use Rattle.meaning.specs.Writing.{Step, literal, field}
 use Rattle.meaning.specs.declared.Carried.{Carried}
 use Rattle.meaning.specs.declared.Choices.{Choices}
+use Rattle.meaning.specs.declared.Edition.{Edition}
 use Rattle.meaning.specs.declared.Rule.{Rule}
 use Rattle.meaning.specs.declared.Rule.the-variants.{Number, SkippedNumber, LetterQuarter, SkippedName, MatchedName, Letters, Years, FixedYear, TwoDigitYear, Zone}
 use Rattle.meaning.specs.declared.Trouble.the-variants.{NoName}
@@ -53,23 +54,23 @@ within-passed k s = within-on (skip k s) _ s (within-skip k s) (λ _ t. omega ar
 within-full-year : (k : ℕ) (s : List ℕ) → Within (length s) (takenYear k s)
 within-full-year k s = within-on (takeYear k s) _ s (within-year k s) (λ z t. omega arith)
 
-within-rule : (book : Book) (current : ℕ) (rule : Rule) (s : List ℕ) → Within (length s) (readRule book current rule s)
+within-rule : (edition : Edition) (book : Book) (current : ℕ) (rule : Rule) (s : List ℕ) → Within (length s) (readRule edition book current rule s)
 unfolding readRule
-within-rule book current (Number q least most u z) s =
-    let k = reach (most - least) least s in within-on (takeCount k s) _ s (within-count k s) (λ n t. omega arith)
-within-rule book current (SkippedNumber q least most) s = within-passed _ s
-within-rule book current LetterQuarter s = within-passed 2 s
-within-rule book current (SkippedName l n) s = within-passed n s
-within-rule book current (MatchedName l) s =
+within-rule edition book current (Number q least most u z) s =
+    let k = reach (mostRead edition q most - least) least s in within-on (takeCount k s) _ s (within-count k s) (λ n t. omega arith)
+within-rule edition book current (SkippedNumber q least most) s = within-passed _ s
+within-rule edition book current LetterQuarter s = within-passed 2 s
+within-rule edition book current (SkippedName l n) s = within-passed n s
+within-rule edition book current (MatchedName l) s =
     within-on (matchName (names book l) s) _ s (within-match (names book l) s) (λ i t. omega arith)
-within-rule book current (Letters l n) s =
+within-rule edition book current (Letters l n) s =
     within-on (letters n (names book l) s) _ s (within-letters n (names book l) s) (λ i t. omega arith)
-within-rule book current (Years k) s = within-full-year _ s
-within-rule book current (FixedYear k) s = within-full-year _ s
-within-rule book current TwoDigitYear s =
+within-rule edition book current (Years k) s = within-full-year _ s
+within-rule edition book current (FixedYear k) s = within-full-year _ s
+within-rule edition book current TwoDigitYear s =
     when-is (λ (g : Got Carried). Within (length s) g) (eqb (minusFirst s) 1) (λ _. within-full-year 3 s)
     (λ _. within-on (takeYear 2 s) _ s (within-year 2 s) (λ z t. omega arith))
-within-rule book current (Zone z c minutes seconds) s =
+within-rule edition book current (Zone z c minutes seconds) s =
     within-on ((zoneSign z >>= zoneBehind (zoneSize c minutes seconds)) s) _ s
     (within-on (zoneSign z s) _ s (within-sign z s) (λ g t. within-zone c minutes seconds g t)) (λ o t. omega arith)
 
@@ -95,4 +96,4 @@ within-literal false w s = within-passed (length w) s
 pub within-step : (choices : Choices) (book : Book) (current : ℕ) (step : Step) (s : List ℕ) → Within (length s) (readStep choices book current step s)
 unfolding readStep
 within-step choices book current (literal w lost) s = within-literal (choices .strict) w s
-within-step choices book current (field rule) s = within-rule book current rule s
+within-step choices book current (field rule) s = within-rule (choices .edition) book current rule s

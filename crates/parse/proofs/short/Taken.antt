@@ -12,14 +12,11 @@ use Rattle.laws.proofs.Digits.{digit-bounds}
 use Rattle.laws.proofs.Numbers.{taken-comes-back}
 use Rattle.laws.proofs.Tests.{by-test}
 use Rattle.meaning.specs.Bytes.{when, isDigit, digitAt}
-use Rattle.meaning.specs.Names.{english}
 use Rattle.meaning.specs.Numerals.{allDigits, decimal}
-use Rattle.meaning.specs.Readers.{got}
-use Rattle.meaning.specs.Reading.{readRule, zeroFor}
+use Rattle.meaning.specs.Readers.{got, reach}
+use Rattle.meaning.specs.Reading.{zeroFor, takenUnit}
 use Rattle.meaning.specs.declared.Carried.the-variants.{Value}
 use Rattle.meaning.specs.declared.ParseUnit.{ParseUnit}
-use Rattle.meaning.specs.declared.Quantity.{Quantity}
-use Rattle.meaning.specs.declared.Rule.the-variants.{Number}
 use Rattle.parse.specs.ShortReads.{digitFirst, found, secondDigits, shortDigits}
 use Rattle.parse.specs.declared.short.Digits.{Digits}
 
@@ -37,22 +34,22 @@ first-within at s h =
 none-for-zero : (n : ℕ) → zeroFor 0 n ≡ n
 none-for-zero n = by-test (eqb n 0) (λ e. rw (e, eqb-true n 0 e)) (λ e. rw e)
 
--- a rule of one digit or two
-module _ (current : ℕ) (q : Quantity) (u : ParseUnit) (least most : ℕ) (some′ : 0 < least) (order : least ≤ most) (few : most ≤ 2) where
+-- a number read from one digit or two
+module _ (u : ParseUnit) (least most : ℕ) (some′ : 0 < least) (order : least ≤ most) (few : most ≤ 2) where
   abbrev Reads : List ℕ → Digits → Type 0
-  Reads s d = readRule english current (Number q least most u 0) s ≡ got (d .taken) (Value u (pos (d .size)))
+  Reads s d = takenUnit u 0 (reach (most - least) least s) s ≡ got (d .taken) (Value u (pos (d .size)))
 
   one-read : (a : ℕ) (s : List ℕ) → isDigit a ≡ true → least ≤ 1 → (1 < most → digitAt 0 s ≡ false) → Reads (a ∷ s) (found (a - 48) 1)
   unfolding decimal allDigits
   one-read a s d from free =
       let size : 0 * 10 + (a - 48) ≡ a - 48 = omega arith in
-      rw (size, none-for-zero (a - 48)) at (taken-comes-back least most (a ∷ []) s from (omega arith) (omega arith) (rw d) free english current q u 0 (omega (arith, digit-bounds a d .1)))
+      rw (size, none-for-zero (a - 48)) at (taken-comes-back least most (a ∷ []) s from (omega arith) (omega arith) (rw d) free u 0 (omega (arith, digit-bounds a d .1)))
 
   two-read : (a b : ℕ) (s : List ℕ) → isDigit a ≡ true → isDigit b ≡ true → 1 < most → Reads (a ∷ b ∷ s) (found ((a - 48) * 10 + (b - 48)) 2)
   unfolding decimal allDigits
   two-read a b s d e two =
       let first : 0 * 10 + (a - 48) ≡ a - 48 = omega arith in
-      rw (first, none-for-zero ((a - 48) * 10 + (b - 48))) at (taken-comes-back least most (a ∷ b ∷ []) s (omega arith) (omega arith) two (rw (d, e)) (λ h. absurd (omega arith)) english current q u 0 (omega (arith, digit-bounds a d .1, digit-bounds b e .1)))
+      rw (first, none-for-zero ((a - 48) * 10 + (b - 48))) at (taken-comes-back least most (a ∷ b ∷ []) s (omega arith) (omega arith) two (rw (d, e)) (λ h. absurd (omega arith)) u 0 (omega (arith, digit-bounds a d .1, digit-bounds b e .1)))
 
   alone-read : (a : ℕ) (s : List ℕ) → isDigit a ≡ true → digitAt 0 s ≡ false → when (eqb least 1) (found (a - 48) 1) (found 100 0) .size < 100
       → Reads (a ∷ s) (when (eqb least 1) (found (a - 48) 1) (found 100 0))

@@ -13,7 +13,7 @@ use Rattle.meaning.specs.Splitting.{Content, run, quotes, quoted, unclosed, con
 use Rattle.meaning.specs.declared.Kind.the-variants.{Run, Quoted, Open}
 use Rattle.meaning.specs.declared.Part.{Part}
 use Rattle.pattern.specs.Next.{Next}
-use Rattle.pattern.specs.First.{runLength, escapedCount, insideSize, insideOf, firstContent, partOf, held, contentOf}
+use Rattle.pattern.specs.First.{runLength, escapedCount, insideSize, insideOf, firstContent, partOf, held}
 use Rattle.pattern.proofs.parts.First.{inside-length, by-first, contents-first, first-sized}
 use Rattle.pattern.proofs.parts.Inside.{lost}
 use Rattle.pattern.proofs.parts.Scans.{head-at}

@@ -11,6 +11,7 @@ use Rattle.meaning.specs.Answers.{number, troubleNumber}
 use Rattle.meaning.specs.Bytes.{bytes, num}
 use Rattle.meaning.specs.Names.{english}
 use Rattle.meaning.specs.Trust.{SaysOf, Says}
+use Rattle.meaning.specs.declared.Edition.the-variants.{First}
 use Rattle.meaning.specs.declared.Fields.{Fields}
 use Rattle.meaning.specs.declared.Pair.the-variants.{Full}
 use Rattle.meaning.specs.declared.Refusal.{Refusal}
@@ -57,7 +58,7 @@ few-words Yes h = omega arith
 few-words (No part f) h = omega (arith, few-digits 5 part (omega arith) (omega (arith, h)))
 few-words (Refused why) h = omega (arith, few-digits 2 (number why) (omega arith) (small-number why))
 
-pub part-fits : (p : List ℕ) (current : ℤ) (v : Verdict) → length p ≤ 65536 → Says english p current v → PartFits v
+pub part-fits : (p : List ℕ) (current : ℤ) (v : Verdict) → length p ≤ 65536 → Says First english p current v → PartFits v
 unfolding SaysOf
 part-fits p current Yes h s = tt
 part-fits p current (No part f) h s = omega (arith, s false .1 .there, few-steps Full p)
@@ -92,6 +93,6 @@ text-told (Refused why) = refl
 
 pub lines-coincide : (p old : List ℕ) {new new′ : List ℕ} {r r′ : ℕ} → Printed p old new r → Printed p old new′ r′ → (r ≡ r′) × (new ≡ new′)
 lines-coincide p old a b =
-    let same = answers-coincide english p (pos 2025) (a .verdict) (b .verdict) (a .says) (b .says) in
+    let same = answers-coincide First english p (pos 2025) (a .verdict) (b .verdict) (a .says) (b .says) in
     let words = text-told (a .verdict) ∙ ap toldText same ∙ sym (text-told (b .verdict)) in
     (rw (a .laid .end, b .laid .end, words), rw (a .laid .held, b .laid .held, words))

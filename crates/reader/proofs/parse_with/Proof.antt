@@ -22,7 +22,7 @@ size-requires c κs = search needs
 parse-parts-requires : tie.Need-parse-parts-requires
 parse-parts-requires c κs =
     let a = c .before .before .before .before .before .before .args in
-    read-short (now (a .pattern)) (now (a .text)) _ (sym (c .before .before .before .read-check .ensures) ∙ c .before .enum-told .given .1)
+    read-short (a .choices .edition) (now (a .pattern)) (now (a .text)) _ (sym (c .before .before .before .read-check .ensures) ∙ c .before .enum-told .given .1)
 
 enum-told-2 : tie.Need-enum-told-2
 enum-told-2 c = search needs

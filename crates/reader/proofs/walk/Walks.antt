@@ -16,13 +16,13 @@ use Rattle.meaning.specs.Bytes.{when}
 use Rattle.meaning.specs.Names.{english}
 use Rattle.meaning.specs.Readers.{Got, got, stopped}
 use Rattle.meaning.specs.Reading.{readStep}
-use Rattle.meaning.specs.Whole.{plain, Gave, Walk, walked, refusedAt, walkedBy, walk}
+use Rattle.meaning.specs.Whole.{Gave, Walk, walked, refusedAt, walkedBy, walk}
 use Rattle.meaning.specs.Writing.{Step, steps}
 use Rattle.meaning.specs.declared.Carried.{Carried}
 use Rattle.meaning.specs.declared.Checked.the-variants.{Refused}
 use Rattle.meaning.specs.declared.Choices.{Choices}
+use Rattle.meaning.specs.declared.Edition.{Edition}
 use Rattle.meaning.specs.declared.Pair.{Pair}
-use Rattle.meaning.specs.declared.Pair.the-variants.{Full}
 use Rattle.meaning.specs.declared.Part.{Part}
 use Rattle.meaning.specs.declared.Refusal.the-variants.{InPart, TextLeft}
 use Rattle.meaning.specs.declared.Trouble.{Trouble}
@@ -31,7 +31,7 @@ use Rattle.parse.proofs.literals.Strict.{strictBy, compared-read}
 use Rattle.parse.proofs.rule.Within.{within-step}
 use Rattle.parse.proofs.steps.Within.{part-stays}
 use Rattle.parse.specs.Literals.{compared}
-use Rattle.parse.specs.Steps.{partAt, plainRead}
+use Rattle.parse.specs.Steps.{partAt, unseen, plainRead}
 use Rattle.parse.specs.declared.cursor.Cursor.{Cursor}
 use Rattle.parse.specs.declared.cursor.PartRead.{PartRead}
 use Rattle.parse.specs.declared.cursor.PartRead.the-variants as read
@@ -48,11 +48,11 @@ pub step-here : {pair : Pair} {p : List ℕ} {place : ℕ} {part : Part} {k : ru
 step-here {pair} {p} {place} {part} n chosen = rw (steps-next pair p place part n, chosen .meant)
 
 -- a cursor that a part moves on stays in the text
-pub part-inside : (text : List ℕ) (at current : ℕ) (step : Step) {c : Carried} {next : Cursor}
-    → partAt at (plainRead current step (drop at text)) ≡ read.Got c next → at ≤ length text → next .at ≤ length text
-part-inside text at current step e h =
+pub part-inside : (edition : Edition) (text : List ℕ) (at current : ℕ) (step : Step) {c : Carried} {next : Cursor}
+    → partAt at (plainRead edition current step (drop at text)) ≡ read.Got c next → at ≤ length text → next .at ≤ length text
+part-inside edition text at current step e h =
     let rest = drop at text in
-    part-stays at text (plainRead current step rest) h (within-step (plain Full) english current step rest) e
+    part-stays at text (plainRead edition current step rest) h (within-step (unseen edition) english current step rest) e
 
 module _ (choices : Choices) (current i : ℕ) (text : List ℕ) (gave : List Gave) where
   -- what follows a part that began at a place, by what it gave
@@ -79,7 +79,7 @@ module _ (choices : Choices) (current i : ℕ) (text : List ℕ) (gave : List Ga
     Walked w = walk choices english current i at (steps (choices .pair) (drop place p)) (drop at text) gave ≡ w
 
     abbrev Gives : PartRead → Type 0
-    Gives g = partAt at (plainRead current (means p k) (drop at text)) ≡ g
+    Gives g = partAt at (plainRead (choices .edition) current (means p k) (drop at text)) ≡ g
 
     walk-step : {g : PartRead} → Gives g
         → Walked (walkBy at (steps (choices .pair) (drop (place + part .length) p)) (strictBy (choices .strict) (means p k) text g))

@@ -3,7 +3,7 @@ use mathlib.Core.Path.{_≡_, refl}
 use Prim.Native.Nat.{ℕ, _<_}
 use native.Mathlib.Omega.{arith}
 use lib.Dec.{eqb}
-use borrow.Author.Tests.{eq-eqb, ne-eqb, eqb-true, eqb-false, le-leb, lt-leb}
+use borrow.Author.Tests.{ne-eqb, eqb-true, eqb-false, lt-leb}
 use Rattle.laws.proofs.Tests.{by-test}
 use Rattle.meaning.specs.Rules.{roleOf, dateRole, roleAmong, ruleOf, pick, otherwiseRule}
 use Rattle.meaning.specs.declared.NameList.the-variants.{MonthAbbreviated, MonthWide, WdayWide}

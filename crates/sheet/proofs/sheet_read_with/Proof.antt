@@ -1,10 +1,11 @@
 -- The reader with the choices of a number, where it stands for some.
 use denote.Ref.{now}
 use native.Mathlib.Omega.{arith}
+use borrow.Author.Tests.{le-leb, lt-leb}
 use mir.Syntax.{w32}
 use mir.ValLaws.{toZ-ofZ}
 use Rattle.sheet.proofs.Rooms.{chosen, no-choices}
-use Rattle.sheet.specs.Rows.{choicesOf}
+use Rattle.sheet.specs.Rows.{choicesOf, ofReading}
 use Rattle.sheet.specs.Sheet.{readOf}
 use borrow.Author.Needs.{needs}
 use Rattle.sheet.proofs.sheet_read_with.Statement.{statement}
@@ -14,7 +15,7 @@ returns : tie.Need-returns
 returns c =
     let a = c .before .before .before .args in
     let n = a .choices in
-    no-choices n (now (a .answer)) (readOf (choicesOf n) (now (a .pattern)) (now (a .text)) (a .year) (now (a .answer))) (omega arith)
+    no-choices (ofReading n) (now (a .answer)) (readOf (choicesOf n) (now (a .pattern)) (now (a .text)) (a .year) (now (a .answer))) (lt-leb n 7 (omega arith))
 
 choices-of-requires : tie.Need-choices-of-requires
 choices-of-requires c κs = search needs
@@ -31,7 +32,7 @@ returns-2 c =
     let a = s .args in
     let n = a .choices in
     let read = rw (toZ-ofZ w32 (a .year) (s .fits .year), c .before .before .before .choices-of .ensures) at (c .before .read .ensures) in
-    chosen n (now (a .answer)) (readOf (choicesOf n) (now (a .pattern)) (now (a .text)) (a .year) (now (a .answer))) (omega arith) read
+    chosen (ofReading n) (now (a .answer)) (readOf (choicesOf n) (now (a .pattern)) (now (a .text)) (a .year) (now (a .answer))) (le-leb n 7 (omega arith)) read
 
 pub sheet-read-with-spec : {M : Type 1} → statement M
 sheet-read-with-spec =

@@ -20,10 +20,10 @@ use Rattle.verdict.proofs.first_failing.Statement.{statement}
 use Rattle.verdict.proofs.first_failing.Tie as tie
 
 abbrev Inv-loop : tie.InvT-loop
-Inv-loop pattern place₀ i₀ place i = (firstFailing i (steps Full (drop place pattern)) ≡ firstFailing 0 (steps Full pattern)) × (i ≤ place)
+Inv-loop edition pattern place₀ i₀ place i = (firstFailing edition i (steps Full (drop place pattern)) ≡ firstFailing edition 0 (steps Full pattern)) × (i ≤ place)
 
 abbrev μ-loop : tie.MeasureT-loop
-μ-loop pattern place₀ i₀ place i = length pattern - place
+μ-loop edition pattern place₀ i₀ place i = length pattern - place
 
 loop-holds : tie.Need-loop-holds Inv-loop μ-loop
 loop-holds c = (refl, omega arith)
@@ -58,7 +58,8 @@ witness-requires c κs = search needs
 
 returns : tie.Need-returns Inv-loop μ-loop
 returns c =
-    let p = now (c .before .before .before .before .before .before .before .before .before .before .args .pattern) in
+    let a = c .before .before .before .before .before .before .before .before .before .before .args in
+    let p = now (a .pattern) in
     let L = c .before .before .before .before .before .before .before .before .loop in
     let part = c .before .before .before .before .before .before .next-part .result in
     let n = next p (L .place) part (c .before .before .before .before .before .before .before .loop-test .taken) (c .before .before .before .before .before .before .next-part .ensures) in
@@ -69,8 +70,8 @@ returns c =
     let need = rw (chosen .meant) at (c .before .before .before .before .step-need .ensures) in
     let met = c .before .before .meets .ensures in
     let answered = not-true (c .before .before .meets .result) (c .before .if1 .taken) in
-    let fails : meets (stepNeed s) ss ≡ false = rw (← need) (sym met ∙ answered) in
-    rw (c .witness .ensures, need) (sym (failing-here (L .i) s ss fails) ∙ rw (← here) (L .inv .0))
+    let fails : meets (stepNeed (a .edition) s) ss ≡ false = rw (← need) (sym met ∙ answered) in
+    rw (c .witness .ensures, need) (sym (failing-here (a .edition) (L .i) s ss fails) ∙ rw (← here) (L .inv .0))
 
 add-i : tie.Need-add-i Inv-loop μ-loop
 add-i c =
@@ -90,7 +91,8 @@ loop-less c =
 
 loop-again : tie.Need-loop-again Inv-loop μ-loop
 loop-again c =
-    let p = now (c .before .before .before .before .before .before .before .before .before .args .pattern) in
+    let a = c .before .before .before .before .before .before .before .before .before .args in
+    let p = now (a .pattern) in
     let L = c .before .before .before .before .before .before .before .loop in
     let part = c .before .before .before .before .before .next-part .result in
     let n = next p (L .place) part (c .before .before .before .before .before .before .loop-test .taken) (c .before .before .before .before .before .next-part .ensures) in
@@ -101,8 +103,8 @@ loop-again c =
     let need = rw (chosen .meant) at (c .before .before .before .step-need .ensures) in
     let met = c .before .meets .ensures in
     let answered = not-false (c .before .meets .result) (c .if1 .left) in
-    let holds : meets (stepNeed s) ss ≡ true = rw (← need) (sym met ∙ answered) in
-    (rw add-one (sym (failing-on (L .i) s ss holds) ∙ rw (← here) (L .inv .0)), omega (arith, n .some, L .inv .1))
+    let holds : meets (stepNeed (a .edition) s) ss ≡ true = rw (← need) (sym met ∙ answered) in
+    (rw add-one (sym (failing-on (a .edition) (L .i) s ss holds) ∙ rw (← here) (L .inv .0)), omega (arith, n .some, L .inv .1))
 
 returns-2 : tie.Need-returns-2 Inv-loop μ-loop
 unfolding firstFailing

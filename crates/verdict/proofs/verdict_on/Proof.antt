@@ -29,8 +29,8 @@ returns c =
     let p = now (a .pattern) in
     let same-year = toZ-ofZ w32 (a .year) (c .before .before .before .before .before .fits .year) in
     let ensured = c .before .before .before .trust-check .ensures in
-    let checked : c .before .before .before .trust-check .result ≡ trustCheck p (a .year) = cc in
-    rw (c .first-failing .ensures) (rw (← checked, c .before .enum-told .given .1) at (verdict-says p (a .year)))
+    let checked : c .before .before .before .trust-check .result ≡ trustCheck (a .edition) p (a .year) = cc in
+    rw (c .first-failing .ensures) (rw (← checked, c .before .enum-told .given .1) at (verdict-says (a .edition) p (a .year)))
 
 returns-2 : tie.Need-returns-2
 unfolding verdictOf
@@ -39,8 +39,8 @@ returns-2 c =
     let p = now (a .pattern) in
     let same-year = toZ-ofZ w32 (a .year) (c .before .before .before .before .before .fits .year) in
     let ensured = c .before .before .before .trust-check .ensures in
-    let checked : c .before .before .before .trust-check .result ≡ trustCheck p (a .year) = cc in
-    rw (← checked, c .before .why .given .1) at (verdict-says p (a .year))
+    let checked : c .before .before .before .trust-check .result ≡ trustCheck (a .edition) p (a .year) = cc in
+    rw (← checked, c .before .why .given .1) at (verdict-says (a .edition) p (a .year))
 
 pub verdict-on-spec : {M : Type 1} → statement M
 verdict-on-spec =

@@ -32,6 +32,15 @@ pub fn refused(refusal: &Refusal) -> String {
     numbered(&format!("refused {}", refusal.number()), refusal.details())
 }
 
+/// The answer of two functions that do the same; where they do not agree, both answers.
+pub fn agreed(one: String, other: String) -> String {
+    if one == other {
+        one
+    } else {
+        format!("{one} unlike {other}")
+    }
+}
+
 /// A line's start, and numbers behind it.
 pub fn numbered(start: &str, numbers: &[i64]) -> String {
     let mut line = start.to_string();
@@ -43,7 +52,7 @@ pub fn numbered(start: &str, numbers: &[i64]) -> String {
 
 #[cfg(test)]
 mod tests {
-    use super::{answer, LONGEST};
+    use super::{agreed, answer, LONGEST};
 
     #[test]
     fn the_longest_line_is_a_request() {
@@ -66,6 +75,9 @@ mod tests {
             "split 79 ",
             "read 79 39",
             "check 79",
+            "second",
+            "split 79 second",
+            "parse_offset 5a second",
         ];
         for line in lines {
             assert_eq!(answer(line.as_bytes()), "bad request", "{line}");
@@ -73,5 +85,15 @@ mod tests {
         assert_eq!(answer(b"split \xff\xff"), "bad request");
         assert_eq!(answer(b"\xffsplit 79"), "bad request");
         assert_eq!(answer(b"split 79\r"), "bad request");
+    }
+
+    #[test]
+    fn functions_that_do_not_agree_are_shown() {
+        let both = |one: &str, other: &str| agreed(one.to_string(), other.to_string());
+        assert_eq!(both("refused 8 1 1", "refused 8 1 1"), "refused 8 1 1");
+        assert_eq!(
+            both("refused 8 1 1", "refused 9 1 1"),
+            "refused 8 1 1 unlike refused 9 1 1"
+        );
     }
 }

@@ -1,16 +1,66 @@
-//! `check P NOW`
+//! `check P NOW`, also with the word `second`
 
-use crate::answers::refused;
+use crate::answers::{agreed, refused};
 use crate::words::{of_fields, Words};
-use sheet::Verdict;
+use sheet::{Edition, Refusal, Verdict};
 
 pub fn answer(mut words: Words) -> Option<String> {
     let pattern = words.bytes()?;
     let current_year = words.number()?;
+    let edition = words.edition();
     words.end()?;
-    Some(match sheet::check(&pattern, current_year) {
+    let answer = checked(sheet::check_with(edition, &pattern, current_year));
+    Some(match edition {
+        Edition::First => agreed(checked(sheet::check(&pattern, current_year)), answer),
+        Edition::Second => answer,
+    })
+}
+
+fn checked(verdict: Result<Verdict, Refusal>) -> String {
+    match verdict {
         Ok(Verdict::Yes) => "yes".to_string(),
         Ok(Verdict::No { part, record }) => format!("no {part} {}", of_fields(&record)),
         Err(refusal) => refused(&refusal),
-    })
+    }
+}
+
+#[cfg(test)]
+mod tests {
+    use super::answer;
+    use crate::words::Words;
+
+    fn asked(words: &str) -> Option<String> {
+        answer(Words::of(words.as_bytes()))
+    }
+
+    /// `d/M`, `Md` and `yy`.
+    #[test]
+    fn by_the_word_for_the_edition() {
+        let answer = |words: &str| asked(words).expect("a request");
+        assert!(answer("642f4d 2025").starts_with("no 2 1000001 11 23 "));
+        assert_eq!(answer("642f4d 2025 second"), "yes");
+        assert!(answer("4d64 2025").starts_with("no 0 1000001 11 23 "));
+        assert!(answer("4d64 2025 second").starts_with("no 0 1000001 2 5 "));
+        for word in ["", " second"] {
+            assert!(answer(&format!("7979 2025{word}")).starts_with("no 0 1000001 "));
+        }
+        assert_eq!((answer("64 80"), answer("64 81 second")), ("yes".into(), "yes".into()));
+        assert_eq!(answer("64 80 second"), "refused 14 80");
+    }
+
+    #[test]
+    fn it_takes_no_other_word() {
+        for words in [
+            "64 2025 strict",
+            "64 2025 strict second",
+            "64 2025 second strict",
+            "64 2025 second second",
+            "64 2025 second ",
+            "64 2025 Second",
+            "64 second",
+            "64 second 2025",
+        ] {
+            assert_eq!(asked(words), None, "{words}");
+        }
+    }
 }

@@ -1,24 +1,33 @@
-//! `read P T NOW`, `read_date P T NOW`, both with the word `strict`, and `parse_offset T`
+//! `read P T NOW`, `read_date P T NOW`, both with the words `strict` and `second`, and `parse_offset T`
 
-use crate::answers::{numbered, refused};
+use crate::answers::{agreed, numbered, refused};
 use crate::pair::Pair;
 use crate::reader::{Reader, Row};
 use crate::words::Words;
-use sheet::{Reading, Refusal};
+use sheet::{Choices, Reading, Refusal};
 
 pub fn answer(pair: Pair, mut words: Words) -> Option<String> {
     let pattern = words.bytes()?;
     let text = words.bytes()?;
     let current_year = words.number()?;
-    let strict = words.takes(b"strict");
+    let choices = choices(pair, &mut words);
     words.end()?;
     let answer_of = |reader| answer_by(reader, &pattern, &text, current_year);
-    let choices = pair.choices();
-    Some(if strict {
-        answer_of(Reader::With(choices.strict()))
+    let answer = answer_of(Reader::With(choices));
+    Some(if choices == pair.choices() {
+        agreed(answer_of(Reader::Of(pair)), answer)
     } else {
-        agreed(answer_of(Reader::Of(pair)), answer_of(Reader::With(choices)))
+        answer
     })
+}
+
+/// By the words that may stand behind a read, in this order.
+fn choices(pair: Pair, words: &mut Words) -> Choices {
+    let mut choices = pair.choices();
+    if words.takes(b"strict") {
+        choices = choices.strict();
+    }
+    choices.edition(words.edition())
 }
 
 pub fn answer_offset(mut words: Words) -> Option<String> {
@@ -54,18 +63,9 @@ fn refused_read(refusal: &Refusal, row: &Row) -> String {
     }
 }
 
-/// The answer of both readers; where they do not agree, both answers.
-fn agreed(of_the_pair: String, with_choices: String) -> String {
-    if of_the_pair == with_choices {
-        of_the_pair
-    } else {
-        format!("{of_the_pair} unlike {with_choices}")
-    }
-}
-
 #[cfg(test)]
 mod tests {
-    use super::{agreed, answer, refused_read};
+    use super::{answer, refused_read};
     use crate::pair::Pair;
     use crate::reader::Reader;
     use crate::words::Words;
@@ -98,19 +98,9 @@ mod tests {
         assert_eq!(refused_read(&refusal, &row), shown);
     }
 
-    #[test]
-    fn readers_that_do_not_agree_are_shown() {
-        let both = |one: &str, other: &str| agreed(one.to_string(), other.to_string());
-        assert_eq!(both("refused 8 1 1", "refused 8 1 1"), "refused 8 1 1");
-        assert_eq!(
-            both("refused 8 1 1", "refused 9 1 1"),
-            "refused 8 1 1 unlike refused 9 1 1"
-        );
-    }
-
     /// `d/` on `3-`, and `d/H` on `3/7`.
     #[test]
-    fn by_the_pair_and_the_word() {
+    fn by_the_pair_and_the_word_for_a_strict_one() {
         let answer = |pair, words: &str| answer(pair, Words::of(words.as_bytes())).expect("a request");
         for pair in [Pair::Full, Pair::Date] {
             assert!(answer(pair, "642f 332d 2025").starts_with("read 2 4 1 "));
@@ -120,6 +110,22 @@ mod tests {
         assert_eq!(answer(Pair::Date, "642f48 332f37 2025 strict"), "refused 15 2 2");
     }
 
+    /// `M` on `12`, and `yy` on `45`.
+    #[test]
+    fn by_the_word_for_the_edition() {
+        let answer = |pair, words: &str| answer(pair, Words::of(words.as_bytes())).expect("a request");
+        for pair in [Pair::Full, Pair::Date] {
+            assert!(answer(pair, "4d 3132 2025").starts_with("read 1 2 1 0 1 "));
+            assert_eq!(answer(pair, "4d 3132 2025 strict"), "refused 16 1");
+            assert!(answer(pair, "7979 3435 2025").starts_with("read 2 1 1 2045 "));
+            for word in ["", " strict"] {
+                assert!(answer(pair, &format!("4d 3132 2025{word} second")).starts_with("read 2 2 1 0 12 "));
+                assert!(answer(pair, &format!("7979 3435 2025{word} second")).starts_with("read 2 1 1 1945 "));
+                assert_eq!(answer(pair, &format!("- - 80{word} second")), "refused 14 80");
+            }
+        }
+    }
+
     /// `d d` on `3 14`, and `y` on `-5`.
     #[test]
     fn spans_stand_behind_the_values() {
@@ -127,7 +133,7 @@ mod tests {
         let day = format!("read 4 4 1 0 0 14{} 0:0 0:0 2:4{}", " 0".repeat(12), " 0:0".repeat(12));
         let year = format!("read 2 1 1 -5{} 0:2{}", " 0".repeat(14), " 0:0".repeat(14));
         for pair in [Pair::Full, Pair::Date] {
-            for word in ["", " strict"] {
+            for word in ["", " strict", " second", " strict second"] {
                 assert_eq!(answer(pair, &format!("642064 33203134 2025{word}")), day);
                 assert_eq!(answer(pair, &format!("79 2d35 2025{word}")), year);
             }
@@ -135,7 +141,7 @@ mod tests {
     }
 
     #[test]
-    fn the_word_stands_once_and_last() {
+    fn each_word_stands_once_in_its_order_and_last() {
         for words in [
             "64 33 2025 Strict",
             "64 33 2025 strict strict",
@@ -145,6 +151,14 @@ mod tests {
             "64 33 strict",
             "64 33 2025 stric",
             "64 33 2025 strict2",
+            "64 33 2025 Second",
+            "64 33 2025 second second",
+            "64 33 2025 second strict",
+            "64 33 2025 strict  second",
+            "64 33 2025 strict second ",
+            "64 33 2025 strict second strict",
+            "64 33 second",
+            "64 33 2025 first",
         ] {
             assert!(answer(Pair::Full, Words::of(words.as_bytes())).is_none(), "{words}");
         }

@@ -1,7 +1,7 @@
 //! The words of a line, separated by one space.
 
 use crate::hex;
-use sheet::Fields;
+use sheet::{Edition, Fields};
 use std::str::{self, FromStr};
 
 /// The words that are left. Each is taken as what a request asks for next, and is none where it is something else.
@@ -31,6 +31,15 @@ impl<'a> Words<'a> {
             *self = behind;
         }
         is_next
+    }
+
+    /// The second edition where the next word names it.
+    pub fn edition(&mut self) -> Edition {
+        if self.takes(b"second") {
+            Edition::Second
+        } else {
+            Edition::First
+        }
     }
 
     /// No word is left.

@@ -1,7 +1,6 @@
 -- Two digits and two more.
 use borrow.Author.Needs.{needs}
 use Prim.Native.Nat.{_/_}
-use mathlib.Core.Path.{_≡_}
 use native.Mathlib.Omega.{arith}
 use Rattle.laws.proofs.Digits.{length-digits}
 use Rattle.laws.proofs.Laid.{laid-then}

@@ -12,6 +12,9 @@ use Rattle.parse.proofs.rule.parse_rule.Tie as tie
 enum-known-rule : tie.Need-enum-known-rule
 enum-known-rule c = search needs
 
+most-read-requires : tie.Need-most-read-requires
+most-read-requires c κs = search needs
+
 extent-requires : tie.Need-extent-requires
 extent-requires c κs = search needs
 
@@ -84,7 +87,13 @@ parse-zone-requires c κs = search needs
 
 returns : tie.Need-returns
 unfolding readRule
-returns c = rw (c .before .before .before .rule .given .1, ← c .before .extent .ensures) (c .take-number .ensures)
+returns c =
+    rw (
+      c .before .before .before .before .rule .given .1,
+      ← c .before .before .most-read .ensures,
+      ← c .before .extent .ensures,
+    )
+    (c .take-number .ensures)
 
 returns-2 : tie.Need-returns-2
 unfolding readRule
@@ -133,6 +142,7 @@ parse-rule-spec =
     tie.close
     (tie.spec
     enum-known-rule
+    most-read-requires
     extent-requires
     take-number-requires
     enum-known-rule-2

@@ -123,7 +123,7 @@ unfolding readStep
 returns-5 c =
     let a = c .before .before .before .before .before .before .args in
     let m = c .before .before .step5 .given in
-    rw (m .1, year-read (a .current-year) (m .0 .0) (drop (a .cursor .at) (now (a .text)))) (c .parse-year .ensures)
+    rw (m .1, year-read (a .edition) (a .current-year) (m .0 .0) (drop (a .cursor .at) (now (a .text)))) (c .parse-year .ensures)
 
 returns-6 : tie.Need-returns-6
 unfolding readStep readRule

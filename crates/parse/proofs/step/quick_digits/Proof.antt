@@ -18,7 +18,7 @@ returns c = rw (c .before .before .step .given .1) (c .parse-short .ensures)
 returns-2 : tie.Need-returns-2
 returns-2 c =
     let a = c .before .before .args in
-    rw (none-quick (a .step) (c .match .keys2) .0 (drop (a .at) (now (a .text))))
+    rw (none-quick (a .step) (c .match .keys2) .0 (a .edition) (drop (a .at) (now (a .text))))
 
 pub quick-digits-spec : {M : Type 1} → statement M
 quick-digits-spec = tie.close (tie.spec enum-known-step parse-short-requires returns returns-2)

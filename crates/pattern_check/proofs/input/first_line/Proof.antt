@@ -3,7 +3,7 @@ use Rattle.io.proofs.Counting.{counts}
 use Prim.Native.Nat.{_-_, _≤_}
 use borrow.Author.Needs.{needs}
 use lib.ListN.{length}
-use mathlib.Core.Path.{_≡_, refl, sym, _∙_}
+use mathlib.Core.Path.{_≡_, _∙_}
 use native.Mathlib.Omega.{arith}
 use Rattle.pattern_check.proofs.input.first_line.Statement.{statement}
 use Rattle.pattern_check.proofs.input.first_line.Tie as tie

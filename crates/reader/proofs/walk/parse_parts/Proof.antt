@@ -23,7 +23,7 @@ use Rattle.reader.proofs.walk.parse_parts.Tie as tie
 use Rattle.reader.proofs.record.Units.{Holds, holds-none, unit-below, holds-nothing, holds-value, holds-reading}
 
 abbrev Inv-loop : tie.InvT-loop
-Inv-loop choices pattern text current-year pair values₀ starts₀ ends₀ mask₀ at₀ place₀ i₀ values starts ends mask at place i =
+Inv-loop choices pattern text current-year pair edition values₀ starts₀ ends₀ mask₀ at₀ place₀ i₀ values starts ends mask at place i =
     (gave : List Gave)
     × (Holds gave values starts ends mask)
     × (walk choices english current-year i at (steps (choices .pair) (drop place pattern)) (drop at text) gave
@@ -32,7 +32,7 @@ Inv-loop choices pattern text current-year pair values₀ starts₀ ends₀ mask
     × (i ≤ place)
 
 abbrev μ-loop : tie.MeasureT-loop
-μ-loop choices pattern text current-year pair values₀ starts₀ ends₀ mask₀ at₀ place₀ i₀ values starts ends mask at place i = length pattern - place
+μ-loop choices pattern text current-year pair edition values₀ starts₀ ends₀ mask₀ at₀ place₀ i₀ values starts ends mask at place i = length pattern - place
 
 loop-holds : tie.Need-loop-holds Inv-loop μ-loop
 loop-holds c = ([], holds-none, refl, omega arith, omega arith)
@@ -97,7 +97,7 @@ cast-ends c =
     let L = m .before .before .before .loop in
     let a = m .before .before .before .before .before .before .args in
     let gave = sym (c .before .before .before .before .before .before .before .parse-step .ensures) ∙ c .before .before .before .before .before .carried .given .1 in
-    let inside = part-inside (now (a .text)) (L .at) (a .current-year) (means (now (a .pattern)) (m .step-of .result)) gave (L .inv .3) in
+    let inside = part-inside (a .choices .edition) (now (a .text)) (L .at) (a .current-year) (means (now (a .pattern)) (m .step-of .result)) gave (L .inv .3) in
     omega (arith, inside, m .before .before .before .before .before .before .pre)
 
 mul-ends : tie.Need-mul-ends Inv-loop μ-loop
@@ -123,7 +123,7 @@ compare-part-requires c κs =
     let p = now (a .pattern) in
     let n = next p (L .place) (m .before .next-part .result) (m .before .before .loop-test .taken) (m .before .next-part .ensures) in
     let gave = sym (c .before .before .before .before .before .before .parse-step .ensures) ∙ c .before .before .before .before .carried .given .1 in
-    let end = ended (now (a .text)) (L .at) (a .current-year) (means p (m .step-of .result)) gave (L .inv .3) in
+    let end = ended (now (a .text)) (L .at) (a .choices .edition) (a .current-year) (means p (m .step-of .result)) gave (L .inv .3) in
     (m .before .before .loop-test .taken, rw (step-here n (m .step-of .ensures)) end)
 
 enum-known-found : tie.Need-enum-known-found Inv-loop μ-loop
@@ -180,14 +180,14 @@ loop-again c =
     let k = means p (m .step-of .result) in
     let gave = sym (c .before .before .before .before .before .parse-step .ensures) ∙ c .before .before .before .carried .given .1 in
     let moved = walk-goes-on (a .choices) (a .current-year) (L .i) text (L .inv .0) (L .at) (L .place) n (m .step-of .ensures) gave in
-    let inside = part-inside text (L .at) (a .current-year) k gave (L .inv .3) in
+    let inside = part-inside (a .choices .edition) text (L .at) (a .current-year) k gave (L .inv .3) in
     let from = L .at in
     let to = c .before .before .before .carried .given .0 .1 .0 .at in
     ⊎-elim
     (λ l.
     let u = l .1 .given .0 .0 in
     let z = l .1 .given .0 .1 .0 in
-    let same = value-same text (L .at) (a .current-year) k (rw (l .1 .given .1) at gave) in (
+    let same = value-same text (L .at) (a .choices .edition) (a .current-year) k (rw (l .1 .given .1) at gave) in (
       record { carried = Value u z; start = from; end = to } ∷ L .inv .0,
       rw (l .4, l .5, l .6, l .7, l .3 .ensures, toZ-ofZ w64 z (search needs)) (holds-value (L .inv .1) from to u z),
       rw (l .1 .given .1) at (sym (moved (rw same (same-either (a .choices .strict)))) ∙ L .inv .2),

@@ -1,8 +1,7 @@
 -- Each kind of run is its row of the table.
 use borrow.Author.Needs.{needs}
-use mathlib.Core.Path.{_≡_, refl, ap, sym, _∙_}
+use mathlib.Core.Path.{ap, sym, _∙_}
 use native.Mathlib.Omega.{arith}
-use Rattle.meaning.specs.Writing.{runStep}
 use Rattle.rules.proofs.Laws.{below-letters}
 use Rattle.rules.proofs.short.ShortRules.{short-role}
 use Rattle.rules.proofs.step.Rows.{year-row, month-abbreviated-row, month-wide-row, weekday-wide-row}

@@ -7,14 +7,14 @@ use Rattle.verdict.proofs.needs.rule_need.Tie as tie
 enum-known-rule : tie.Need-enum-known-rule
 enum-known-rule c = search needs
 
-number-need-requires : tie.Need-number-need-requires
-number-need-requires c κs = search needs
+read-need-requires : tie.Need-read-need-requires
+read-need-requires c κs = search needs
 
 enum-known-rule-2 : tie.Need-enum-known-rule-2
 enum-known-rule-2 c = search needs
 
-number-need-requires-2 : tie.Need-number-need-requires-2
-number-need-requires-2 c κs = search needs
+number-need-requires : tie.Need-number-need-requires
+number-need-requires c κs = search needs
 
 enum-told : tie.Need-enum-told
 enum-told c = search needs
@@ -51,11 +51,11 @@ group-need-requires c κs = search needs
 
 returns : tie.Need-returns
 unfolding ruleNeed
-returns c = rw (c .before .before .rule .given .1) (c .number-need .ensures)
+returns c = rw (c .before .before .rule .given .1) (c .read-need .ensures)
 
 returns-2 : tie.Need-returns-2
 unfolding ruleNeed
-returns-2 c = rw (c .before .before .rule2 .given .1) (c .number-need2 .ensures)
+returns-2 c = rw (c .before .before .rule2 .given .1) (c .number-need .ensures)
 
 returns-3 : tie.Need-returns-3
 unfolding ruleNeed
@@ -78,6 +78,7 @@ unfolding ruleNeed
 returns-7 c = rw (c .enum-told5 .given .1)
 
 returns-8 : tie.Need-returns-8
+unfolding ruleNeed
 returns-8 c = rw (c .before .before .rule3 .given .1) (c .fixed-year-need .ensures)
 
 returns-9 : tie.Need-returns-9
@@ -93,9 +94,9 @@ rule-need-spec =
     tie.close
     (tie.spec
     enum-known-rule
-    number-need-requires
+    read-need-requires
     enum-known-rule-2
-    number-need-requires-2
+    number-need-requires
     enum-told
     enum-told-2
     enum-told-3

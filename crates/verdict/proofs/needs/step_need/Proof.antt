@@ -44,8 +44,8 @@ short-quantity-requires c κs = search needs
 short-most-requires : tie.Need-short-most-requires
 short-most-requires c κs = search needs
 
-number-need-requires : tie.Need-number-need-requires
-number-need-requires c κs = search needs
+read-need-requires : tie.Need-read-need-requires
+read-need-requires c κs = search needs
 
 enum-known-step-3 : tie.Need-enum-known-step-3
 enum-known-step-3 c = search needs
@@ -93,7 +93,7 @@ returns-3 c =
 returns-4 : tie.Need-returns-4
 unfolding stepNeed ruleNeed
 returns-4 c =
-    rw (c .before .before .before .before .step2 .given .1, ← c .before .before .short-quantity .ensures, ← c .before .short-most .ensures) (c .number-need .ensures)
+    rw (c .before .before .before .before .step2 .given .1, ← c .before .before .short-quantity .ensures, ← c .before .short-most .ensures) (c .read-need .ensures)
 
 returns-5 : tie.Need-returns-5
 unfolding stepNeed
@@ -134,7 +134,7 @@ step-need-spec =
     enum-known-step-2
     short-quantity-requires
     short-most-requires
-    number-need-requires
+    read-need-requires
     enum-known-step-3
     year-need-requires
     enum-told-3

@@ -14,6 +14,7 @@ fixed-year-need-requires : tie.Need-fixed-year-need-requires
 fixed-year-need-requires c κs = search needs
 
 returns-2 : tie.Need-returns-2
+unfolding ruleNeed
 returns-2 c = rw (lt-leb (c .before .before .args .count) 4 (omega (arith, c .before .if1 .left))) (c .fixed-year-need .ensures)
 
 pub year-need-spec : {M : Type 1} → statement M
