@@ -24,14 +24,14 @@ pub struct Ymd {
     pub day: u32,
 }
 
-/// The sum over days, of all that is answered of each.
-pub type Days = fn(&[i32]) -> u64;
-pub type Numbers = fn(&[Ymd]) -> u64;
+/// The sum over days, of all that is answered of each; and who gives it.
+type Sum<T> = fn(&[T]) -> u64;
+type By<T> = (&'static str, Sum<T>);
 
 struct Contender {
     name: &'static str,
-    days: Days,
-    numbers: Numbers,
+    days: Sum<i32>,
+    numbers: Sum<Ymd>,
 }
 
 /// A line of the table: by contender, ours first.
@@ -115,7 +115,7 @@ fn dates(days: &[i32]) -> Vec<Ymd> {
 }
 
 /// So many calls at a time, around the table and around again.
-fn around<'a, T>(table: &'a [T], sum_of: fn(&[T]) -> u64) -> Calls<'a> {
+fn around<'a, T>(table: &'a [T], sum_of: Sum<T>) -> Calls<'a> {
     let mut place = 0;
     Box::new(move |calls| {
         let mut left = calls;
@@ -129,12 +129,7 @@ fn around<'a, T>(table: &'a [T], sum_of: fn(&[T]) -> u64) -> Calls<'a> {
 }
 
 /// All of one op in turn, after each has given the sum of the first.
-fn compared<T>(
-    op: &'static str,
-    table: &[T],
-    by: &[(&'static str, fn(&[T]) -> u64)],
-    java: &[java::Told],
-) -> Result<Line, String> {
+fn compared<T>(op: &'static str, table: &[T], by: &[By<T>], java: &[java::Told]) -> Result<Line, String> {
     let right = by[0].1(table);
     let told = java.iter().find(|told| told.op == op);
     let sums = by.iter().map(|(name, sum_of)| (*name, sum_of(table)));
@@ -162,8 +157,8 @@ pub fn table() -> Result<String, String> {
     let dates = dates(&days);
     let java = java::told(SEED, COUNT);
     let by = contenders();
-    let of_days: Vec<(&str, Days)> = by.iter().map(|one| (one.name, one.days)).collect();
-    let of_numbers: Vec<(&str, Numbers)> = by.iter().map(|one| (one.name, one.numbers)).collect();
+    let of_days: Vec<By<i32>> = by.iter().map(|one| (one.name, one.days)).collect();
+    let of_numbers: Vec<By<Ymd>> = by.iter().map(|one| (one.name, one.numbers)).collect();
     let lines = [
         compared("day_of", &days, &of_days, &java)?,
         compared("day_number", &dates, &of_numbers, &java)?,

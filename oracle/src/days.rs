@@ -1,6 +1,5 @@
 //! Days and their numbers by the Rust's own calendar, `util/date/convert.rs`.
 
-use crate::errors::AstrolabeError;
 use crate::guard::{guarded, Cause};
 use crate::util::date_itself::convert;
 
@@ -38,6 +37,5 @@ pub fn unguarded_day_of(number: i32) -> Day {
 
 /// Likewise; none where the Rust errs.
 pub fn unguarded_day_number(year: i32, month: u32, day: u32) -> Option<i32> {
-    let number: Result<i32, AstrolabeError> = convert::date_to_days(year, month, day);
-    number.ok()
+    convert::date_to_days(year, month, day).ok()
 }
