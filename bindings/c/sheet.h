@@ -43,8 +43,8 @@ extern "C" {
 /* A writer needs no more than so many bytes of output for each byte of the pattern, so SHEET_LONGEST_TEXT are always enough. */
 #define SHEET_BYTES_A_PATTERN_BYTE 8
 
-/* No call takes more bytes of the stack. As measured on x86-64, a write takes 1,016 at most, with names, a read 1,120, and the
- * other functions under 250. */
+/* No call takes more bytes of the stack. As measured on x86-64, a write takes 1,016 at most, with names, a read 1,120,
+ * sheet_day 1,632, which lays a table, and the other functions under 250. */
 #define SHEET_MOST_STACK 2048
 
 /* How many entries each function asks for in `answer`, sheet_split in `parts`, and sheet_units in `units`. */
