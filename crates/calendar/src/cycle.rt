@@ -5,17 +5,14 @@ ghost use Rattle.laws.specs.CalendarLine.{InYear};
 ghost use Rattle.meaning.specs.Calendar as calendar;
 use crate::table::days_before;
 
-// Three years of four are told by the first test.
+// Nearly all years go the same way through the first test.
 pub fn is_leap(n: u32) -> bool
     ensures { λ r. ⌜ r ≡ calendar.leap n ⌝ }
 {
-    if n % 4 != 0 {
-        return false;
+    if n % 100 == 0 {
+        return n % 400 == 0;
     }
-    if n % 100 != 0 {
-        return true;
-    }
-    n % 400 == 0
+    n % 4 == 0
 }
 
 pub fn year_length(leap: bool) -> u32

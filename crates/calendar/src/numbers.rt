@@ -1,7 +1,9 @@
 // The number of a date, with its checks 17 and 18.
 ghost use mathlib.Core.Path.{_≡_};
-ghost use Prim.Native.Nat.{_<_};
+ghost use Prim.Native.Nat.{_≤_, _<_};
+ghost use lib.Dec.{ltb};
 ghost use Rattle.calendar.specs.Places.{placeOf, numberAt, shortAt};
+ghost use Rattle.meaning.specs.Calendar.{monthLength};
 use crate::cycle::is_leap;
 use crate::line::before_year;
 use crate::line::on_line;
@@ -49,6 +51,17 @@ fn short(n: u64) -> DayNumber
     DayNumber::Number((n as i64 - 2147625900) as i32)
 }
 
+// Whether a month has not so many days. Every month has 28.
+fn is_past(leap: bool, month: u32, day: u32) -> bool
+    requires { ⌜ (1 ≤ month) × (month ≤ 12) ⌝ }
+    ensures { λ r. ⌜ r ≡ ltb (monthLength leap month) day ⌝ }
+{
+    if day <= 28 {
+        return false;
+    }
+    length_of(leap, month) < day
+}
+
 // 17 of the month and the day, then 18.
 pub fn number_at(place: u32, month: u32, day: u32) -> DayNumber
     requires { ⌜ place < 11760000 ⌝ }
@@ -64,7 +77,7 @@ pub fn number_at(place: u32, month: u32, day: u32) -> DayNumber
     if day < 1 {
         return DayNumber::Refused(Refusal::NoSuchDay);
     }
-    if length_of(leap, month) < day {
+    if is_past(leap, month, day) {
         return DayNumber::Refused(Refusal::NoSuchDay);
     }
     let past = days_of(leap, month - 1) + day - 1;

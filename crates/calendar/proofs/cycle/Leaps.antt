@@ -1,5 +1,4 @@
 -- Leap years, by the tests in the order of the code.
-use mathlib.Core.Bool.{true, false}
 use mathlib.Core.Path.{_≡_}
 use Prim.Native.Nat.{ℕ, _%_}
 use native.Mathlib.Omega.{arith}
@@ -8,14 +7,9 @@ use lib.Dec.{eqb}
 use Rattle.laws.proofs.Tests.{by-test}
 use Rattle.meaning.specs.Calendar.{leap}
 
-pub no-fourth : (n : ℕ) → (n % 4 ≡ 0 → ⊥) → leap n ≡ false
+pub no-hundredth : (n : ℕ) → (n % 100 ≡ 0 → ⊥) → leap n ≡ eqb (n % 4) 0
 unfolding leap
-no-fourth n h =
-    rw (ne-eqb (n % 400) 0 (λ e. h (omega arith)), ne-eqb (n % 100) 0 (λ e. h (omega arith)), ne-eqb (n % 4) 0 h)
-
-pub no-hundredth : (n : ℕ) → n % 4 ≡ 0 → (n % 100 ≡ 0 → ⊥) → leap n ≡ true
-unfolding leap
-no-hundredth n e h = rw (ne-eqb (n % 400) 0 (λ e. h (omega arith)), ne-eqb (n % 100) 0 h, eq-eqb (n % 4) 0 e)
+no-hundredth n h = rw (ne-eqb (n % 400) 0 (λ e. h (omega arith)), ne-eqb (n % 100) 0 h)
 
 pub hundredth : (n : ℕ) → n % 100 ≡ 0 → leap n ≡ eqb (n % 400) 0
 unfolding leap

@@ -1,8 +1,10 @@
 -- The tests are the definition's, and the days add up.
-use mathlib.Core.Path.{_≡_, ap, _∙_}
+use mathlib.Core.Path.{_≡_, sym, ap, _∙_}
 use Prim.Native.Nat.{suc, _+_, _-_, _≤_}
 use native.Mathlib.Numerals.{add-one}
 use native.Mathlib.Omega.{arith}
+use borrow.Author.Tests.{ltb-true, ltb-false}
+use lib.Dec.{ltb}
 use Rattle.meaning.specs.Calendar.{leap, monthLength, beforeMonth}
 use Rattle.calendar.proofs.numbers.Checks.{days-room, month-low, month-high, day-low, day-high, day-there, few-days}
 use borrow.Author.Needs.{needs}
@@ -26,13 +28,13 @@ module _ (c : tie.After-is-leap) where
   leap-is : c .is-leap .result ≡ leap (suc (c .before .before .before .args .place))
   leap-is = c .is-leap .ensures ∙ ap leap (add-one (c .before .before .before .args .place))
 
-module _ (c : tie.After-length-of) where
-  length-is : c .length-of .result ≡ monthLength (leap (suc (c .before .before .before .before .before .args .place))) (c .before .before .before .before .before .args .month)
-  length-is = rw (leap-is (c .before .before)) at (c .length-of .ensures)
+module _ (c : tie.After-is-past) where
+  past-by : c .is-past .result ≡ ltb (monthLength (leap (suc (c .before .before .before .before .before .args .place))) (c .before .before .before .before .before .args .month)) (c .before .before .before .before .before .args .day)
+  past-by = rw (leap-is (c .before .before)) at (c .is-past .ensures)
 
 module _ (c : tie.Else4) where
   day-in : c .before .before .before .before .before .before .args .day ≤ monthLength (leap (suc (c .before .before .before .before .before .before .args .place))) (c .before .before .before .before .before .before .args .month)
-  day-in = rw (length-is (c .before)) at (c .if4 .left)
+  day-in = ltb-false _ _ (sym (past-by (c .before)) ∙ c .if4 .left)
 
   past-few-days : beforeMonth (leap (suc (c .before .before .before .before .before .before .args .place))) (c .before .before .before .before .before .before .args .month) + c .before .before .before .before .before .before .args .day ≤ 366
   past-few-days =
@@ -54,13 +56,13 @@ returns-3 c =
     let a = c .before .before .before .before .args in
     day-low (a .place) (a .month) (a .day) (omega arith) (omega arith) (c .if3 .taken)
 
-length-of-requires : tie.Need-length-of-requires
-length-of-requires c κs = search needs
+is-past-requires : tie.Need-is-past-requires
+is-past-requires c κs = search needs
 
 returns-4 : tie.Need-returns-4
 returns-4 c =
     let a = c .before .before .before .before .before .before .args in
-    day-high (a .place) (a .month) (a .day) (omega arith) (omega arith) (omega arith) (rw (length-is (c .before)) at (c .if4 .taken))
+    day-high (a .place) (a .month) (a .day) (omega arith) (omega arith) (omega arith) (ltb-true _ _ (sym (past-by (c .before)) ∙ c .if4 .taken))
 
 days-of-requires : tie.Need-days-of-requires
 days-of-requires c κs = search needs
@@ -100,7 +102,7 @@ number-at-spec =
     add-is-leap
     is-leap-requires
     returns-3
-    length-of-requires
+    is-past-requires
     returns-4
     days-of-requires
     add-past
