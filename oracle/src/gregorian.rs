@@ -42,6 +42,13 @@ pub fn number_of(year: i32, month: u32, day: u32) -> Option<i64> {
     Some(new_year(year) + before + i64::from(day) - 1)
 }
 
+/// All days of a year of the field record, those with few digits and with many taking turns.
+pub fn days_of_year(year: i32) -> impl Iterator<Item = Day> {
+    let first = number_of(year, 1, 1).expect("a year of the field record");
+    let last = number_of(year, 12, 31).expect("a year of the field record");
+    (0..=last - first).map(move |past| day_of((first + past * 37 % (last - first + 1)) as i32))
+}
+
 /// Whether a record's day has a number of 32 bits, with that day's own day of year, week and weekday beside it.
 pub fn is_real(fields: &Fields) -> bool {
     let number = number_of(fields.year, fields.month, fields.day);
