@@ -1,4 +1,4 @@
-//! Links ICU with its shim, where it is there. The archive of ours is linked by the crate for Rust.
+//! Links ICU with its shim, and the library of chrono and time, where they are there. The archive of ours is linked by the crate for Rust.
 
 use std::env;
 use std::path::Path;
@@ -9,11 +9,28 @@ fn main() {
     println!("cargo:rerun-if-env-changed=ICU_VERSION");
     println!("cargo:rerun-if-changed=build.rs");
     println!("cargo:rerun-if-changed=icu.c");
+    others();
     if let Some(words) = icu() {
         println!("cargo:rustc-cfg=icu");
         for word in words {
             println!("cargo:rustc-link-arg={word}");
         }
+    }
+}
+
+/// chrono and time, by the library that bench/run made of them.
+fn others() {
+    println!("cargo:rustc-check-cfg=cfg(others)");
+    println!("cargo:rerun-if-env-changed=OTHERS");
+    println!("cargo:rerun-if-env-changed=OTHERS_VERSIONS");
+    let Some(library) = env::var("OTHERS").ok().filter(|library| !library.is_empty()) else {
+        return;
+    };
+    println!("cargo:rerun-if-changed={library}");
+    println!("cargo:rustc-cfg=others");
+    println!("cargo:rustc-link-arg={library}");
+    if let Some(folder) = Path::new(&library).parent() {
+        println!("cargo:rustc-link-arg=-Wl,-rpath,{}", folder.display());
     }
 }
 

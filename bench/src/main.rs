@@ -1,13 +1,17 @@
-//! The benchmark: ours beside the Rust, glibc and ICU, in one run on the machine that it was built on.
+//! The benchmark: ours beside the Rust, glibc, ICU and, for days, chrono, time and java.time, in one run on the machine that it was built on.
 #![cfg_attr(not(icu), allow(dead_code))]
 
 mod agreement;
 mod contender;
+mod days;
 mod glibc;
 #[cfg(icu)]
 mod icu;
+mod java;
 mod machine;
 mod measure;
+#[cfg(others)]
+mod others;
 mod ours;
 mod plot;
 mod records;
@@ -25,7 +29,7 @@ use std::fs;
 use std::process::ExitCode;
 
 const USAGE: &str =
-    "usage: bench PICTURE.svg\n       bench calls CONTENDER write|read|check ROW CALLS\n       bench stack";
+    "usage: bench PICTURE.svg\n       bench calls CONTENDER write|read|check ROW CALLS\n       bench days\n       bench stack";
 
 fn main() -> ExitCode {
     let words: Vec<String> = args().skip(1).collect();
@@ -35,6 +39,7 @@ fn main() -> ExitCode {
             print!("{}", stack::table(&rows::rows(), &records()));
             Ok(())
         }
+        ["days"] => days::table().map(|table| print!("{table}")),
         [picture] => run(picture),
         ["calls", contender, op, row, calls] => only_calls(contender, op, row, calls),
         _ => Err(USAGE.to_string()),
@@ -70,6 +75,7 @@ fn run(picture: &str) -> Result<(), String> {
     println!("{}", table::checks(&patterns, &measure::checked(&patterns)));
     let growths = measure::grown(&records);
     println!("{}", table::growths(&growths));
+    println!("{}", days::table()?);
     fs::write(picture, plot::picture(&machine_and_day, &written, &read, &growths))
         .map_err(|why| format!("{picture}: {why}"))?;
     println!("picture: {picture}");

@@ -141,6 +141,33 @@ fn of_parse_offset(text: &[u8]) -> usize {
     depth(|| unsafe { raw::sheet_parse_offset(text.as_ptr(), text.len(), answer.as_mut_ptr(), answer.len()) })
 }
 
+fn of_day(number: i32) -> usize {
+    let mut answer = [0; raw::DAY_ANSWER];
+    // SAFETY: the pointer goes with the length of the slice that it comes from.
+    depth(|| unsafe { raw::sheet_day(number, answer.as_mut_ptr(), answer.len()) })
+}
+
+fn of_day_number(year: i32, month: u32, day: u32) -> usize {
+    let mut answer = [0; raw::DAY_NUMBER_ANSWER];
+    // SAFETY: the pointer goes with the length of the slice that it comes from.
+    depth(|| unsafe { raw::sheet_day_number(year, month, day, answer.as_mut_ptr(), answer.len()) })
+}
+
+/// The deepest of days at both ends of the numbers, around 0 and of now.
+fn of_days() -> [(&'static str, usize); 2] {
+    let dates = [
+        (-5_879_611, 6, 23),
+        (-1, 12, 31),
+        (1, 1, 1),
+        (2025, 2, 29),
+        (5_879_611, 12, 31),
+    ];
+    let days = [i32::MIN, -1, 0, 739_587, i32::MAX].map(of_day);
+    let numbers = dates.map(|(year, month, day)| of_day_number(year, month, day));
+    let deepest = |depths: [usize; 5]| depths.into_iter().max().unwrap_or(0);
+    [("day", deepest(days)), ("day_number", deepest(numbers))]
+}
+
 /// The depths by one pattern, in the order of `FUNCTIONS`.
 fn depths(pattern: &[u8], f: &Fields) -> Vec<usize> {
     let mut out = [0; ROOM];
@@ -175,12 +202,12 @@ const FUNCTIONS: [&str; 9] = [
 pub fn table(rows: &[Row], records: &[Record]) -> String {
     let patterns: Vec<&str> = rows.iter().map(|row| row.pattern.as_str()).chain([NAMES]).collect();
     let fields = records[0].fields;
-    let (columns, offset): (Vec<Vec<usize>>, usize) = with_stack(|| {
+    let (columns, offset, days) = with_stack(|| {
         let columns = patterns
             .iter()
             .map(|pattern| depths(pattern.as_bytes(), &fields))
-            .collect();
-        (columns, of_parse_offset(b"+05:30"))
+            .collect::<Vec<_>>();
+        (columns, of_parse_offset(b"+05:30"), of_days())
     });
     let mut table = String::from("Bytes of stack that a call takes, with its return address\n\n");
     for (number, pattern) in patterns.iter().enumerate() {
@@ -202,6 +229,9 @@ pub fn table(rows: &[Row], records: &[Record]) -> String {
         }
     }
     let _ = write!(table, "\n{:<24}{offset:>6}\n", "parse_offset, +05:30");
+    for (name, depth) in days {
+        let _ = writeln!(table, "{name:<24}{depth:>6}");
+    }
     table
 }
 

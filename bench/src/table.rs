@@ -14,7 +14,7 @@ pub fn comparison(title: &str, lines: &[Line]) -> String {
     table
 }
 
-fn table_row(label: &str, cells: impl Iterator<Item = String>) -> String {
+pub fn table_row(label: &str, cells: impl Iterator<Item = String>) -> String {
     let row = format!("{label:35}") + &cells.collect::<String>();
     row.trim_end().to_string() + "\n"
 }
@@ -31,7 +31,7 @@ fn cell(line: &Line, number: usize) -> String {
 }
 
 /// The columns of a contender: nanoseconds with a mark behind them and, but for ours, the ratio.
-fn columns(number: usize, nanos: &str, mark: char, ratio: &str) -> String {
+pub fn columns(number: usize, nanos: &str, mark: char, ratio: &str) -> String {
     match number {
         0 => format!("{nanos:>9}{mark}"),
         _ => format!("{nanos:>10}{mark}{ratio:>7}"),

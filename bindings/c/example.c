@@ -1,5 +1,5 @@
 /* Writes a record by a pattern, reads it back, underlines what was read, shows what the parts of a pattern are, checks a pattern,
- * reads strictly, reads and checks in the second edition and shows a refusal. */
+ * reads strictly, reads and checks in the second edition, shows a refusal and places a bar of a chart. */
 #include "sheet.h"
 
 #include <inttypes.h>
@@ -125,6 +125,51 @@ static void show_a_refusal(const char *pattern) {
         printf("%s has no room in %zu bytes: it needs %" PRId64 "\n", pattern, sizeof text, answer[0]);
 }
 
+typedef struct {
+    int32_t year;
+    uint32_t month;
+    uint32_t day;
+} date;
+
+/* A date that there is. */
+static int32_t number_of(date date) {
+    int64_t answer[SHEET_DAY_NUMBER_ANSWER];
+    sheet_day_number(date.year, date.month, date.day, answer, SHEET_DAY_NUMBER_ANSWER);
+    return (int32_t)answer[0];
+}
+
+/* The number of the Monday that begins the week of a day. */
+static int32_t monday_of(int32_t number) {
+    int64_t day[SHEET_DAY_ANSWER];
+    sheet_day(number, day, SHEET_DAY_ANSWER);
+    int32_t weekday = (int32_t)day[5];
+    return number - (weekday + 6) % 7;
+}
+
+/* In a chart of three weeks that begins on a Monday and has a column for each day. */
+static void place_a_bar(date first, date last) {
+    int32_t start = number_of(first);
+    int32_t length = number_of(last) - start + 1;
+    int32_t monday = monday_of(start);
+    int32_t column = start - monday;
+    int64_t day[SHEET_DAY_ANSWER];
+    sheet_day(monday, day, SHEET_DAY_ANSWER);
+    printf("a bar of %" PRId32 " days at column %" PRId32 ", in a chart from %" PRId64 "-%02" PRId64 "-%02" PRId64 " in week %" PRId64
+           " on:\n  ",
+           length, column, day[0], day[1], day[2], day[4]);
+    for (int32_t place = 0; place < 21; place++)
+        putchar(column <= place && place < column + length ? '#' : '.');
+    putchar('\n');
+}
+
+static void show_a_day_that_is_not_there(int32_t year, uint32_t month, uint32_t day) {
+    int64_t answer[SHEET_DAY_NUMBER_ANSWER];
+    uint32_t number = sheet_day_number(year, month, day, answer, SHEET_DAY_NUMBER_ANSWER);
+    if (number == SHEET_NO_SUCH_DAY)
+        printf("%" PRId32 "-%02" PRIu32 "-%02" PRIu32 " is refused with %" PRIu32 ": %s\n", year, month, day, number,
+               sheet_refusal_text(number));
+}
+
 int main(void) {
     write_and_read_back("yyyy/MM/dd");
     underline_what_is_read("d MMMM y", "3 December -12");
@@ -137,5 +182,7 @@ int main(void) {
     read_in_the_second_edition("d.M.yy", "3.12.71");
     check_in_the_second_edition("d/M");
     show_a_refusal("yyyy/MM/dd");
+    place_a_bar((date){2026, 2, 26}, (date){2026, 3, 5});
+    show_a_day_that_is_not_there(2026, 2, 29);
     return 0;
 }

@@ -1,4 +1,4 @@
-/* sheet.h: dates, times and zone offsets by patterns such as yyyy/MM/dd, for C and C++.
+/* sheet.h: dates, times and zone offsets by patterns such as yyyy/MM/dd, and the numbers of days, for C and C++.
  *
  * What is lent. A pattern or a text is bytes with their number and needs no zero byte at its end. Text goes to `out`, numbers
  * go to the rows `answer`, `parts` and `units`, which are aligned as int64_t is. What a function may alter must overlap nothing
@@ -11,8 +11,8 @@
  * Threads and stack. The functions have no state: any thread may call any of them at any time, with rows and an `out` that no
  * other thread uses meanwhile. A call takes no more than SHEET_MOST_STACK bytes of the stack.
  *
- * What is returned. SHEET_ACCEPTED; or the number of a refusal, 1 to 16 or 19; or SHEET_ROW_TOO_SMALL where a row has fewer
- * entries than the function asks for, or SHEET_NO_SUCH_CHOICE where a number stands for no choices: then nothing is altered.
+ * What is returned. SHEET_ACCEPTED; or the number of a refusal, 1 to 19; or SHEET_ROW_TOO_SMALL where a row has fewer entries than
+ * the function asks for, or SHEET_NO_SUCH_CHOICE where a number stands for no choices: then nothing is altered.
  *
  * What is altered. Accepted, the first entries of `answer`, as many as the function asks for, are what its comment says, and a
  * writer alters so many bytes of `out` as it answers. Refused, these entries are the refusal's details, then zeros, and none of
@@ -43,8 +43,8 @@ extern "C" {
 /* A writer needs no more than so many bytes of output for each byte of the pattern, so SHEET_LONGEST_TEXT are always enough. */
 #define SHEET_BYTES_A_PATTERN_BYTE 8
 
-/* No call takes more bytes of the stack. As measured on x86-64, a write takes 1,016 at most, with names, a read 1,120, and the
- * other functions under 250. */
+/* No call takes more bytes of the stack. As measured on x86-64, a write takes 1,016 at most, with names, a read 1,120,
+ * sheet_day 1,632, which lays a table, and the other functions under 250. */
 #define SHEET_MOST_STACK 2048
 
 /* How many entries each function asks for in `answer`, sheet_split in `parts`, and sheet_units in `units`. */
@@ -56,6 +56,8 @@ extern "C" {
 #define SHEET_UNITS_ANSWER 2
 #define SHEET_UNITS_ROW 256
 #define SHEET_CHECK_ANSWER 10
+#define SHEET_DAY_ANSWER 6
+#define SHEET_DAY_NUMBER_ANSWER 2
 
 /* What is returned. Behind a refusal stand its details, which are the first one or two entries of `answer`. */
 #define SHEET_ACCEPTED 0
@@ -75,6 +77,8 @@ extern "C" {
 #define SHEET_CURRENT_YEAR 14    /* a current year that is not 1 to 9999, in the second edition 81 to 9999: that year */
 #define SHEET_LITERAL_DIFFERS 15 /* a literal that differs, in a strict reading: part, place of the first such byte */
 #define SHEET_TEXT_LEFT 16       /* text that is left over, in a strict reading: place of its first byte */
+#define SHEET_NO_SUCH_DAY 17     /* a year, month or day that is not there: 0 */
+#define SHEET_NO_DAY_NUMBER 18   /* a day whose number 32 signed bits can't hold: 0 */
 #define SHEET_PLUS_SIGN 19       /* a plus as the first byte of a number: part, place */
 #define SHEET_ROW_TOO_SMALL 100  /* a row is too small: nothing is altered, and there are no details */
 #define SHEET_NO_SUCH_CHOICE 101 /* a number that stands for no choices: likewise */
@@ -191,6 +195,18 @@ uint32_t sheet_check(const uint8_t *pattern, size_t pattern_len, int32_t year, i
 uint32_t sheet_check_with(uint32_t choices, const uint8_t *pattern, size_t pattern_len, int32_t year, int64_t *answer,
                           size_t answer_len);
 
+/* The day of a number, in the Gregorian calendar, also for times before it was in use: 0 is 1 January of year 1, a Monday, and
+ * negative numbers are the days before. There is no year 0: the year before 1 is -1, which is a leap year.
+ * Answers: year, month 1..12, day 1..31, day of the year 1..366, week 1..53 of ISO 8601, weekday 0..6 from Sunday, as sheet_write
+ * takes them. A week at an end of the year may be one of the year before or behind it.
+ * Refuses: nothing. The first number is that of -5879611-06-23, the last that of 5879611-07-12. */
+uint32_t sheet_day(int32_t number, int64_t *answer, size_t answer_len);
+
+/* The number of a day; the days between two are the difference of their numbers.
+ * Answers: the number, and 0.
+ * Refuses: 17 where there is no such day, with year 0 and the years outside -5,879,611 to 5,879,611 among them; then 18. */
+uint32_t sheet_day_number(int32_t year, uint32_t month, uint32_t day, int64_t *answer, size_t answer_len);
+
 /* What a number that was returned says, in words that need no details. */
 static inline const char *sheet_refusal_text(uint32_t number) {
     switch (number) {
@@ -211,6 +227,8 @@ static inline const char *sheet_refusal_text(uint32_t number) {
     case SHEET_CURRENT_YEAR: return "the current year is not from 1 to 9999, or from 81 in the second edition";
     case SHEET_LITERAL_DIFFERS: return "the text differs from the literal that should stand there";
     case SHEET_TEXT_LEFT: return "the text goes on where the pattern ends";
+    case SHEET_NO_SUCH_DAY: return "there is no such day";
+    case SHEET_NO_DAY_NUMBER: return "the day's number doesn't fit 32 signed bits";
     case SHEET_PLUS_SIGN: return "the text has a plus in front of a number";
     case SHEET_ROW_TOO_SMALL: return "a row for the answer is too small";
     case SHEET_NO_SUCH_CHOICE: return "there is no such choice";

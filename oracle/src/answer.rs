@@ -1,6 +1,7 @@
 //! The answers of the line protocol, as the Rust gives them.
 
 use crate::calendar::Fields;
+use crate::days::{self, Day};
 use crate::request::{hex, Request};
 use crate::walk::{self, Kind, Pair, Part, Reading};
 
@@ -37,6 +38,10 @@ fn accepted(request: &Request) -> Option<String> {
             Some(read(&walk::read(choices.pair, pattern, text, *now).ok()?))
         }
         Request::ParseOffset { text } => Some(offset(walk::parse_offset(as_text(text)?).ok()?)),
+        Request::DayOf { number } => Some(day(&days::day_of(*number).ok()?)),
+        Request::DayNumber { year, month, day } => {
+            Some(day_number(days::day_number(*year, *month, *day).ok()?))
+        }
     }
 }
 
@@ -92,4 +97,15 @@ pub fn read(reading: &Reading) -> String {
 
 pub fn offset(seconds: i32) -> String {
     format!("offset {seconds}")
+}
+
+pub fn day(day: &Day) -> String {
+    format!(
+        "day {} {} {} {} {} {}",
+        day.year, day.month, day.day, day.day_of_year, day.week, day.weekday
+    )
+}
+
+pub fn day_number(number: i32) -> String {
+    format!("number {number}")
 }

@@ -1,4 +1,4 @@
-//! The Rust's error, with the one kind that formatting and parsing give.
+//! The Rust's error, with the kinds that formatting, parsing and the calendar give.
 
 pub(crate) mod invalid_format {
     include!(concat!(
@@ -7,20 +7,34 @@ pub(crate) mod invalid_format {
     ));
 }
 
+/// Ours, in the place of the Rust's errors/out_of_range.rs, which is not among its files here. Its wording is ours as well, and
+/// nothing hangs on it.
 pub(crate) mod out_of_range {
     use super::AstrolabeError;
 
     pub(crate) fn create_simple_oor(
         name: &str,
-        _min: i128,
-        _max: i128,
-        _value: i128,
+        min: i128,
+        max: i128,
+        value: i128,
     ) -> AstrolabeError {
-        unreachable!("no part of a pattern converts {name}")
+        AstrolabeError::OutOfRange(format!("{name} is {value}, and not {min} to {max}"))
+    }
+
+    pub(crate) fn create_conditional_oor(
+        name: &str,
+        min: i128,
+        max: i128,
+        value: i128,
+        condition: String,
+    ) -> AstrolabeError {
+        let wording = format!("{name} is {value}, and not {min} to {max} {condition}");
+        AstrolabeError::OutOfRange(wording)
     }
 }
 
 #[derive(Debug)]
 pub(crate) enum AstrolabeError {
     InvalidFormat(invalid_format::InvalidFormat),
+    OutOfRange(String),
 }

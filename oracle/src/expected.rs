@@ -1,15 +1,19 @@
 //! The comparison rule: the one line that the specification and the Rust together allow for a request.
 //!
 //! First come the specification's limits in its order. Then the exceptions: a number that begins with a plus is refused 19,
-//! and a zone whose digits are all zero is written with a plus. A strict reading, which the Rust does not have, is refused 15 at
+//! a zone whose digits are all zero is written with a plus, and a day below 0 has the calendar's weekday and week. A strict reading, which the Rust does not have, is refused 15 at
 //! a literal that differs, and 16 where text is left over. Beyond these the Rust decides: where it answers, its answer is the
 //! line; where it doesn't, the line is the specification's number for the way it stopped, read off its wording, with the part
 //! and the place that it had come to. In the second edition, which the Rust does not have either, it decides with other parts in
 //! the place of those that are read otherwise.
 
 use crate::answer::{self, as_pattern, as_text};
+use crate::below;
 use crate::choices::Choices;
-use crate::limits::{field_limit, pattern_limit, refused, room_limit, text_limit, year_limit};
+use crate::days;
+use crate::limits::{
+    day_limit, field_limit, pattern_limit, refused, room_limit, text_limit, year_limit,
+};
 use crate::minus::with_plus;
 use crate::pluses::{plus_in, IN_AN_OFFSET};
 use crate::request::Request;
@@ -25,7 +29,8 @@ pub enum Expected {
     Refused(String),
     /// The Rust answers.
     Accepted(String),
-    /// The Rust came to a number that begins with a plus, whatever it answered, or it wrote a minus before zeros alone.
+    /// The Rust came to a number that begins with a plus, whatever it answered, or it wrote a minus before zeros alone, or its
+    /// weekday or week of a day below 0 is another than the calendar's.
     Excepted(String),
     /// The Rust reads on where a strict reading is refused.
     Strict(String),
@@ -69,6 +74,8 @@ fn first_limit(request: &Request) -> Option<Expected> {
             .or_else(|| limit(year_limit(choices.edition, *now)))
             .or_else(|| limit(text_limit(text))),
         Request::ParseOffset { text } => limit(text_limit(text)),
+        Request::DayOf { .. } => None,
+        Request::DayNumber { year, .. } => limit(day_limit(*year)),
     }
 }
 
@@ -128,6 +135,32 @@ fn from_the_rust(request: &Request) -> Expected {
             };
             plus_in_offset(text, line.line()).map_or(line, Expected::Excepted)
         }
+        Request::DayOf { number } => day_of(*number),
+        Request::DayNumber { year, month, day } => match days::day_number(*year, *month, *day) {
+            Ok(number) => Expected::Accepted(answer::day_number(number)),
+            Err(cause) => Expected::Refused(refused_day(&cause)),
+        },
+    }
+}
+
+fn day_of(number: i32) -> Expected {
+    let Ok(day) = days::day_of(number) else {
+        return Expected::Refused(UNEXPLAINED.to_string());
+    };
+    let right = below::corrected(number, day);
+    let line = answer::day(&right);
+    if right == day {
+        Expected::Accepted(line)
+    } else {
+        Expected::Excepted(line)
+    }
+}
+
+/// The Rust errs at a month or a day that is not there, and panics where its sum overflows 32 bits.
+fn refused_day(cause: &Cause) -> String {
+    match cause {
+        Cause::Error(_) => refused(17, &[0]),
+        Cause::Panic => refused(18, &[0]),
     }
 }
 

@@ -28,6 +28,7 @@ pub(crate) fn guarded<T>(call: impl FnOnce() -> Result<T, AstrolabeError>) -> Re
     match outcome {
         Ok(Ok(answer)) => Ok(answer),
         Ok(Err(AstrolabeError::InvalidFormat(error))) => Err(Cause::Error(error.to_string())),
+        Ok(Err(AstrolabeError::OutOfRange(wording))) => Err(Cause::Error(wording)),
         Err(_) => Err(Cause::Panic),
     }
 }

@@ -1,6 +1,7 @@
-//! The oracle: the Rust's modules for formatting and parsing, built unchanged, with everything
+//! The oracle: the Rust's modules for formatting, parsing and the calendar, built unchanged, with everything
 //! around them that asks, generates and compares.
 
+mod below;
 mod calendar;
 mod errors;
 mod guard;
@@ -9,9 +10,11 @@ mod util;
 pub mod answer;
 pub mod check;
 pub mod choices;
+pub mod days;
 pub mod differences;
 pub mod expected;
 pub mod generator;
+pub mod gregorian;
 pub mod limits;
 mod minus;
 pub mod options;

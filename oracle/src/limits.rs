@@ -1,4 +1,5 @@
-//! The limits that the specification sets and the Rust does not have: refusals 1, 2, 4, 5, 6, 7 and 14.
+//! The limits that the specification sets and the Rust does not have: refusals 1, 2, 4, 5, 6, 7 and 14, and
+//! of 17 the years.
 
 use crate::calendar::Fields;
 use crate::choices::Edition;
@@ -31,6 +32,12 @@ pub fn text_limit(text: &[u8]) -> Option<String> {
 pub fn year_limit(edition: Edition, now: i32) -> Option<String> {
     let years = edition.first_year()..=LAST_CURRENT_YEAR;
     (!years.contains(&now)).then(|| refused(14, &[i64::from(now)]))
+}
+
+/// The years of a day that has a number, as of the field record.
+pub fn day_limit(year: i32) -> Option<String> {
+    let is_there = year != 0 && within(year, -LAST_YEAR, LAST_YEAR);
+    (!is_there).then(|| refused(17, &[0]))
 }
 
 pub fn room_limit(text: &str, room: usize) -> Option<String> {

@@ -8,7 +8,7 @@ use std::num::NonZeroUsize;
 use std::str::FromStr;
 
 /// How many requests are generated where no count is named.
-const COUNT: usize = 1_800_000;
+const COUNT: usize = 2_100_000;
 
 pub struct Options {
     pub seed: u64,

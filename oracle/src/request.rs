@@ -23,6 +23,8 @@ pub enum Op {
     ReadStrictSecond,
     ReadDateStrictSecond,
     ParseOffset,
+    DayOf,
+    DayNumber,
 }
 
 #[derive(Clone, Debug, PartialEq, Eq)]
@@ -45,10 +47,18 @@ pub enum Request {
     ParseOffset {
         text: Vec<u8>,
     },
+    DayOf {
+        number: i32,
+    },
+    DayNumber {
+        year: i32,
+        month: u32,
+        day: u32,
+    },
 }
 
 impl Op {
-    pub const ALL: [Op; 12] = [
+    pub const ALL: [Op; 14] = [
         Op::Split,
         Op::Write,
         Op::WriteDate,
@@ -61,6 +71,8 @@ impl Op {
         Op::ReadStrictSecond,
         Op::ReadDateStrictSecond,
         Op::ParseOffset,
+        Op::DayOf,
+        Op::DayNumber,
     ];
 
     pub fn name(self) -> &'static str {
@@ -77,6 +89,8 @@ impl Op {
             Op::ReadStrictSecond => "read_strict_second",
             Op::ReadDateStrictSecond => "read_date_strict_second",
             Op::ParseOffset => "parse_offset",
+            Op::DayOf => "day_of",
+            Op::DayNumber => "day_number",
         }
     }
 
@@ -92,7 +106,8 @@ impl Op {
             Op::ReadDateSecond => date.second(),
             Op::ReadStrictSecond => full.strict().second(),
             Op::ReadDateStrictSecond => date.strict().second(),
-            Op::Split | Op::Write | Op::WriteDate | Op::ParseOffset => return None,
+            Op::Split | Op::Write | Op::WriteDate => return None,
+            Op::ParseOffset | Op::DayOf | Op::DayNumber => return None,
         })
     }
 
@@ -130,6 +145,14 @@ impl Request {
             Op::ParseOffset => Request::ParseOffset {
                 text: bytes(&mut words)?,
             },
+            Op::DayOf => Request::DayOf {
+                number: number(&mut words)?,
+            },
+            Op::DayNumber => Request::DayNumber {
+                year: number(&mut words)?,
+                month: number(&mut words)?,
+                day: number(&mut words)?,
+            },
             read => read_request(read.choices()?.pair, &mut words)?,
         };
         words.next().is_none().then_some(request)
@@ -144,6 +167,8 @@ impl Request {
             },
             Request::Read { choices, .. } => Op::of_read(*choices),
             Request::ParseOffset { .. } => Op::ParseOffset,
+            Request::DayOf { .. } => Op::DayOf,
+            Request::DayNumber { .. } => Op::DayNumber,
         }
     }
 }
@@ -170,6 +195,8 @@ impl fmt::Display for Request {
                 write!(f, "{} {} {now}{strict}{edition}", hex(pattern), hex(text))
             }
             Request::ParseOffset { text } => f.write_str(&hex(text)),
+            Request::DayOf { number } => write!(f, "{number}"),
+            Request::DayNumber { year, month, day } => write!(f, "{year} {month} {day}"),
         }
     }
 }

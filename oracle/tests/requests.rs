@@ -4,8 +4,10 @@ use harness::answer::answer;
 use harness::choices::{Choices, Edition};
 use harness::expected::{expected, Expected};
 use harness::generator::Generator;
+use harness::gregorian::number_of;
 use harness::options::Options;
 use harness::request::{Op, Request};
+use std::collections::HashSet;
 
 const FIELDS: &str = "2025 12 3 337 49 3 0 19800";
 
@@ -46,6 +48,14 @@ fn other_lines_are_bad_requests() {
         format!("write 79 {FIELDS} 9 second"),
         "parse_offset 5a second".to_string(),
         "check 79 2025".to_string(),
+        "day_of".to_string(),
+        "day_of 2147483648".to_string(),
+        "day_of +1".to_string(),
+        "day_of 1 1".to_string(),
+        "day_number 2025 12".to_string(),
+        "day_number 2025 12 3 3".to_string(),
+        "day_number 2025 -1 3".to_string(),
+        "day_number 2025 12 4294967296".to_string(),
     ];
     for line in lines {
         assert_eq!(answer(&line), "bad request", "{line}");
@@ -133,13 +143,64 @@ fn a_spread_out_sample_has_every_symbol_at_every_usual_count() {
     }
 }
 
+/// Each as often as the others, of the ops with definitions and of all.
 #[test]
 fn a_spread_out_sample_has_every_op() {
-    let sample = spread_out_sample();
-    for op in Op::ALL {
-        let count = sample.iter().filter(|request| request.op() == op).count();
-        assert_eq!(count, sample.len() / Op::ALL.len(), "{op:?}");
+    let of_all = each_fifth(8400, &Op::ALL);
+    for (sample, ops) in [
+        (spread_out_sample(), with_definitions()),
+        (of_all, Op::ALL.to_vec()),
+    ] {
+        for op in &ops {
+            let count = sample.iter().filter(|request| request.op() == *op).count();
+            assert_eq!(count, sample.len() / ops.len(), "{op:?}");
+        }
     }
+}
+
+/// Each boundary of a month, and each day around 0 and at both ends of the numbers.
+#[test]
+fn a_default_run_goes_through_all_that_is_enumerated_of_days() {
+    let a_default_run = 2_100_000 / Op::ALL.len();
+    let numbers: HashSet<i32> = Generator::new(1, vec![Op::DayOf])
+        .take(a_default_run)
+        .map(|request| match request {
+            Request::DayOf { number } => number,
+            _ => panic!("{request} is no day"),
+        })
+        .collect();
+    for place in 0..4000 {
+        for number in [place, -1 - place, i32::MAX - place, i32::MIN + place] {
+            assert!(numbers.contains(&number), "{number}");
+        }
+    }
+    for (year, month) in [
+        (2000, 3),
+        (1900, 3),
+        (-1, 3),
+        (-5, 3),
+        (-401, 3),
+        (-101, 3),
+        (1, 1),
+        (-1, 1),
+    ] {
+        let first = number_of(year, month, 1).expect("it is there") as i32;
+        for number in first - 2..first + 2 {
+            assert!(numbers.contains(&number), "{number}");
+        }
+    }
+}
+
+#[test]
+fn numbers_of_days_are_accepted_and_refused_with_both() {
+    let requests = Generator::new(1, vec![Op::DayNumber]).take(10_000);
+    let answers: Vec<Expected> = requests.map(|request| expected(&request)).collect();
+    let count =
+        |wanted: &dyn Fn(&Expected) -> bool| answers.iter().filter(|answer| wanted(answer)).count();
+    assert!(count(&|answer| matches!(answer, Expected::Accepted(_))) > 5000);
+    assert!(count(&|answer| *answer == Expected::Limit("refused 17 0".to_string())) > 500);
+    assert!(count(&|answer| *answer == Expected::Refused("refused 17 0".to_string())) > 500);
+    assert!(count(&|answer| *answer == Expected::Refused("refused 18 0".to_string())) > 100);
 }
 
 #[test]
@@ -173,7 +234,20 @@ fn a_spread_out_sample_has_every_refusal() {
 
 /// The sample that hold-definitions takes.
 fn spread_out_sample() -> Vec<Request> {
-    let words = ["--count", "9216", "--every", "5"].map(String::from);
+    each_fifth(9216, &with_definitions())
+}
+
+/// All but those of days.
+fn with_definitions() -> Vec<Op> {
+    let of_days = [Op::DayOf, Op::DayNumber];
+    let others = Op::ALL.into_iter().filter(|op| !of_days.contains(op));
+    others.collect()
+}
+
+fn each_fifth(count: usize, ops: &[Op]) -> Vec<Request> {
+    let names: Vec<&str> = ops.iter().map(|op| op.name()).collect();
+    let (count, names) = (count.to_string(), names.join(","));
+    let words = ["--count", &count, "--every", "5", "--ops", &names].map(String::from);
     let options = Options::of_requests(words.into_iter()).expect("these are options");
     options.generated().collect()
 }
@@ -183,6 +257,6 @@ fn pattern(request: &Request) -> Option<&Vec<u8>> {
         Request::Split { pattern }
         | Request::Write { pattern, .. }
         | Request::Read { pattern, .. } => Some(pattern),
-        Request::ParseOffset { .. } => None,
+        Request::ParseOffset { .. } | Request::DayOf { .. } | Request::DayNumber { .. } => None,
     }
 }

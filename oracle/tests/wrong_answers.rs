@@ -1,6 +1,6 @@
 //! Both comparers on programs that answer: right answers pass, and one wrong, missing or needless answer among them is found.
 
-use harness::answer::as_pattern;
+use harness::answer::{answer, as_pattern};
 use harness::check::{verdict, CheckRequest};
 use harness::choices::Edition;
 use harness::expected::expected;
@@ -262,6 +262,24 @@ fn a_program_that_gives_the_first_span_of_a_unit_is_found_out() {
     };
     is_found_out("first_spans", |request| {
         with_spans(request, |unit, _| first_span(request, unit))
+    });
+}
+
+#[test]
+fn a_program_that_takes_the_rusts_days_below_zero_is_found_out() {
+    is_found_out("days_of_the_rust", |request| match request {
+        Request::DayOf { .. } => answer(&request.to_string()),
+        _ => right(request),
+    });
+}
+
+#[test]
+fn a_program_that_refuses_days_with_one_number_alone_is_found_out() {
+    is_found_out("17_for_18", |request| {
+        right(request).replace("refused 18 0", "refused 17 0")
+    });
+    is_found_out("18_for_17", |request| {
+        right(request).replace("refused 17 0", "refused 18 0")
     });
 }
 

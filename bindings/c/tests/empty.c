@@ -85,6 +85,11 @@ static void by_others(void) {
     GIVES(sheet_check_with(SHEET_SECOND_EDITION, NULL, 0, 2025, answer, SHEET_CHECK_ANSWER), SHEET_ACCEPTED, 1, 0);
     GIVES(sheet_check_with(SHEET_SECOND_EDITION, PATTERN, 2, 2025, NULL, 0), SHEET_ROW_TOO_SMALL, MARK, MARK);
     GIVES(sheet_check_with(SHEET_DATE_PAIR, NULL, 0, 2025, NULL, 0), SHEET_NO_SUCH_CHOICE, MARK, MARK);
+    GIVES(sheet_day(0, answer, SHEET_DAY_ANSWER), SHEET_ACCEPTED, 1, 1);
+    GIVES(sheet_day(0, NULL, 0), SHEET_ROW_TOO_SMALL, MARK, MARK);
+    GIVES(sheet_day_number(1, 1, 2, answer, SHEET_DAY_NUMBER_ANSWER), SHEET_ACCEPTED, 1, 0);
+    GIVES(sheet_day_number(0, 1, 1, answer, SHEET_DAY_NUMBER_ANSWER), SHEET_NO_SUCH_DAY, 0, 0);
+    GIVES(sheet_day_number(0, 1, 1, NULL, 0), SHEET_ROW_TOO_SMALL, MARK, MARK);
 }
 
 int main(void) {

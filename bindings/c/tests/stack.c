@@ -72,6 +72,17 @@ static void parse_offset(size_t length) {
     sheet_was_read(answer[1], SHEET_OFFSET);
 }
 
+/* At the ends of what they take; the length is one more number. */
+static void days(size_t length) {
+    const int32_t numbers[] = {INT32_MIN, -1, 0, INT32_MAX, (int32_t)length};
+    for (size_t place = 0; place < sizeof numbers / sizeof *numbers; place++) {
+        sheet_day(numbers[place], answer, SHEET_DAY_ANSWER);
+        sheet_day_number((int32_t)answer[0], (uint32_t)answer[1], (uint32_t)answer[2], answer, SHEET_DAY_NUMBER_ANSWER);
+    }
+    sheet_day_number(0, 1, 1, answer, SHEET_DAY_NUMBER_ANSWER);
+    sheet_day_number(5879611, 12, 31, answer, SHEET_DAY_NUMBER_ANSWER);
+}
+
 static function *called;
 
 /* By every symbol at counts 1 to 12, alone and again and again with a slash between, and by the longest run of it. */
@@ -125,5 +136,6 @@ int main(void) {
     all &= holds("units", tell_units);
     all &= holds("check", check);
     all &= holds("parse_offset, was_read", parse_offset);
+    all &= holds("day, day_number", days);
     return all ? 0 : 1;
 }

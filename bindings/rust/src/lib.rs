@@ -2,6 +2,7 @@
 
 mod checking;
 mod choices;
+mod days;
 mod explaining;
 mod fields;
 mod reading;
@@ -14,6 +15,7 @@ pub mod raw;
 
 pub use checking::{check, check_with, Verdict};
 pub use choices::{Choices, Edition};
+pub use days::{day_number, day_of, Day};
 pub use explaining::{explain, explain_date, explain_with};
 pub use fields::Fields;
 pub use reading::{parse_offset, read, read_date, read_with, ParseUnit, Reading};

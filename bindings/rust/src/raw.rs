@@ -31,6 +31,10 @@ pub const UNITS_ANSWER: usize = 2;
 pub const UNITS_ROW: usize = 256;
 /// How many entries of `answer` a check asks for.
 pub const CHECK_ANSWER: usize = 10;
+/// How many entries of `answer` [`sheet_day`] asks for.
+pub const DAY_ANSWER: usize = 6;
+/// How many entries of `answer` [`sheet_day_number`] asks for.
+pub const DAY_NUMBER_ANSWER: usize = 2;
 
 /// What is returned where an answer is accepted.
 pub const ACCEPTED: u32 = 0;
@@ -52,6 +56,8 @@ pub const OFFSET_RANGE: u32 = 13;
 pub const CURRENT_YEAR: u32 = 14;
 pub const LITERAL_DIFFERS: u32 = 15;
 pub const TEXT_LEFT: u32 = 16;
+pub const NO_SUCH_DAY: u32 = 17;
+pub const NO_DAY_NUMBER: u32 = 18;
 pub const PLUS_SIGN: u32 = 19;
 
 /// What is returned where a lent row is too small; then nothing is altered.
@@ -180,6 +186,8 @@ extern "C" {
         answer: *mut i64,
         answer_len: usize,
     ) -> u32;
+    pub fn sheet_day(number: i32, answer: *mut i64, answer_len: usize) -> u32;
+    pub fn sheet_day_number(year: i32, month: u32, day: u32, answer: *mut i64, answer_len: usize) -> u32;
 }
 
 /// What a number that was returned says, in words that need no details.
@@ -202,6 +210,8 @@ pub fn refusal_text(number: u32) -> &'static str {
         CURRENT_YEAR => "the current year is not from 1 to 9999, or from 81 in the second edition",
         LITERAL_DIFFERS => "the text differs from the literal that should stand there",
         TEXT_LEFT => "the text goes on where the pattern ends",
+        NO_SUCH_DAY => "there is no such day",
+        NO_DAY_NUMBER => "the day's number doesn't fit 32 signed bits",
         PLUS_SIGN => "the text has a plus in front of a number",
         ROW_TOO_SMALL => "a row for the answer is too small",
         NO_SUCH_CHOICE => "there is no such choice",

@@ -22,6 +22,8 @@ use std::fmt;
 /// | 14 | the current year is not 1 to 9999, in the second edition 81 to 9999 | that year |
 /// | 15 | a literal differs, in a strict read | part, place |
 /// | 16 | text is left over, in a strict read | place of its first byte |
+/// | 17 | there is no such day | 0 |
+/// | 18 | the number of a day doesn't fit 32 signed bits | 0 |
 /// | 19 | a number begins with a plus | part, place |
 ///
 /// ```
@@ -60,7 +62,7 @@ pub(crate) fn current_years(edition: Edition) -> &'static str {
 }
 
 impl Refusal {
-    /// The number, 1 to 16 or 19.
+    /// The number, 1 to 19.
     pub fn number(&self) -> u32 {
         self.number
     }
@@ -91,6 +93,11 @@ impl Refusal {
         )
     }
 
+    /// Its detail is then 0, and says no more.
+    fn is_of_a_day(&self) -> bool {
+        matches!(self.number, raw::NO_SUCH_DAY | raw::NO_DAY_NUMBER)
+    }
+
     /// A refusal where the number returned is one; its details are the first entries of the row.
     pub(crate) fn unless_accepted(number: u32, answer: &[i64]) -> Result<(), Refusal> {
         match number {
@@ -105,6 +112,9 @@ impl Refusal {
 
 impl fmt::Display for Refusal {
     fn fmt(&self, f: &mut fmt::Formatter<'_>) -> fmt::Result {
+        if self.is_of_a_day() {
+            return f.write_str(self.text());
+        }
         let [detail, place] = self.details;
         let details = match self.number {
             raw::PATTERN_TOO_LONG | raw::TEXT_TOO_LONG | raw::OFFSET_LENGTH => format!("it has {detail} bytes"),

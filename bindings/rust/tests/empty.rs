@@ -134,6 +134,25 @@ fn of_the_reader_with_choices() {
     assert_eq!(read_with(8, b"", b"", &mut []), raw::NO_SUCH_CHOICE);
 }
 
+fn day(number: i32, answer: &mut [i64]) -> u32 {
+    let (answer, entries) = row(answer);
+    // SAFETY: as for a write.
+    unsafe { raw::sheet_day(number, answer, entries) }
+}
+
+fn day_number(year: i32, answer: &mut [i64]) -> u32 {
+    let (answer, entries) = row(answer);
+    // SAFETY: as for a write.
+    unsafe { raw::sheet_day_number(year, 1, 2, answer, entries) }
+}
+
+#[test]
+fn of_days() {
+    gives(|row| day(-1, row), raw::ACCEPTED, -1, 12);
+    gives(|row| day_number(1, row), raw::ACCEPTED, 1, 0);
+    gives(|row| day_number(0, row), raw::NO_SUCH_DAY, 0, 0);
+}
+
 #[test]
 fn of_the_others() {
     gives(|row| parse_offset(b"", row), raw::OFFSET_LENGTH, 0, 0);

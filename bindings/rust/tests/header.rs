@@ -64,7 +64,7 @@ fn version() {
 fn texts_of_refusals() {
     let (by_number, of_others) = texts();
     let numbers: Vec<u32> = by_number.keys().copied().collect();
-    assert_eq!(numbers, (0..=16).chain([19, 100, 101]).collect::<Vec<_>>());
+    assert_eq!(numbers, (0..=19).chain([100, 101]).collect::<Vec<_>>());
     for number in (0..=1000).chain([u32::MAX]) {
         assert_eq!(
             raw::refusal_text(number),
@@ -85,6 +85,7 @@ fn constants() {
     ours.extend(of_raw!(LONGEST_PATTERN LONGEST_TEXT BYTES_A_PATTERN_BYTE MOST_STACK));
     ours.extend(of_raw!(WRITE_ANSWER READ_ANSWER READ_VALUES READ_STARTS READ_ENDS OFFSET_ANSWER CHECK_ANSWER));
     ours.extend(of_raw!(SPLIT_ANSWER SPLIT_PARTS UNITS_ANSWER UNITS_ROW LITERAL CARRIES_NOTHING));
+    ours.extend(of_raw!(DAY_ANSWER DAY_NUMBER_ANSWER NO_SUCH_DAY NO_DAY_NUMBER));
     ours.extend(of_raw!(ACCEPTED PATTERN_TOO_LONG PATTERN_BYTE LONE_QUOTE FIELD_RANGE NO_ROOM TEXT_TOO_LONG TEXT_BYTE));
     ours.extend(of_raw!(TOO_FEW NO_NUMBER NO_NAME NO_SIGN OFFSET_LENGTH OFFSET_RANGE CURRENT_YEAR PLUS_SIGN));
     ours.extend(of_raw!(LITERAL_DIFFERS TEXT_LEFT ROW_TOO_SMALL NO_SUCH_CHOICE DATE_PAIR STRICT SECOND_EDITION));

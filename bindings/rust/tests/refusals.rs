@@ -1,7 +1,8 @@
 //! Each refusal, by a call that gives it: its number, its details and its sentence.
 
 use sheet::{
-    check, check_with, parse_offset, read, read_with, split, write, write_into, Choices, Edition, Fields, Refusal,
+    check, check_with, day_number, parse_offset, read, read_with, split, write, write_into, Choices, Edition, Fields,
+    Refusal,
 };
 use std::error::Error;
 use std::fmt::Debug;
@@ -240,6 +241,18 @@ fn of_a_current_year_among_others() {
     for text in ["3".repeat(2049), "\u{e9}".to_string(), String::new()] {
         assert_eq!(number("d", &text), Err(14));
     }
+}
+
+/// The detail is 0, and the sentence has none.
+#[test]
+fn of_a_day() {
+    refused(day_number(2025, 2, 29), 17, &[0], "there is no such day");
+    refused(
+        day_number(5_879_611, 7, 13),
+        18,
+        &[0],
+        "the day's number doesn't fit 32 signed bits",
+    );
 }
 
 #[test]

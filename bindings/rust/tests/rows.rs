@@ -317,6 +317,43 @@ fn what_a_check_has_in_each_edition() {
     assert_eq!((number, &second[..5]), (raw::ACCEPTED, &[0, 0, 1_000_001, 2, 5][..]));
 }
 
+fn day(number: i32, answer: &mut [i64]) -> u32 {
+    // SAFETY: the pointer goes with the length of the slice that it comes from.
+    unsafe { raw::sheet_day(number, answer.as_mut_ptr(), answer.len()) }
+}
+
+fn day_number(year: i32, month: u32, day: u32, answer: &mut [i64]) -> u32 {
+    // SAFETY: the pointer goes with the length of the slice that it comes from.
+    unsafe { raw::sheet_day_number(year, month, day, answer.as_mut_ptr(), answer.len()) }
+}
+
+#[test]
+fn of_the_day() {
+    for number in [i32::MIN, -1, 0, 739_587, i32::MAX] {
+        asks_for(raw::DAY_ANSWER, raw::ACCEPTED, |row| day(number, row));
+    }
+    let mut row = [MARK; raw::DAY_ANSWER + REST];
+    assert_eq!(day(739_587, &mut row), raw::ACCEPTED);
+    assert_eq!(row, [2025, 12, 3, 337, 49, 3, MARK, MARK, MARK]);
+}
+
+/// Refused, both entries are 0; where the row is too small that is told first.
+#[test]
+fn of_the_number_of_a_day() {
+    for (date, number, first) in [
+        ((2025, 12, 3), raw::ACCEPTED, 739_587),
+        ((-1, 12, 31), raw::ACCEPTED, -1),
+        ((2025, 2, 29), raw::NO_SUCH_DAY, 0),
+        ((5_879_611, 7, 13), raw::NO_DAY_NUMBER, 0),
+    ] {
+        let (year, month, day) = date;
+        asks_for(raw::DAY_NUMBER_ANSWER, number, |row| day_number(year, month, day, row));
+        let mut row = [MARK; raw::DAY_NUMBER_ANSWER + 1];
+        assert_eq!(day_number(year, month, day, &mut row), number);
+        assert_eq!(row, [first, 0, MARK]);
+    }
+}
+
 /// The function has two rows, of 2 and of so many entries: where one is too small, the other keeps its entries.
 #[track_caller]
 fn asks_for_two(entries: usize, call: fn(&[u8], &mut [i64], &mut [i64]) -> u32) {

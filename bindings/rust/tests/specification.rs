@@ -1,6 +1,6 @@
 //! The samples in the tables of docs/SPECIFICATION.md, each put to the library.
 
-use sheet::{Choices, Edition, Fields, ParseUnit, Reading, Refusal, Verdict};
+use sheet::{Choices, Day, Edition, Fields, ParseUnit, Reading, Refusal, Verdict};
 
 const SPECIFICATION: &str = include_str!("../../../docs/SPECIFICATION.md");
 
@@ -320,6 +320,38 @@ fn checked_in_editions(row: &[&str]) -> Vec<Sample> {
         .to_vec()
 }
 
+/// A date as `2025-12-03`, with a minus before a year before 1.
+fn date(day: &Day) -> String {
+    let sign = if day.year < 0 { "-" } else { "" };
+    format!("{sign}{:04}-{:02}-{:02}", day.year.unsigned_abs(), day.month, day.day)
+}
+
+/// A day's number, and what the calendar says of the day.
+fn of_day(row: &[&str]) -> Vec<Sample> {
+    let day = sheet::day_of(number(row[0]));
+    let answers = [
+        date(&day),
+        day.day_of_year.to_string(),
+        day.week.to_string(),
+        day.weekday.to_string(),
+    ];
+    row[1..].iter().map(|sample| sample.to_string()).zip(answers).collect()
+}
+
+/// A date, also one that is not there, and its number.
+fn of_day_number(row: &[&str]) -> Sample {
+    let words: Vec<&str> = row[0].rsplitn(3, '-').collect();
+    let [day, month, year] = words[..] else {
+        panic!("{row:?}")
+    };
+    let unsigned = |word: &str| word.parse().expect("a number without a sign");
+    let answer = match sheet::day_number(number(year), unsigned(month), unsigned(day)) {
+        Ok(number) => number.to_string(),
+        Err(refusal) => format!("refused {}", refusal.number()),
+    };
+    (row[1].replace(',', ""), answer)
+}
+
 /// Under its own heading a sample is of a strict reading.
 fn choices(heading: &str) -> Choices {
     match heading {
@@ -363,6 +395,8 @@ fn samples(table: &Table, row: &[&str]) -> Vec<Sample> {
         }
         (["P", "What", ..], _) => vec![of_sheet(row)],
         (["Year" | "Text", ..], " y, year") => of_two_digits(table, row),
+        (["Number", "Day", "Day of year", "Week", "Weekday"], _) => of_day(row),
+        (["Year, month, day", "Answer"], _) => vec![of_day_number(row)],
         _ => vec![],
     }
 }
@@ -455,6 +489,49 @@ fn spans_have_their_own_samples() {
         assert_eq!(held(&document(heading, given, right)), (1, vec![]));
         let (_, differing) = held(&document(heading, given, wrong));
         assert_eq!(differing, [(wrong.to_string(), right.to_string())]);
+    }
+}
+
+/// A document of one row under its columns.
+fn one_row(columns: &str, row: &str) -> String {
+    let line = "---|".repeat(columns.matches('|').count() - 1);
+    format!("## Day numbers\n\n{columns}\n|{line}\n{row}\n")
+}
+
+#[test]
+fn days_have_their_own_samples() {
+    let columns = "| Number | Day | Day of year | Week | Weekday |";
+    for row in [
+        "| 0 | 0001-01-01 | 1 | 1 | 1 |",
+        "| -1 | -0001-12-31 | 366 | 52 | 0 |",
+        "| 2,147,483,647 | 5879611-07-12 | 193 | 28 | 2 |",
+        "| -2147483648 | -5879611-06-23 | 174 | 25 | 6 |",
+    ] {
+        assert_eq!(held(&one_row(columns, row)), (4, vec![]));
+        for wrong in 2..=5 {
+            let mut cells: Vec<&str> = row.split('|').collect();
+            cells[wrong] = " 9 ";
+            let (tried, differing) = held(&one_row(columns, &cells.join("|")));
+            assert_eq!((tried, differing.len(), differing[0].0.as_str()), (4, 1, "9"));
+        }
+    }
+}
+
+#[test]
+fn numbers_of_days_have_their_own_samples() {
+    let columns = "| Year, month, day | Answer |";
+    for (date, right) in [
+        ("2025-12-03", "739587"),
+        ("2025-12-03", "739,587"),
+        ("-0001-12-31", "-1"),
+        ("2025-02-29", "refused 17"),
+        ("0000-01-01", "refused 17"),
+        ("5879611-07-12", "2147483647"),
+        ("-5879611-06-22", "refused 18"),
+    ] {
+        assert_eq!(held(&one_row(columns, &format!("| {date} | {right} |"))), (1, vec![]));
+        let (_, differing) = held(&one_row(columns, &format!("| {date} | 0 |")));
+        assert_eq!(differing, [("0".to_string(), right.replace(',', ""))]);
     }
 }
 

@@ -34,6 +34,9 @@ pub else-assoc : (a b c : Checked) → ((a else b) else c) ≡ (a else (b else c
 else-assoc Fine b c = refl
 else-assoc (Refused why) b c = refl
 
+pub within-is : (low high n : ℕ) → within low high n ≡ true → (low ≤ n) × (n ≤ high)
+within-is low high n t = let w = both-true (leb low n) (leb n high) t in (leb-true low n (w .0), leb-true n high (w .1))
+
 pub fine-unless : (t : Bool) (why : Refusal) → refuseUnless t why ≡ Fine → t ≡ true
 fine-unless true why h = refl
 fine-unless false why h = absurd (not-fine why h)

@@ -1,5 +1,6 @@
 -- A promise that equates a result with a definition determines it: two results that it allows coincide, and so do two outputs.
--- Then the promise of each public function; that of the check is `answers-coincide` in `trust`.
+-- Then the promise of each public function; that of the check is `answers-coincide` in `trust`, that of the day of a number
+-- `days-coincide` in `DayNumbers`.
 use mathlib.Core.Bool.{Bool}
 use mathlib.Core.List.{List}
 use mathlib.Core.Path.{_≡_, sym, _∙_}
@@ -7,8 +8,9 @@ use Prim.Native.Nat.{ℕ}
 use lib.IntN.{ℤ}
 use Rattle.meaning.specs.Answers.{Answer}
 use Rattle.meaning.specs.Names.{Book}
-use Rattle.meaning.specs.Promises.{SameAnswer, Splits, Writes, Reads, ParsesOffset, TellsRead}
+use Rattle.meaning.specs.Promises.{SameAnswer, Splits, Writes, Reads, ParsesOffset, TellsRead, NumbersDay}
 use Rattle.meaning.specs.declared.Choices.{Choices}
+use Rattle.meaning.specs.declared.DayNumber.{DayNumber}
 use Rattle.meaning.specs.declared.Fields.{Fields}
 use Rattle.meaning.specs.declared.Offset.{Offset}
 use Rattle.meaning.specs.declared.Pair.{Pair}
@@ -43,3 +45,7 @@ offsets-coincide s = same-determined
 -- reader::record::was_read
 pub told-coincide : (mask : ℕ) (unit : ParseUnit) {r s : Bool} → TellsRead mask unit r → TellsRead mask unit s → r ≡ s
 told-coincide mask unit = determined
+
+-- calendar::day_number
+pub day-numbers-coincide : (year : ℤ) (month day : ℕ) {r s : DayNumber} → NumbersDay year month day r → NumbersDay year month day s → r ≡ s
+day-numbers-coincide year month day = same-determined

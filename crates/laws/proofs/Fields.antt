@@ -16,8 +16,8 @@ use Rattle.meaning.specs.declared.Quantity.{Quantity}
 use Rattle.meaning.specs.declared.Quantity.the-variants.{Month, Quarter, Week, Day, DayOfYear, Weekday, WeekdayFromMonday, Hour1To12, Hour0To11, Hour0To23, Hour1To24, Minute, Second, Fraction}
 use Rattle.meaning.specs.declared.Refusal.{Refusal}
 use Rattle.laws.specs.Widths.{mostDigits}
-use Rattle.laws.proofs.Checks.{else-fine, fine-unless}
-use Rattle.laws.proofs.Tests.{by-test, both-true}
+use Rattle.laws.proofs.Checks.{else-fine, within-is, fine-unless}
+use Rattle.laws.proofs.Tests.{by-test}
 
 pub record Allowed (f : Fields) : Type 0 where
   pub year : (1 ≤ natAbs (f .year)) × (natAbs (f .year) ≤ 5879611)
@@ -34,13 +34,10 @@ in-range : (low high n : ℕ) (why : Refusal) (next : Checked) → (refuseUnless
     → ((low ≤ n) × (n ≤ high)) × (next ≡ Fine)
 in-range low high n why next h =
     let t = else-fine (refuseUnless (within low high n) why) next h in
-    let w = both-true (leb low n) (leb n high) (fine-unless (within low high n) why (t .0)) in
-    ((leb-true low n (w .0), leb-true n high (w .1)), t .1)
+    (within-is low high n (fine-unless (within low high n) why (t .0)), t .1)
 
 last-in-range : (low high n : ℕ) (why : Refusal) → refuseUnless (within low high n) why ≡ Fine → (low ≤ n) × (n ≤ high)
-last-in-range low high n why h =
-    let w = both-true (leb low n) (leb n high) (fine-unless (within low high n) why h) in
-    (leb-true low n (w .0), leb-true n high (w .1))
+last-in-range low high n why h = within-is low high n (fine-unless (within low high n) why h)
 
 pub allowed : (f : Fields) → fieldsCheck f ≡ Fine → Allowed f
 unfolding fieldsCheck

@@ -102,3 +102,7 @@ tabulated-from f (suc n) i (suc k) h = tabulated-from f n (suc i) k (omega arith
 
 pub tabulated : (f : ℕ → ℕ) (n k : ℕ) → k < n → getD (tabulate f n 0) k 0 ≡ f k
 tabulated f n k h = tabulated-from f n 0 k h ∙ ap f (omega arith)
+
+-- two functions whose tables are the same agree on each entry
+pub tables-agree : (f g : ℕ → ℕ) (n k : ℕ) → tabulate f n 0 ≡ tabulate g n 0 → k < n → f k ≡ g k
+tables-agree f g n k e h = sym (tabulated f n k h) ∙ ap (λ (l : List ℕ). getD l k 0) e ∙ tabulated g n k h

@@ -8,19 +8,21 @@ use Prim.Native.Nat.{ℕ}
 use lib.Dec.{eqb}
 use lib.IntN.{ℤ, pos, natAbs}
 use lib.ListN.{getD}
-use Rattle.meaning.specs.Answers.{number, details, Answer, refused, answerBy, wroteAnswer, offsetAnswer, verdictAnswer}
+use Rattle.meaning.specs.Answers.{number, details, Answer, refused, answerBy, wroteAnswer, offsetAnswer, dayNumberAnswer, verdictAnswer}
 use Rattle.meaning.specs.Bytes.{when}
 use Rattle.meaning.specs.Names.{Book}
 use Rattle.meaning.specs.Promises.{SameAnswer}
 use Rattle.meaning.specs.Trust.{SaysOf, Says, trustCheck}
 use Rattle.meaning.specs.declared.Checked.{Checked}
 use Rattle.meaning.specs.declared.Checked.the-variants as checked
+use Rattle.meaning.specs.declared.DayNumber.{DayNumber}
+use Rattle.meaning.specs.declared.DayNumber.the-variants as dayNumber
 use Rattle.meaning.specs.declared.Edition.{Edition}
 use Rattle.meaning.specs.declared.Fields.{Fields}
 use Rattle.meaning.specs.declared.Offset.{Offset}
 use Rattle.meaning.specs.declared.Offset.the-variants as offset
 use Rattle.meaning.specs.declared.Refusal.{Refusal}
-use Rattle.meaning.specs.declared.Refusal.the-variants.{PatternTooLong, PatternByte, LoneQuote, FieldRange, NoRoom, TextTooLong, TextByte, InPart, OffsetLength, OffsetRange, CurrentYear, TextLeft}
+use Rattle.meaning.specs.declared.Refusal.the-variants.{PatternTooLong, PatternByte, LoneQuote, FieldRange, NoRoom, TextTooLong, TextByte, InPart, OffsetLength, OffsetRange, CurrentYear, TextLeft, NoSuchDay, NoDayNumber}
 use Rattle.meaning.specs.declared.Trouble.{Trouble}
 use Rattle.meaning.specs.declared.Trouble.the-variants.{TooFew, NoNumber, NoName, NoSign, LiteralDiffers, PlusSign}
 use Rattle.meaning.specs.declared.Verdict.{Verdict}
@@ -63,8 +65,8 @@ table =
     ∷ (λ ds. CurrentYear (getD ds 0 (pos 0)))
     ∷ (λ ds. InPart LiteralDiffers (one ds) (two ds))
     ∷ (λ ds. TextLeft (one ds))
-    ∷ unused
-    ∷ unused
+    ∷ (λ ds. NoSuchDay)
+    ∷ (λ ds. NoDayNumber)
     ∷ (λ ds. InPart PlusSign (one ds) (two ds))
     ∷ []
 
@@ -99,6 +101,8 @@ found (OffsetLength n) = record { again = refl; not-0 = refl }
 found (OffsetRange which) = record { again = refl; not-0 = refl }
 found (CurrentYear year) = record { again = refl; not-0 = refl }
 found (TextLeft place) = record { again = refl; not-0 = refl }
+found NoSuchDay = record { again = refl; not-0 = refl }
+found NoDayNumber = record { again = refl; not-0 = refl }
 
 pub refusal-number : (why : Refusal) → eqb (number why) 0 ≡ false
 refusal-number why = found why .not-0
@@ -146,6 +150,17 @@ offset-again (offset.Refused why) =
 pub offsets-told-apart : (a b : Offset) → offsetAnswer a ≡ offsetAnswer b → a ≡ b
 offsets-told-apart = told-apart offsetAnswer offsetOf offset-again
 
+abbrev dayNumberOf : Answer → DayNumber
+dayNumberOf = answerOf (λ vs. dayNumber.Number (getD vs 0 (pos 0))) (λ why. dayNumber.Refused why)
+
+day-number-again : (d : DayNumber) → dayNumberOf (dayNumberAnswer d) ≡ d
+day-number-again (dayNumber.Number z) = refl
+day-number-again (dayNumber.Refused why) =
+    refused-again (λ vs. dayNumber.Number (getD vs 0 (pos 0))) (λ w. dayNumber.Refused w) why
+
+pub day-numbers-told-apart : (a b : DayNumber) → dayNumberAnswer a ≡ dayNumberAnswer b → a ≡ b
+day-numbers-told-apart = told-apart dayNumberAnswer dayNumberOf day-number-again
+
 abbrev fieldsOf : List ℤ → Fields
 fieldsOf vs =
     record {
@@ -183,6 +198,9 @@ wrote-by-told r d e = record { told = e; whole = wrotes-told-apart r d e }
 
 pub offset-by-told : (r d : Offset) → offsetAnswer r ≡ offsetAnswer d → SameAnswer offsetAnswer r d
 offset-by-told r d e = record { told = e; whole = offsets-told-apart r d e }
+
+pub day-number-by-told : (r d : DayNumber) → dayNumberAnswer r ≡ dayNumberAnswer d → SameAnswer dayNumberAnswer r d
+day-number-by-told r d e = record { told = e; whole = day-numbers-told-apart r d e }
 
 -- the check: the first of its checks that refuses, or what its yes or no returns
 pub says-told : (edition : Edition) (book : Book) (p : List ℕ) (current : ℤ) (v : Verdict) → Says edition book p current v

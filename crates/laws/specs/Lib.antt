@@ -1,4 +1,6 @@
+pub mod CalendarLine
 pub mod Halves
 pub mod Laid
+pub mod NextDays
 pub mod Spans
 pub mod Widths

@@ -1,3 +1,4 @@
+pub mod Calendar
 pub mod Editions
 pub mod Minus
 pub mod Names
@@ -7,3 +8,4 @@ pub mod Spans
 pub mod Strict
 pub mod Tables
 pub mod Units
+pub mod Weeks

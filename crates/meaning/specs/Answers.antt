@@ -1,5 +1,6 @@
 -- Specification, "Answer numbers": each refusal's number and what it returns; the number and the values of each kind of answer;
--- and the checks that give refusals 1 to 7, 14 and 16. The checks of a function stand in its order, in Whole.
+-- and the checks that give refusals 1 to 7, 14 and 16. The checks of a function stand in its order, in Whole; those of a day's number
+-- in Days.
 use mathlib.Core.Bool.{Bool, true, false}
 use mathlib.Core.List.{List, [], _∷_, _++_, map}
 use Prim.Native.Nat.{ℕ, suc, _-_}
@@ -11,6 +12,9 @@ use Rattle.meaning.specs.Splitting.{Content, run, quotes, quoted, unclos
 use Rattle.meaning.specs.Writing.{isNegative}
 use Rattle.meaning.specs.declared.Checked.{Checked}
 use Rattle.meaning.specs.declared.Checked.the-variants.{Fine, Refused}
+use Rattle.meaning.specs.declared.Day.{Day}
+use Rattle.meaning.specs.declared.DayNumber.{DayNumber}
+use Rattle.meaning.specs.declared.DayNumber.the-variants as dayNumber
 use Rattle.meaning.specs.declared.Edition.{Edition}
 use Rattle.meaning.specs.declared.Edition.the-variants.{First, Second}
 use Rattle.meaning.specs.declared.Fields.{Fields}
@@ -18,7 +22,7 @@ use Rattle.meaning.specs.declared.Offset.{Offset}
 use Rattle.meaning.specs.declared.Offset.the-variants as offset
 use Rattle.meaning.specs.declared.Reading.{Reading}
 use Rattle.meaning.specs.declared.Refusal.{Refusal}
-use Rattle.meaning.specs.declared.Refusal.the-variants.{PatternTooLong, PatternByte, LoneQuote, FieldRange, NoRoom, TextTooLong, TextByte, InPart, OffsetLength, OffsetRange, CurrentYear, TextLeft}
+use Rattle.meaning.specs.declared.Refusal.the-variants.{PatternTooLong, PatternByte, LoneQuote, FieldRange, NoRoom, TextTooLong, TextByte, InPart, OffsetLength, OffsetRange, CurrentYear, TextLeft, NoSuchDay, NoDayNumber}
 use Rattle.meaning.specs.declared.Split.{Split}
 use Rattle.meaning.specs.declared.Trouble.{Trouble}
 use Rattle.meaning.specs.declared.Trouble.the-variants.{TooFew, NoNumber, NoName, NoSign, LiteralDiffers, PlusSign}
@@ -48,6 +52,8 @@ number (OffsetLength n) = 12
 number (OffsetRange which) = 13
 number (CurrentYear year) = 14
 number (TextLeft place) = 16
+number NoSuchDay = 17
+number NoDayNumber = 18
 
 -- what is returned with the number, in the table's order
 unfoldable pub details : Refusal → List ℤ
@@ -63,6 +69,8 @@ details (OffsetLength n) = pos n ∷ []
 details (OffsetRange which) = pos which ∷ []
 details (CurrentYear year) = year ∷ []
 details (TextLeft place) = pos place ∷ []
+details NoSuchDay = pos 0 ∷ []
+details NoDayNumber = pos 0 ∷ []
 
 -- an answer's number, 0 where it is accepted, and what is returned with it
 pub record Answer : Type 0 where
@@ -103,6 +111,16 @@ offsetAnswer (offset.Refused why) = refused why
 abbrev pub fieldNumbers : Fields → List ℤ
 fieldNumbers f =
     f .year ∷ pos (f .month) ∷ pos (f .day) ∷ pos (f .doy) ∷ pos (f .week) ∷ pos (f .wday) ∷ pos (f .nanos) ∷ f .offset ∷ []
+
+-- the day's number
+abbrev pub dayNumberAnswer : DayNumber → Answer
+dayNumberAnswer (dayNumber.Number z) = accepted (z ∷ [])
+dayNumberAnswer (dayNumber.Refused why) = refused why
+
+-- the six fields of a day
+abbrev pub dayAnswer : Day → Answer
+dayAnswer d =
+    accepted (d .year ∷ pos (d .month) ∷ pos (d .day) ∷ pos (d .doy) ∷ pos (d .week) ∷ pos (d .wday) ∷ [])
 
 -- 1 for yes; 0 for no, with the part and a record for which it fails
 abbrev pub verdictAnswer : Verdict → Answer

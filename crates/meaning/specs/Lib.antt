@@ -12,4 +12,7 @@ pub mod Whole
 pub mod Pluses
 pub mod Minus
 pub mod Trust
+pub mod Calendar
+pub mod Weeks
+pub mod Days
 pub mod Promises

@@ -1,14 +1,16 @@
 -- Specification, "How tight the promises are": what each public function promises of its answer r and, where it is lent an
--- output, of the output afterwards. That of the check is `Says` in `Trust`.
+-- output, of the output afterwards. That of the check is `Says` in `Trust`, that of the day of a number `DayOf` in `Days`.
 use mathlib.Core.Bool.{Bool}
 use mathlib.Core.List.{List}
 use mathlib.Core.Path.{_≡_}
 use Prim.Native.Nat.{ℕ}
 use lib.IntN.{ℤ}
-use Rattle.meaning.specs.Answers.{Answer, splitAnswer, wroteAnswer, readAnswer, offsetAnswer}
+use Rattle.meaning.specs.Answers.{Answer, splitAnswer, wroteAnswer, readAnswer, offsetAnswer, dayNumberAnswer}
+use Rattle.meaning.specs.Days.{dayNumber}
 use Rattle.meaning.specs.Names.{Book}
 use Rattle.meaning.specs.Whole.{split, write, output, read, parseOffset, unitNumber, marked}
 use Rattle.meaning.specs.declared.Choices.{Choices}
+use Rattle.meaning.specs.declared.DayNumber.{DayNumber}
 use Rattle.meaning.specs.declared.Fields.{Fields}
 use Rattle.meaning.specs.declared.Offset.{Offset}
 use Rattle.meaning.specs.declared.Pair.{Pair}
@@ -37,3 +39,6 @@ ParsesOffset s r = SameAnswer offsetAnswer r (parseOffset s)
 
 abbrev pub TellsRead : ℕ → ParseUnit → Bool → Type 0
 TellsRead mask unit r = r ≡ marked mask (unitNumber unit)
+
+abbrev pub NumbersDay : ℤ → ℕ → ℕ → DayNumber → Type 0
+NumbersDay year month day r = SameAnswer dayNumberAnswer r (dayNumber year month day)

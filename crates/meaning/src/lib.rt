@@ -219,6 +219,8 @@ pub enum Refusal {
     OffsetRange(u32),
     CurrentYear(i32),
     TextLeft(usize),
+    NoSuchDay,
+    NoDayNumber,
 }
 
 // What checks find.
@@ -255,5 +257,21 @@ pub enum Offset {
 pub enum Verdict {
     Yes,
     No { part: usize, record: Fields },
+    Refused(Refusal),
+}
+
+// A day of the calendar, in the order of the field record.
+pub struct Day {
+    pub year: i32,
+    pub month: u32,
+    pub day: u32,
+    pub doy: u32,
+    pub week: u32,
+    pub wday: u32,
+}
+
+// The answer of day_number.
+pub enum DayNumber {
+    Number(i32),
     Refused(Refusal),
 }

@@ -86,5 +86,7 @@ pub fn tell(why: Refusal) -> Told
             two: false,
         },
         Refusal::TextLeft(place) => with_one(16, place),
+        Refusal::NoSuchDay => with_one(17, 0),
+        Refusal::NoDayNumber => with_one(18, 0),
     }
 }

@@ -10,7 +10,9 @@ use lib.IntN.{ℤ, pos}
 use lib.ListN.{length, getD, take, drop}
 use lib.Seq.{sets-eq}
 use borrow.Author.Tests.{leb-true}
+use Rattle.laws.proofs.DayNumbers.{days-coincide}
 use Rattle.laws.proofs.Determined.{determined}
+use Rattle.laws.specs.CalendarLine.{Short}
 use Rattle.meaning.specs.Answers.{Answer, fieldNumbers, verdictAnswer}
 use Rattle.meaning.specs.Names.{english}
 use Rattle.meaning.specs.declared.Choices.{Choices}
@@ -20,7 +22,7 @@ use Rattle.meaning.specs.declared.Pair.{Pair}
 use Rattle.meaning.specs.declared.Verdict.{Verdict}
 use Rattle.meaning.specs.declared.Verdict.the-variants.{Yes, No, Refused}
 use Rattle.sheet.specs.Rows.{inRow, Given, editionOf, ofCheck}
-use Rattle.sheet.specs.Sheet.{has, ifRoom, ifChoices, verdictIn, SheetWrites, SheetReads, SheetReadsWith, SheetTellsRead, SheetParsesOffset, SheetSplits, SheetUnits, SheetChecks, SheetChecksWith}
+use Rattle.sheet.specs.Sheet.{has, ifRoom, ifChoices, verdictIn, SheetWrites, SheetReads, SheetReadsWith, SheetTellsRead, SheetParsesOffset, SheetSplits, SheetUnits, SheetChecks, SheetChecksWith, SheetDay, SheetDayNumber}
 use Rattle.trust.proofs.Agreement.{SameButRecord, answers-coincide}
 
 given-coincide : {answer : Answer} {old new new′ : List ℤ} {r r′ : ℕ} → Given answer old new r → Given answer old new′ r′ → (r ≡ r′) × (new ≡ new′)
@@ -61,6 +63,16 @@ pub units-coincide : (p : List ℕ) (row units : List ℤ) {r r′ : ℕ} {rowAf
     → SheetUnits p row units r rowAfter unitsAfter → SheetUnits p row units r′ rowAfter′ unitsAfter′
     → (r ≡ r′) × (rowAfter ≡ rowAfter′) × (unitsAfter ≡ unitsAfter′)
 units-coincide p row units = both-coincide
+
+pub day-rows-coincide : (z : ℤ) (row : List ℤ) → Short z → {r r′ : ℕ} {rowAfter rowAfter′ : List ℤ} → SheetDay z row r rowAfter
+    → SheetDay z row r′ rowAfter′ → (r ≡ r′) × (rowAfter ≡ rowAfter′)
+day-rows-coincide z row short a b =
+    let same = days-coincide z (a .day) (b .day) short (a .is) (b .is) in
+    given-coincide (a .given) (rw (← same) at (b .given))
+
+pub day-number-rows-coincide : (year : ℤ) (month day : ℕ) (row : List ℤ) {r r′ : ℕ} {rowAfter rowAfter′ : List ℤ}
+    → SheetDayNumber year month day row r rowAfter → SheetDayNumber year month day row r′ rowAfter′ → (r ≡ r′) × (rowAfter ≡ rowAfter′)
+day-number-rows-coincide year month day row = given-coincide
 
 -- the check
 

@@ -18,6 +18,8 @@ use Rattle.laws.proofs.Sizes as sizes
 use Rattle.laws.proofs.Tests.{when-is}
 use Rattle.meaning.specs.Answers.{_else_, refuseUnless, within, byteCheck, bytesCheck, endsInLoneQuote, patternCheck, fieldsCheck, roomCheck, textCheck, firstCurrentYear, currentYearCheck, restCheck, details}
 use Rattle.meaning.specs.Bytes.{when, both, plus}
+use Rattle.meaning.specs.Calendar.{isDate, dateNumber}
+use Rattle.meaning.specs.Days.{isShort, dayCheck, dayNumberBy, dayNumber}
 use Rattle.meaning.specs.Names.{Book, english}
 use Rattle.meaning.specs.Numerals.{Signed}
 use Rattle.meaning.specs.Readers.{Got, got, stopped}
@@ -37,11 +39,11 @@ use Rattle.meaning.specs.declared.Offset.{Offset}
 use Rattle.meaning.specs.declared.Offset.the-variants as offset
 use Rattle.meaning.specs.declared.Pair.{Pair}
 use Rattle.meaning.specs.declared.Pair.the-variants.{Full}
-use Rattle.meaning.specs.declared.Refusal.the-variants.{LoneQuote, FieldRange, NoRoom, TextTooLong, TextByte, OffsetLength, OffsetRange, CurrentYear}
+use Rattle.meaning.specs.declared.Refusal.the-variants.{LoneQuote, FieldRange, NoRoom, TextTooLong, TextByte, OffsetLength, OffsetRange, CurrentYear, NoSuchDay, NoDayNumber}
 use Rattle.meaning.specs.declared.Verdict.{Verdict}
 use Rattle.meaning.specs.declared.Verdict.the-variants as verdict
 use Rattle.sheet.proofs.entries.Fits.{else-fits, unless-fits, byte-fits, bytes-fit}
-use Rattle.sheet.specs.Fits.{NumberFits, CheckedFits, WroteFits, ReadFits, OffsetFits, VerdictFits}
+use Rattle.sheet.specs.Fits.{NumberFits, CheckedFits, WroteFits, ReadFits, OffsetFits, DayNumberFits, VerdictFits}
 use Rattle.parse.proofs.steps.Within.{Within, within-take}
 use Rattle.parse.proofs.rule.Within.{within-step}
 
@@ -193,6 +195,19 @@ offset-fits s h =
     (λ _. offset-by-fits six time (unless-fits (eqb (length s) 6) (OffsetLength (length s)) (h, tt))
     (time-fits (eqb (getD s 0 0) plus) (length (drop 1 s)) (length (drop 4 s)) (twoAt 1 s) (twoAt 4 s) (within-take Count 2 (drop 1 s)) (within-take Count 2 (drop 4 s))
     (omega (arith, length-drop 1 s)) (omega (arith, length-drop 4 s)))))
+
+-- the number of a day
+
+day-by-fits : (checked : Checked) (z : ℤ) → CheckedFits checked → DayNumberFits (dayNumberBy checked z)
+day-by-fits Fine z h = tt
+day-by-fits (Refused why) z h = h
+
+pub day-number-fits : (y : ℤ) (m d : ℕ) → DayNumberFits (dayNumber y m d)
+unfolding dayNumber details
+day-number-fits y m d =
+    day-by-fits (dayCheck y m d) (dateNumber y m d)
+    (else-fits (refuseUnless (isDate y m d) NoSuchDay) (refuseUnless (isShort (dateNumber y m d)) NoDayNumber) (unless-fits (isDate y m d) NoSuchDay (omega arith, tt))
+    (λ _. unless-fits (isShort (dateNumber y m d)) NoDayNumber (omega arith, tt)))
 
 -- the check
 

@@ -5,6 +5,8 @@ use lib.IntN.{ℤ, natAbs}
 use Rattle.meaning.specs.Answers.{details}
 use Rattle.meaning.specs.declared.Checked.{Checked}
 use Rattle.meaning.specs.declared.Checked.the-variants.{Fine, Refused}
+use Rattle.meaning.specs.declared.DayNumber.{DayNumber}
+use Rattle.meaning.specs.declared.DayNumber.the-variants as day
 use Rattle.meaning.specs.declared.Offset.{Offset}
 use Rattle.meaning.specs.declared.Offset.the-variants as offset
 use Rattle.meaning.specs.declared.Reading.{Reading}
@@ -38,6 +40,10 @@ ReadFits r = NumberFits (r .taken) × CheckedFits (r .checked)
 abbrev pub OffsetFits : Offset → Type 0
 OffsetFits (offset.Seconds z) = Unit
 OffsetFits (offset.Refused why) = WhyFits why
+
+abbrev pub DayNumberFits : DayNumber → Type 0
+DayNumberFits (day.Number z) = Unit
+DayNumberFits (day.Refused why) = WhyFits why
 
 abbrev pub VerdictFits : Verdict → Type 0
 VerdictFits verdict.Yes = Unit

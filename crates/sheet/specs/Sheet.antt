@@ -7,12 +7,14 @@ use Prim.Native.Nat.{ℕ}
 use lib.Dec.{leb}
 use lib.IntN.{ℤ}
 use lib.ListN.{length}
-use Rattle.meaning.specs.Answers.{Answer, splitAnswer, wroteAnswer, readAnswer, offsetAnswer, verdictAnswer}
+use Rattle.meaning.specs.Answers.{Answer, splitAnswer, wroteAnswer, readAnswer, offsetAnswer, dayNumberAnswer, dayAnswer, verdictAnswer}
 use Rattle.meaning.specs.Bytes.{when, both}
+use Rattle.meaning.specs.Days.{DayOf, dayNumber}
 use Rattle.meaning.specs.Names.{english}
 use Rattle.meaning.specs.Trust.{Says}
 use Rattle.meaning.specs.Whole.{split, write, output, read, parseOffset}
 use Rattle.meaning.specs.declared.Choices.{Choices}
+use Rattle.meaning.specs.declared.Day.{Day}
 use Rattle.meaning.specs.declared.Edition.{Edition}
 use Rattle.meaning.specs.declared.Fields.{Fields}
 use Rattle.meaning.specs.declared.Pair.{Pair}
@@ -82,3 +84,13 @@ SheetChecks edition p current row = Checks edition p current (verdictIn row) row
 abbrev pub SheetChecksWith : ℕ → List ℕ → ℤ → List ℤ → ℕ → List ℤ → Type 0
 SheetChecksWith n p current row =
     Checks (editionOf n) p current (λ verdict. ifChoices (ofCheck n) (verdictIn row verdict)) row
+
+-- the day of a number
+pub record SheetDay (z : ℤ) (row : List ℤ) (r : ℕ) (rowAfter : List ℤ) : Type 0 where
+  pub day : Day
+  pub is : DayOf z day
+  pub given : Given (ifRoom (has 6 row) (inRow 6 (dayAnswer day))) row rowAfter r
+
+abbrev pub SheetDayNumber : ℤ → ℕ → ℕ → List ℤ → ℕ → List ℤ → Type 0
+SheetDayNumber year month day row r rowAfter =
+    Given (ifRoom (has 2 row) (inRow 2 (dayNumberAnswer (dayNumber year month day)))) row rowAfter r

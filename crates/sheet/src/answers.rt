@@ -64,11 +64,12 @@ pub fn give_wrote(wrote: Wrote, row: &mut [i64]) -> u32
     }
 }
 
-fn give_seconds(seconds: i32, row: &mut [i64]) -> u32
+// A number with a sign, then 0.
+pub fn give_signed(n: i32, row: &mut [i64]) -> u32
     requires { ⌜ 2 ≤ length (now row) ⌝ }
-    ensures { λ r. ⌜ Given (inRow 2 (accepted (seconds ∷ []))) (now (row .entry)) (now (row .exit)) r ⌝ }
+    ensures { λ r. ⌜ Given (inRow 2 (accepted (n ∷ []))) (now (row .entry)) (now (row .exit)) r ⌝ }
 {
-    lay(&[signed_entry(seconds), 0], row, 0);
+    lay(&[signed_entry(n), 0], row, 0);
     0
 }
 
@@ -77,7 +78,7 @@ pub fn give_offset(offset: Offset, row: &mut [i64]) -> u32
     ensures { λ r. ⌜ Given (inRow 2 (offsetAnswer offset)) (now (row .entry)) (now (row .exit)) r ⌝ }
 {
     match offset {
-        Offset::Seconds(seconds) => give_seconds(seconds, row),
+        Offset::Seconds(seconds) => give_signed(seconds, row),
         Offset::Refused(why) => give_refusal(why, 2, row),
     }
 }

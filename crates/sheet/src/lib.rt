@@ -1,6 +1,7 @@
 // The functions for C and Rust. Each that is lent a row returns 0 where it accepts and the specification's number where it refuses, and
 // lays its answer over the row's start. Where the row is too small for the answer it returns 100 and alters nothing.
 pub mod answers;
+pub mod days;
 pub mod entries;
 pub mod readings;
 pub mod splits;
@@ -8,9 +9,11 @@ pub mod units;
 pub mod verdicts;
 
 ghost use Rattle.meaning.specs.Whole.{plain};
-ghost use Rattle.sheet.specs.Sheet.{SheetWrites, SheetReads, SheetReadsWith, SheetParsesOffset, SheetSplits, SheetUnits, SheetChecks, SheetChecksWith, SheetTellsRead};
+ghost use Rattle.sheet.specs.Sheet.{SheetWrites, SheetReads, SheetReadsWith, SheetParsesOffset, SheetSplits, SheetUnits, SheetChecks, SheetChecksWith, SheetTellsRead, SheetDay, SheetDayNumber};
 use crate::answers::give_offset;
 use crate::answers::give_wrote;
+use crate::days::give_day;
+use crate::days::give_day_number;
 use crate::readings::choices_of;
 use crate::readings::edition_of;
 use crate::readings::give_reading;
@@ -18,6 +21,8 @@ use crate::readings::is_marked;
 use crate::splits::give_split;
 use crate::units::give_units;
 use crate::verdicts::give_verdict;
+use calendar::day_number;
+use calendar::day_of;
 use meaning::Choices;
 use meaning::Edition;
 use meaning::Fields;
@@ -215,4 +220,27 @@ pub extern "C" fn sheet_check_with(
         return 101;
     }
     check(edition_of(choices), pattern, year, answer)
+}
+
+// The day of a number; 0 is 1 January of year 1. The row: year, month, day, day of the year, week and weekday.
+#[no_mangle]
+pub extern "C" fn sheet_day(number: i32, answer: &mut [i64]) -> u32
+    ensures { λ r. ⌜ SheetDay number (now (answer .entry)) r (now (answer .exit)) ⌝ }
+{
+    let day = day_of(number);
+    if answer.len() < 6 {
+        return 100;
+    }
+    give_day(day, answer)
+}
+
+// The number of a day. The row: the number and 0, or the refusal's details.
+#[no_mangle]
+pub extern "C" fn sheet_day_number(year: i32, month: u32, day: u32, answer: &mut [i64]) -> u32
+    ensures { λ r. ⌜ SheetDayNumber year month day (now (answer .entry)) r (now (answer .exit)) ⌝ }
+{
+    if answer.len() <= 1 {
+        return 100;
+    }
+    give_day_number(day_number(year, month, day), answer)
 }

@@ -1,6 +1,7 @@
 //! Requests without end, the same for the same seed and ops.
 
 mod checks;
+mod days;
 mod fields;
 mod literals;
 mod offsets;
@@ -51,6 +52,10 @@ impl Iterator for Generator {
             Op::ParseOffset => Request::ParseOffset {
                 text: offsets::offset_text(random),
             },
+            Op::DayOf => Request::DayOf {
+                number: days::number(turn, random),
+            },
+            Op::DayNumber => days::date(turn, random),
             read => read_request(read.choices()?, turn, random),
         })
     }

@@ -99,6 +99,18 @@ enum-known-why-12 c = search needs
 with-one-requires-10 : tie.Need-with-one-requires-10
 with-one-requires-10 c κs = search needs
 
+enum-told : tie.Need-enum-told
+enum-told c = search needs
+
+with-one-requires-11 : tie.Need-with-one-requires-11
+with-one-requires-11 c κs = search needs
+
+enum-told-2 : tie.Need-enum-told-2
+enum-told-2 c = search needs
+
+with-one-requires-12 : tie.Need-with-one-requires-12
+with-one-requires-12 c κs = search needs
+
 returns : tie.Need-returns
 unfolding number details
 returns c = rw (c .with-one .ensures, c .before .before .why .given .1)
@@ -151,6 +163,14 @@ returns-12 : tie.Need-returns-12
 unfolding number details
 returns-12 c = rw (c .with-one10 .ensures, c .before .before .why12 .given .1)
 
+returns-13 : tie.Need-returns-13
+unfolding number details
+returns-13 c = rw (c .with-one11 .ensures, c .before .enum-told .given .1)
+
+returns-14 : tie.Need-returns-14
+unfolding number details
+returns-14 c = rw (c .with-one12 .ensures, c .before .enum-told2 .given .1)
+
 pub tell-spec : {M : Type 1} → statement M
 tell-spec =
     tie.close
@@ -186,6 +206,10 @@ tell-spec =
     detail-of-requires-3
     enum-known-why-12
     with-one-requires-10
+    enum-told
+    with-one-requires-11
+    enum-told-2
+    with-one-requires-12
     returns
     returns-2
     returns-3
@@ -197,4 +221,6 @@ tell-spec =
     returns-9
     returns-10
     returns-11
-    returns-12)
+    returns-12
+    returns-13
+    returns-14)

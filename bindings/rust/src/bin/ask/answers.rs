@@ -3,7 +3,7 @@
 use crate::lines::LONGEST;
 use crate::pair::Pair;
 use crate::words::Words;
-use crate::{checking, reading, splitting, writing};
+use crate::{checking, days, reading, splitting, writing};
 use sheet::Refusal;
 
 const BAD_REQUEST: &str = "bad request";
@@ -24,6 +24,8 @@ fn answer_to(line: &[u8]) -> Option<String> {
         b"read_date" => reading::answer(Pair::Date, words),
         b"parse_offset" => reading::answer_offset(words),
         b"check" => checking::answer(words),
+        b"day_of" => days::answer_day(words),
+        b"day_number" => days::answer_number(words),
         _ => None,
     }
 }
@@ -78,6 +80,12 @@ mod tests {
             "second",
             "split 79 second",
             "parse_offset 5a second",
+            "day_of",
+            "day_of 1 1",
+            "Day_of 1",
+            "day_number 1 1",
+            "day_number 1 1 1 1",
+            "day 1",
         ];
         for line in lines {
             assert_eq!(answer(line.as_bytes()), "bad request", "{line}");

@@ -3,6 +3,7 @@
 
 mod answers;
 mod checking;
+mod days;
 mod hex;
 mod lines;
 mod marks;

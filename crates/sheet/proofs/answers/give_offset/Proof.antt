@@ -8,8 +8,8 @@ use Rattle.sheet.proofs.answers.give_offset.Tie as tie
 enum-known-offset : tie.Need-enum-known-offset
 enum-known-offset c = search needs
 
-give-seconds-requires : tie.Need-give-seconds-requires
-give-seconds-requires c κs = search needs
+give-signed-requires : tie.Need-give-signed-requires
+give-signed-requires c κs = search needs
 
 enum-known-offset-2 : tie.Need-enum-known-offset-2
 enum-known-offset-2 c = search needs
@@ -24,7 +24,7 @@ returns : tie.Need-returns
 returns c =
     let z = c .before .before .before .before .offset .given .0 .0 in
     let bits = toZ-ofZ w32 z (record { sfits = c .before .before .before .known-told .given .0 .1 }) in
-    rw (c .before .before .before .before .offset .given .1) (rw bits at (c .before .give-seconds .ensures))
+    rw (c .before .before .before .before .offset .given .1) (rw bits at (c .before .give-signed .ensures))
 
 same-length-2 : tie.Need-same-length-2
 same-length-2 c = search needs
@@ -37,7 +37,7 @@ give-offset-spec =
     tie.close
     (tie.spec
     enum-known-offset
-    give-seconds-requires
+    give-signed-requires
     enum-known-offset-2
     give-refusal-requires
     same-length

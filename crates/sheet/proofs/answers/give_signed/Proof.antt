@@ -1,11 +1,11 @@
--- The row is the seconds and 0.
+-- The row is the number and 0.
 use mathlib.Core.Path.{refl, _∙_}
 use mir.Syntax.{w32}
 use mir.ValLaws.{toZ-ofZ}
 use Rattle.sheet.proofs.entries.Stored.{stored}
 use borrow.Author.Needs.{needs}
-use Rattle.sheet.proofs.answers.give_seconds.Statement.{statement}
-use Rattle.sheet.proofs.answers.give_seconds.Tie as tie
+use Rattle.sheet.proofs.answers.give_signed.Statement.{statement}
+use Rattle.sheet.proofs.answers.give_signed.Tie as tie
 
 signed-entry-requires : tie.Need-signed-entry-requires
 signed-entry-requires c κs = search needs
@@ -23,9 +23,9 @@ returns : tie.Need-returns
 returns c =
     let s = c .before .before .before .before .before in
     let entry = c .before .before .before .before .signed-entry in
-    let second = toZ-ofZ w32 (s .args .seconds) (s .fits .seconds) in
+    let second = toZ-ofZ w32 (s .args .n) (s .fits .n) in
     record { number = refl; row = c .before .lay .ensures ∙ rw (stored (entry .result) (entry .ok), entry .ensures, second) }
 
-pub give-seconds-spec : {M : Type 1} → statement M
-give-seconds-spec =
+pub give-signed-spec : {M : Type 1} → statement M
+give-signed-spec =
     tie.close (tie.spec signed-entry-requires slice-aggregate-lay lay-requires same-length returns)

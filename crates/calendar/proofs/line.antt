@@ -1,0 +1,2 @@
+pub mod Cycles
+pub mod Signed
