@@ -1,5 +1,6 @@
 //! Days and their numbers by the Rust's own calendar, `util/date/convert.rs`.
 
+use crate::calendar::Fields;
 use crate::guard::{guarded, Cause};
 use crate::util::date_itself::convert;
 
@@ -12,6 +13,22 @@ pub struct Day {
     pub day_of_year: u32,
     pub week: u32,
     pub weekday: u32,
+}
+
+impl Day {
+    /// The record of a time of the day, with an offset.
+    pub fn at(self, nanoseconds: u64, offset: i32) -> Fields {
+        Fields {
+            year: self.year,
+            month: self.month,
+            day: self.day,
+            day_of_year: self.day_of_year,
+            week: self.week,
+            weekday: self.weekday,
+            nanoseconds,
+            offset,
+        }
+    }
 }
 
 pub fn day_of(number: i32) -> Result<Day, Cause> {

@@ -1,6 +1,7 @@
 //! The harness's own calendar, counted from its definition in wide numbers and by nothing of the Rust's: what holds the Rust, and
 //! stands in its place where the Rust is excepted.
 
+use crate::calendar::Fields;
 use crate::days::Day;
 
 const DAYS_IN_400_YEARS: i64 = 400 * 365 + 97;
@@ -39,6 +40,23 @@ pub fn number_of(year: i32, month: u32, day: u32) -> Option<i64> {
     }
     let before: i64 = (1..month).map(|month| month_length(year, month)).sum();
     Some(new_year(year) + before + i64::from(day) - 1)
+}
+
+/// All days of a year of the field record, those with few digits and with many taking turns.
+pub fn days_of_year(year: i32) -> impl Iterator<Item = Day> {
+    let first = number_of(year, 1, 1).expect("a year of the field record");
+    let last = number_of(year, 12, 31).expect("a year of the field record");
+    (0..=last - first).map(move |past| day_of((first + past * 37 % (last - first + 1)) as i32))
+}
+
+/// Whether a record's day has a number of 32 bits, with that day's own day of year, week and weekday beside it.
+pub fn is_real(fields: &Fields) -> bool {
+    let number = number_of(fields.year, fields.month, fields.day);
+    let Some(Ok(number)) = number.map(i32::try_from) else {
+        return false;
+    };
+    let day = day_of(number);
+    (day.day_of_year, day.week, day.weekday) == (fields.day_of_year, fields.week, fields.weekday)
 }
 
 /// 0 to 6 from Sunday.

@@ -7,7 +7,7 @@ use harness::tally::Hold;
 use std::collections::HashSet;
 
 const ONE_DIGIT: &str = "2025 1 1 1 1 3 0 3600";
-const TWO_DIGITS: &str = "2025 12 31 365 52 3 0 3600";
+const TWO_DIGITS: &str = "2025 12 24 358 52 3 0 3600";
 
 /// What is wrong with the answer to a check of the pattern.
 fn fault(edition: Edition, pattern: &str, answer: &str) -> Option<String> {
@@ -45,7 +45,7 @@ fn a_yes_is_held_to_the_records() {
 #[test]
 fn any_record_that_fails_at_the_first_failing_part_will_do() {
     fine("d/M", &format!("no 2 {TWO_DIGITS}"));
-    fine("d/M", "no 2 -3 10 5 7 9 0 1 -1");
+    fine("d/M", "no 2 -3 10 5 278 41 1 1 -1");
 }
 
 #[test]
@@ -78,6 +78,23 @@ fn the_record_shown_must_be_allowed_and_spelled_as_one() {
     faulty("d/M", "no 2", "another answer");
     faulty("d/M", &format!("no 2 {TWO_DIGITS} 0"), "another answer");
     faulty("d/M", &format!("no 02 {TWO_DIGITS}"), "another answer");
+}
+
+#[test]
+fn the_record_shown_must_be_of_a_real_day() {
+    fine("d/M", "no 2 2024 12 30 365 1 1 0 0");
+    for unreal in [
+        "2025 11 31 335 48 1",
+        "2024 12 30 364 1 1",
+        "2024 12 30 365 53 1",
+        "2024 12 30 365 1 2",
+    ] {
+        faulty(
+            "d/M",
+            &format!("no 2 {unreal} 0 0"),
+            "the record is of no real day",
+        );
+    }
 }
 
 #[test]

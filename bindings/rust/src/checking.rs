@@ -1,11 +1,15 @@
-use crate::{raw, Edition, Fields, Refusal};
+use crate::explaining::{shown, MOST_SHOWN};
+use crate::{
+    explain_with, raw, read_with, split, units, write, Choices, Edition, Fields, ParseUnit, PartUnit, Refusal,
+};
+use std::cmp::Ordering;
 
 /// Whether a pattern can be trusted to read back what it wrote.
 #[derive(Clone, Copy, Debug, PartialEq, Eq, Hash)]
 pub enum Verdict {
-    /// For every record each part reads just what it wrote.
+    /// On every day, at every time and offset, each part reads just what it wrote.
     Yes,
-    /// The first part, from 0, that does not come back for some record, and such a record.
+    /// The first part, from 0, that does not come back for some record of a real day, and such a record.
     No { part: usize, record: Fields },
 }
 
@@ -76,6 +80,101 @@ pub fn check_with(edition: Edition, pattern: impl AsRef<[u8]>, current_year: i32
         )
     };
     verdict(number, answer)
+}
+
+/// Says what [`check`] answers in one sentence: of a no the part, the day, what is written on it, and what the part takes of that.
+/// The day is a real one, of 2024 wherever its year is not what fails. Refuses as [`check`] does.
+///
+/// ```
+/// # fn main() -> Result<(), sheet::Refusal> {
+/// assert_eq!(
+///     sheet::explain_check("d/M", 2025)?,
+///     "part 2, `M`: on Saturday, 23 November 2024 the text is `23/11`; `M` takes `1` of `11`"
+/// );
+/// assert_eq!(sheet::explain_check("d/MM", 2025)?, "on every day each part reads just what it wrote");
+/// # Ok(())
+/// # }
+/// ```
+pub fn explain_check(pattern: impl AsRef<[u8]>, current_year: i32) -> Result<String, Refusal> {
+    explain_check_with(Edition::First, pattern, current_year)
+}
+
+/// Says the same of what [`check_with`] answers in an [edition](Edition).
+///
+/// ```
+/// use sheet::{explain_check_with, Edition};
+///
+/// # fn main() -> Result<(), sheet::Refusal> {
+/// assert_eq!(
+///     explain_check_with(Edition::Second, "M5", 2025)?,
+///     "part 0, `M`: on Monday, 5 February 2024 the text is `25`; `M` takes `25`, of which `2` is its own"
+/// );
+/// # Ok(())
+/// # }
+/// ```
+pub fn explain_check_with(edition: Edition, pattern: impl AsRef<[u8]>, current_year: i32) -> Result<String, Refusal> {
+    let pattern = pattern.as_ref();
+    match check_with(edition, pattern, current_year)? {
+        Verdict::Yes => Ok("on every day each part reads just what it wrote".to_string()),
+        Verdict::No { part, record } => of_a_no(edition, pattern, current_year, part, &record),
+    }
+}
+
+/// The sentence. The parts before the one that fails come back, so that it is read from where its own text starts.
+fn of_a_no(
+    edition: Edition,
+    pattern: &[u8],
+    current_year: i32,
+    number: usize,
+    record: &Fields,
+) -> Result<String, Refusal> {
+    let part = split(pattern)?[number];
+    let symbol = &pattern[part.range()];
+    let text = write(pattern, record)?;
+    let start = write(&pattern[..part.start], record)?.len();
+    let own = write(symbol, record)?;
+    let day = write(day_shown(units(pattern)?[number]), record)?;
+    let from = if start < MOST_SHOWN { 0 } else { start };
+    Ok(format!(
+        "part {number}, {}: on {day} the text is {}; {}",
+        shown(symbol, 0),
+        shown(text.as_bytes(), from),
+        came_back(edition, symbol, &text.as_bytes()[start..], own.as_bytes(), current_year)
+    ))
+}
+
+/// The pattern for the day, with the time or the offset where a part shows it.
+fn day_shown(unit: PartUnit) -> &'static str {
+    match unit {
+        PartUnit::Carries(ParseUnit::Offset) => "eeee, d MMMM y 'at the offset' xxx",
+        PartUnit::Carries(unit) if unit as usize >= ParseUnit::Hour as usize => "eeee, d MMMM y 'at' HH:mm:ss",
+        _ => "eeee, d MMMM y",
+    }
+}
+
+/// What a part takes of a text that starts with its own, or why it can't be read.
+fn came_back(edition: Edition, symbol: &[u8], text: &[u8], own: &[u8], current_year: i32) -> String {
+    let choices = Choices::new().edition(edition);
+    let of_own = format!(", of which {} is its own", shown(own, 0));
+    let reading = match read_with(choices, symbol, text, current_year) {
+        Ok(reading) => reading,
+        Err(refusal) => {
+            let sentence = explain_with(choices, symbol, text, &refusal);
+            return if own.len() < text.len() {
+                sentence + &of_own
+            } else {
+                sentence
+            };
+        }
+    };
+    let takes = format!("{} takes {}", shown(symbol, 0), shown(&text[..reading.taken], 0));
+    let value = ParseUnit::ALL.into_iter().find_map(|unit| reading.value(unit));
+    match (reading.taken.cmp(&own.len()), value) {
+        (Ordering::Less, _) => format!("{takes} of {}", shown(own, 0)),
+        (Ordering::Greater, _) => takes + &of_own,
+        (Ordering::Equal, Some(value)) => format!("{takes} as {value}"),
+        (Ordering::Equal, None) => takes,
+    }
 }
 
 fn verdict(number: u32, answer: [i64; raw::CHECK_ANSWER]) -> Result<Verdict, Refusal> {

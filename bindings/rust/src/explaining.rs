@@ -8,7 +8,7 @@ const SYMBOLS: &[u8] = b"GyqMwdDeabhKHkmsnXx";
 const ANY_YEAR: i32 = 2025;
 
 /// Of a pattern or a text no more bytes are shown at once.
-const MOST_SHOWN: usize = 24;
+pub(crate) const MOST_SHOWN: usize = 24;
 
 /// Says of a text that [`read`](crate::read) refused by a pattern what stood there and what was wanted, in one sentence. A refusal
 /// that is not of a part of the pattern, or of another pattern, is said as it prints.
@@ -222,7 +222,7 @@ fn spelled(number: usize) -> String {
 }
 
 /// Bytes as they are shown from a place on: what can't be printed is escaped, and what is long is cut.
-fn shown(bytes: &[u8], from: usize) -> String {
+pub(crate) fn shown(bytes: &[u8], from: usize) -> String {
     let escaped = |byte: &u8| match byte {
         b' '..=b'~' => char::from(*byte).to_string(),
         _ => byte.escape_ascii().to_string(),

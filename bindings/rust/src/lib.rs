@@ -13,7 +13,7 @@ mod writing;
 
 pub mod raw;
 
-pub use checking::{check, check_with, Verdict};
+pub use checking::{check, check_with, explain_check, explain_check_with, Verdict};
 pub use choices::{Choices, Edition};
 pub use days::{day_number, day_of, Day};
 pub use explaining::{explain, explain_date, explain_with};

@@ -1,5 +1,5 @@
--- Demand 3: when a pattern can be trusted to read back what it wrote, and what an answer of the check says. How it is decided is
--- no matter of definition.
+-- Demand 3: when a pattern can be trusted to read back what it wrote, and what an answer of the check says, of records of real days
+-- and of any. How it is decided is no matter of definition.
 use mathlib.Core.Bool.{Bool}
 use mathlib.Core.List.{List}
 use mathlib.Core.Path.{_≡_}
@@ -7,6 +7,7 @@ use Prim.Native.Nat.{ℕ, _<_}
 use lib.IntN.{ℤ, natAbs}
 use lib.ListN.{length, getD, take, drop}
 use Rattle.meaning.specs.Answers.{_else_, patternCheck, fieldsCheck, currentYearCheck}
+use Rattle.meaning.specs.Days.{DayOf, dayNumber}
 use Rattle.meaning.specs.Names.{Book}
 use Rattle.meaning.specs.Readers.{got}
 use Rattle.meaning.specs.Reading.{readStep, carriedStep}
@@ -14,6 +15,8 @@ use Rattle.meaning.specs.Writing.{Step, literal, steps, stepText, texts}
 use Rattle.meaning.specs.declared.Checked.{Checked}
 use Rattle.meaning.specs.declared.Checked.the-variants.{Fine, Refused}
 use Rattle.meaning.specs.declared.Choices.{Choices}
+use Rattle.meaning.specs.declared.Day.{Day}
+use Rattle.meaning.specs.declared.DayNumber.the-variants.{Number}
 use Rattle.meaning.specs.declared.Edition.{Edition}
 use Rattle.meaning.specs.declared.Fields.{Fields}
 use Rattle.meaning.specs.declared.Pair.the-variants.{Full}
@@ -37,17 +40,37 @@ ComesBack choices book current ss f i =
     readStep choices book current (partAt ss i) (drop (startOf book f ss i) (texts book f ss))
     ≡ got (length (stepText book f (partAt ss i))) (carriedStep (partAt ss i) f)
 
--- each part below a number comes back for every allowed record
-unfoldable pub AllComeBack : Choices → Book → ℕ → List Step → ℕ → Type 0
-unfolding ComesBack fieldsCheck
-AllComeBack choices book current ss n = (f : Fields) → fieldsCheck f ≡ Fine → (i : ℕ) → i < n → ComesBack choices book current ss f i
+-- which records count
+abbrev pub Records : Type 1
+Records = Fields → Type 0
 
--- part i is the first that fails for some allowed record, and this is such a record
-pub record FailsFirst (choices : Choices) (book : Book) (current : ℕ) (ss : List Step) (i : ℕ) (f : Fields) : Type 0 where
+-- every allowed one
+abbrev pub AnyAllowed : Records
+AnyAllowed f = fieldsCheck f ≡ Fine
+
+-- the day of a record
+abbrev pub dayOf : Fields → Day
+dayOf f = record { year = f .year; month = f .month; day = f .day; doy = f .doy; week = f .week; wday = f .wday }
+
+-- An allowed one of a real day: it has a number, and is that number's day, with its day of year, week and weekday beside it. Time
+-- and offset are free.
+pub record RealDay (f : Fields) : Type 0 where
+  pub allowed : AnyAllowed f
+  pub number : ℤ
+  pub numbered : dayNumber (f .year) (f .month) (f .day) ≡ Number number
+  pub is : DayOf number (dayOf f)
+
+-- each part below a number comes back for every record that counts
+unfoldable pub AllComeBack : Records → Choices → Book → ℕ → List Step → ℕ → Type 0
+unfolding ComesBack
+AllComeBack Counts choices book current ss n = (f : Fields) → Counts f → (i : ℕ) → i < n → ComesBack choices book current ss f i
+
+-- part i is the first that fails for some record that counts, and this is such a record
+pub record FailsFirst (Counts : Records) (choices : Choices) (book : Book) (current : ℕ) (ss : List Step) (i : ℕ) (f : Fields) : Type 0 where
   pub there : i < length ss
-  pub allowed : fieldsCheck f ≡ Fine
+  pub counts : Counts f
   pub fails : ComesBack choices book current ss f i → ⊥
-  pub earlier : AllComeBack choices book current ss i
+  pub earlier : AllComeBack Counts choices book current ss i
 
 unfoldable pub trustCheck : Edition → List ℕ → ℤ → Checked
 unfolding patternCheck currentYearCheck
@@ -58,15 +81,15 @@ abbrev pub fullPair : Edition → Bool → Choices
 fullPair edition strict = record { pair = Full; strict = strict; edition = edition }
 
 -- what an answer of the check says, of a reading with these choices: refusals 1, 2, 3, 14; yes when every part comes back for
--- every allowed record; no with the first part that fails
-unfoldable pub SaysOf : Choices → Book → List ℕ → ℤ → Verdict → Type 0
+-- every record that counts; no with the first part that fails
+unfoldable pub SaysOf : Records → Choices → Book → List ℕ → ℤ → Verdict → Type 0
 unfolding trustCheck AllComeBack steps
-SaysOf choices book p current verdict.Yes =
-    (trustCheck (choices .edition) p current ≡ Fine) × AllComeBack choices book (natAbs current) (steps (choices .pair) p) (length (steps (choices .pair) p))
-SaysOf choices book p current (verdict.No part f) =
-    (trustCheck (choices .edition) p current ≡ Fine) × FailsFirst choices book (natAbs current) (steps (choices .pair) p) part f
-SaysOf choices book p current (verdict.Refused why) = trustCheck (choices .edition) p current ≡ Refused why
+SaysOf Counts choices book p current verdict.Yes =
+    (trustCheck (choices .edition) p current ≡ Fine) × AllComeBack Counts choices book (natAbs current) (steps (choices .pair) p) (length (steps (choices .pair) p))
+SaysOf Counts choices book p current (verdict.No part f) =
+    (trustCheck (choices .edition) p current ≡ Fine) × FailsFirst Counts choices book (natAbs current) (steps (choices .pair) p) part f
+SaysOf Counts choices book p current (verdict.Refused why) = trustCheck (choices .edition) p current ≡ Refused why
 
--- the answer of the check in an edition: the same, whether a reading is strict or not
+-- the answer of the check in an edition, of real days: the same, whether a reading is strict or not
 abbrev pub Says : Edition → Book → List ℕ → ℤ → Verdict → Type 0
-Says edition book p current answer = (strict : Bool) → SaysOf (fullPair edition strict) book p current answer
+Says edition book p current answer = (strict : Bool) → SaysOf RealDay (fullPair edition strict) book p current answer

@@ -215,7 +215,7 @@ pub verdict-fits : (edition : Edition) (p : List ℕ) (current : ℤ) (v : Verdi
 unfolding SaysOf trustCheck
 verdict-fits edition p current verdict.Yes h y s = tt
 verdict-fits edition p current (verdict.No part f) h y s =
-    (omega (arith, s false .1 .there, few-steps Full p), omega (arith, allowed f (s false .1 .allowed) .nanos))
+    (omega (arith, s false .1 .there, few-steps Full p), omega (arith, allowed f (s false .1 .counts .allowed) .nanos))
 verdict-fits edition p current (verdict.Refused why) h y s =
     let checks = else-fits (patternCheck p) (currentYearCheck edition current) (pattern-fits p h) (λ _. year-fits edition current y) in
     rw (s false) at checks

@@ -26,7 +26,7 @@ use Rattle.trust.specs.Check.{meets, firstFailing}
 use Rattle.trust.specs.Halves.{mark, standIn, later, andThen}
 use Rattle.trust.specs.Needs.{stepNeed}
 use Rattle.trust.specs.declared.Need.{Need}
-use Rattle.trust.specs.declared.Need.the-variants.{Nothing, NoDigit, NoSecondDigit, Broken}
+use Rattle.trust.specs.declared.Need.the-variants.{Nothing, NoDigit, NoSecondDigit, Broken, LosesYear}
 
 -- their first and second bytes can be a digit in both or in neither
 pub record BeginAlike (ts us : List Step) : Type 0 where
@@ -44,6 +44,7 @@ meets-alike Nothing same = refl
 meets-alike NoDigit same = ap not (same .first)
 meets-alike NoSecondDigit same = ap not (same .second)
 meets-alike Broken same = refl
+meets-alike LosesYear same = refl
 
 -- The parts before others, with some in their place that begin alike and hold; then those others.
 pub failing-join : (edition : Edition) (i : ℕ) (ss : List Step) {ts us : List Step} → BeginAlike ts us → ((j : ℕ) → firstFailing edition j us ≡ Yes)
@@ -151,6 +152,7 @@ meets-alone Nothing ss ts h = refl
 meets-alone NoDigit ss ts h = rw (first-less ss ts (not-true _ h))
 meets-alone NoSecondDigit ss ts h = rw (second-less ss ts (not-true _ h))
 meets-alone Broken ss ts h = h
+meets-alone LosesYear ss ts h = h
 
 pub holds-alone : (edition : Edition) (i : ℕ) (ss ts : List Step) → firstFailing edition i (ss ++ ts) ≡ Yes → firstFailing edition i ss ≡ Yes
 holds-alone edition i [] ts h = nothing-holds edition i

@@ -7,7 +7,7 @@ use Prim.Native.Nat.{ℕ}
 use lib.IntN.{ℤ, natAbs}
 use Rattle.meaning.specs.Answers.{currentYearCheck}
 use Rattle.meaning.specs.Names.{english}
-use Rattle.meaning.specs.Trust.{FailsFirst, fullPair, SaysOf, Says, trustCheck}
+use Rattle.meaning.specs.Trust.{RealDay, FailsFirst, fullPair, SaysOf, Says, trustCheck}
 use Rattle.meaning.specs.Writing.{steps}
 use Rattle.meaning.specs.declared.Checked.the-variants.{Fine}
 use Rattle.meaning.specs.declared.Edition.{Edition}
@@ -33,7 +33,7 @@ module _ (edition : Edition) (p : List ℕ) (current current′ : ℤ) (allowed 
 
   -- the record that the check shows in one year fails in the other as well
   pub record-fails : (strict : Bool) (part : ℕ) (f : Fields) → verdictOf edition p current ≡ No part f
-      → FailsFirst (fullPair edition strict) english (natAbs current′) (steps Full p) part f
+      → FailsFirst RealDay (fullPair edition strict) english (natAbs current′) (steps Full p) part f
   unfolding SaysOf
   record-fails strict part f e =
       let e′ : verdictOf edition p current′ ≡ No part f = sym same-verdict ∙ e in

@@ -9,7 +9,7 @@ use lib.Dec.{eqb, leb, ltb}
 use lib.IntN.{ℤ, pos, natAbs}
 use lib.ListN.{length, length-append}
 use borrow.Author.Tests.{leb-false, ltb-true, ltb-false, ne-eqb}
-use Rattle.meaning.specs.Bytes.{when, isDigit, digitAt, num, plus, minus}
+use Rattle.meaning.specs.Bytes.{when, isDigit, digitAt, num, width, plus, minus}
 use Rattle.meaning.specs.Names.{english}
 use Rattle.meaning.specs.Numerals.{Signed, allDigits, numberOf}
 use Rattle.meaning.specs.Readers.{Reader, got, _>>=_, done, takeCount, reach, ahead, behindUtc, zoneSign}
@@ -34,14 +34,13 @@ use Rattle.laws.proofs.Tests.{both-no, both-true, by-test, when-is, true-is-not
 use Rattle.laws.proofs.Years.{no-minus}
 use Rattle.laws.proofs.Zones.{group-comes-back, sign-read, two-digits}
 use Rattle.laws.specs.Widths.{mostDigits}
-use Rattle.trust.proofs.RulesAhead.{seven-digits}
 use Rattle.trust.proofs.Sound.{Back}
 use Rattle.trust.proofs.Table.{numberFits, zoneFits, fits, read-fits, number-fits}
 use Rattle.trust.proofs.Witness.{of-witness}
-use Rattle.trust.specs.Check.{shortNumbers, longNumbers, witness}
+use Rattle.trust.specs.Check.{shortNumbers, longNumbers, longYear, witness}
 use Rattle.trust.specs.Needs.{numberNeed, groupNeed, lastGroup, ruleNeed}
 use Rattle.trust.specs.declared.Need.{Need}
-use Rattle.trust.specs.declared.Need.the-variants.{Nothing, NoDigit, NoSecondDigit, Broken}
+use Rattle.trust.specs.declared.Need.the-variants.{Nothing, NoDigit, NoSecondDigit, Broken, LosesYear}
 
 -- a text shows what a need forbids
 abbrev pub Shown : Need → List ℕ → Type 0
@@ -49,6 +48,7 @@ Shown Nothing r = ⊥
 Shown NoDigit r = digitAt 0 r ≡ true
 Shown NoSecondDigit r = digitAt 1 r ≡ true
 Shown Broken r = Unit
+Shown LosesYear r = Unit
 
 -- numbers
 
@@ -113,23 +113,27 @@ run-past (b ∷ s) r all h =
     let t = both-true (isDigit b) (allDigits s) all in
     rw (t .0) (omega (arith, run-past s r (t .1) h))
 
-no-minus-first : (k : ℕ) (r : List ℕ) → minusFirst (num k 1000001 ++ r) ≡ 0
-no-minus-first k r = no-minus (num k 1000001) r (all-num k 1000001) (num-some k 1000001)
+no-minus-first : (k n : ℕ) (r : List ℕ) → minusFirst (num k n ++ r) ≡ 0
+no-minus-first k n r = no-minus (num k n) r (all-num k n) (num-some k n)
 
 years-fail : (edition : Edition) (current k : ℕ) (r : List ℕ) → digitAt 0 r ≡ true → Back edition current (Years k) shortNumbers r → ⊥
 unfolding readRule ruleText
 years-fail edition current k r digit e =
-    let s = num k 1000001 in
+    let s = num k 2024 in
     let taken : length s ≡ 0 + digitRun (s ++ r)
-    = rw (no-minus-first k r) at (takes-got (yearLength (s ++ r)) (takes-full-year (yearLength (s ++ r)) (s ++ r)) e) in
-    omega (arith, run-past s r (all-num k 1000001) digit)
+    = rw (no-minus-first k 2024 r) at (takes-got (yearLength (s ++ r)) (takes-full-year (yearLength (s ++ r)) (s ++ r)) e) in
+    omega (arith, run-past s r (all-num k 2024) digit)
 
-fixed-year-fails : (edition : Edition) (current k : ℕ) (r : List ℕ) → k < 7 → Back edition current (FixedYear k) longNumbers r → ⊥
+seven-digits : (k : ℕ) → 7 ≤ length (num k 1000001)
+unfolding width
+seven-digits k = rw length-num (omega arith)
+
+fixed-year-fails : (edition : Edition) (current k : ℕ) (r : List ℕ) → k < 7 → Back edition current (FixedYear k) longYear r → ⊥
 unfolding readRule ruleText
 fixed-year-fails edition current k r short e =
     let s = num k 1000001 in
     let taken : length s ≡ 0 + k
-    = rw (no-minus-first k r) at (takes-got (minusFirst (s ++ r) + k) (takes-full-year (minusFirst (s ++ r) + k) (s ++ r)) e) in
+    = rw (no-minus-first k 1000001 r) at (takes-got (minusFirst (s ++ r) + k) (takes-full-year (minusFirst (s ++ r) + k) (s ++ r)) e) in
     omega (arith, seven-digits k)
 
 -- yy reads 01 as a year that is no later than the last of its millennium, or of its window
@@ -146,7 +150,7 @@ unfolding twoDigitsMean
 two-digits-few First current small = omega arith
 two-digits-few Second current small = omega arith
 
-two-digit-year-fails : (edition : Edition) (current : ℕ) → current ≤ 9999 → (r : List ℕ) → Back edition current TwoDigitYear longNumbers r → ⊥
+two-digit-year-fails : (edition : Edition) (current : ℕ) → current ≤ 9999 → (r : List ℕ) → Back edition current TwoDigitYear longYear r → ⊥
 unfolding ruleText carriedRule
 two-digit-year-fails edition current small r e =
     let same : got 2 (carried.Value unit.Year (twoDigitsMean edition current (pos 1))) ≡ got (length (twoDigitText (pos 1000001))) (carried.Value unit.Year (pos 1000001))
@@ -231,8 +235,8 @@ module _ (edition : Edition) (current : ℕ) (utc colon : Bool) (minutes seconds
 
 witness-hours : (need : Need) → WholeHours (witness need .offset)
 witness-hours =
-    of-witness (λ f. WholeHours (f .offset)) (record { hours = 8; some = omega arith; few = omega arith; size = refl })
-    (record { hours = 9; some = omega arith; few = omega arith; size = refl })
+    let nine : WholeHours (longNumbers .offset) = record { hours = 9; some = omega arith; few = omega arith; size = refl } in
+    of-witness (λ f. WholeHours (f .offset)) (record { hours = 8; some = omega arith; few = omega arith; size = refl }) nine nine
 
 digit-in-place : (colon : Bool) (r : List ℕ) → Shown (groupNeed colon NotZero) r → digitAt (colonLength colon) r ≡ true
 digit-in-place true r shown = shown

@@ -10,9 +10,9 @@ use native.Mathlib.Nat.{add-zero}
 use native.Mathlib.Omega.{arith}
 use lib.IntN.{ℤ, natAbs}
 use lib.ListN.{length, length-append}
-use Rattle.meaning.specs.Answers.{currentYearCheck, patternCheck, fieldsCheck}
+use Rattle.meaning.specs.Answers.{currentYearCheck, patternCheck}
 use Rattle.meaning.specs.Names.{Book, english}
-use Rattle.meaning.specs.Trust.{trustCheck, fullPair, Says}
+use Rattle.meaning.specs.Trust.{RealDay, trustCheck, fullPair, Says}
 use Rattle.meaning.specs.Whole.{Walk, walked, walk, text}
 use Rattle.meaning.specs.Writing.{Step, steps, stepText, texts}
 use Rattle.meaning.specs.declared.Checked.{Checked}
@@ -24,7 +24,7 @@ use Rattle.meaning.specs.declared.Verdict.{Verdict}
 use Rattle.meaning.specs.declared.Verdict.the-variants.{Yes, No, Refused}
 use Rattle.laws.proofs.Halves.{check-join, steps-join, text-join}
 use Rattle.laws.specs.Halves.{Beside}
-use Rattle.trust.proofs.Agreement.{told}
+use Rattle.trust.proofs.Agreement.{told-yes}
 use Rattle.trust.proofs.Before.{BeginAlike, failing-join, failing-later, stand-in-alike, stand-in-holds, nothing-alike, nothing-holds, holds-alone, not-yes}
 use Rattle.trust.proofs.Verdicts.{verdict-says, told-as-checked}
 use Rattle.trust.proofs.Walks.{walk-yes}
@@ -56,11 +56,6 @@ yes-alone edition p ts current =
     yes-by (trustCheck edition p current) (firstFailing edition 0 (ss ++ ts)) (firstFailing edition 0 ss) (holds-alone edition 0 ss ts)
 
 -- `Says` and the check's own answer
-
-told-yes : (v : Verdict) → told Yes ≡ told v → v ≡ Yes
-told-yes Yes h = refl
-told-yes (No part f) h = absurd (let z : _≡_ {A = ℕ} 0 1 = cc in omega arith)
-told-yes (Refused why) h = absurd (let z : _≡_ {A = ℕ} 0 1 = cc in omega arith)
 
 says-yes : (edition : Edition) (p : List ℕ) (current : ℤ) → Says edition english p current Yes → verdictOf edition p current ≡ Yes
 says-yes edition p current h =
@@ -148,7 +143,7 @@ module _ (edition : Edition) {p q : List ℕ} (beside : Beside p q) (current : �
 
   -- Where the check says yes to the join, each half is read from its own text, and the join as the one and then the other, which
   -- stands behind the first's text, by a strict reading and by a plain one.
-  module _ (strict : Bool) (says : Says edition english (p ++ q) current Yes) (f : Fields) (fine : fieldsCheck f ≡ checked.Fine) where
+  module _ (strict : Bool) (says : Says edition english (p ++ q) current Yes) (f : Fields) (real : RealDay f) where
     abbrev reading : List ℕ → List ℕ → Walk
     reading pattern s = walk (fullPair edition strict) english (natAbs current) 0 0 (steps Full pattern) s []
 
@@ -174,7 +169,7 @@ module _ (edition : Edition) {p q : List ℕ} (beside : Beside p q) (current : �
         (map (furtherOn (length one)) (gaveBy english f 0 (steps Full q)) ++ gaveBy english f 0 (steps Full p)))
     walk-join =
         let halves = says-halves says in (
-          walk-yes (fullPair edition strict) english p current (halves .0 strict) f fine,
-          walk-yes (fullPair edition strict) english q current (halves .1 strict) f fine,
-          rw (text-join beside Full english f, length-append one other, gave-join) at (walk-yes (fullPair edition strict) english (p ++ q) current (says strict) f fine),
+          walk-yes RealDay (fullPair edition strict) english p current (halves .0 strict) f real,
+          walk-yes RealDay (fullPair edition strict) english q current (halves .1 strict) f real,
+          rw (text-join beside Full english f, length-append one other, gave-join) at (walk-yes RealDay (fullPair edition strict) english (p ++ q) current (says strict) f real),
         )

@@ -1,5 +1,6 @@
--- Where the check says yes, a read of what was written for an allowed record, strict or not, in the same edition, is accepted, takes all of it, and
--- gives every unit that the pattern carries with the record's value, and with where the text of its part stands.
+-- Where the check says yes, which it says of real days, a read of what was written for any allowed record, strict or not, in the
+-- same edition, is accepted, takes all of it, and gives every unit that the pattern carries with the record's value, and with where
+-- the text of its part stands.
 use mathlib.Core.Bool.{Bool}
 use mathlib.Core.List.{List}
 use mathlib.Core.Path.{_≡_}
@@ -8,7 +9,7 @@ use lib.IntN.{ℤ}
 use lib.ListN.{length}
 use Rattle.meaning.specs.Answers.{patternCheck, currentYearCheck, fieldsCheck}
 use Rattle.meaning.specs.Names.{english}
-use Rattle.meaning.specs.Trust.{trustCheck, fullPair, SaysOf}
+use Rattle.meaning.specs.Trust.{AnyAllowed, RealDay, trustCheck, fullPair, SaysOf}
 use Rattle.meaning.specs.Whole.{readCheck, readingOf, read, text}
 use Rattle.meaning.specs.Writing.{steps}
 use Rattle.meaning.specs.declared.Checked.the-variants.{Fine}
@@ -18,7 +19,10 @@ use Rattle.meaning.specs.declared.Pair.the-variants.{Full}
 use Rattle.meaning.specs.declared.Verdict.the-variants as verdict
 use Rattle.laws.proofs.Ascii.{written-checks}
 use Rattle.laws.proofs.Checks.{else-fine}
+use Rattle.trust.proofs.Agreement.{told-yes}
+use Rattle.trust.proofs.Verdicts.{verdict-says-any, told-as-checked}
 use Rattle.trust.proofs.Walks.{walk-yes}
+use Rattle.trust.specs.Check.{verdictOf}
 use Rattle.trust.specs.ReadBack.{gaveBy}
 
 -- no check of the read refuses the written text
@@ -29,9 +33,11 @@ written-is-read edition p current f h k =
     let t = else-fine (patternCheck p) (currentYearCheck edition current) h in
     rw (t .0, t .1) (written-checks Full p f (t .0) k)
 
-pub read-back : (edition : Edition) (strict : Bool) (p : List ℕ) (current : ℤ) (f : Fields) → SaysOf (fullPair edition strict) english p current verdict.Yes → fieldsCheck f ≡ Fine
+pub read-back : (edition : Edition) (strict : Bool) (p : List ℕ) (current : ℤ) (f : Fields) → SaysOf RealDay (fullPair edition strict) english p current verdict.Yes → fieldsCheck f ≡ Fine
     → read (fullPair edition strict) english p (text Full english p f) current
     ≡ readingOf Fine (length (text Full english p f)) (gaveBy english f 0 (steps Full p))
 unfolding read SaysOf
 read-back edition strict p current f says fine =
-    rw (written-is-read edition p current f (says .0) fine, walk-yes (fullPair edition strict) english p current says f fine)
+    let any : SaysOf AnyAllowed (fullPair edition strict) english p current verdict.Yes
+    = rw (told-yes (verdictOf edition p current) (told-as-checked edition p current strict verdict.Yes says)) at (verdict-says-any edition p current strict) in
+    rw (written-is-read edition p current f (says .0) fine, walk-yes AnyAllowed (fullPair edition strict) english p current any f fine)

@@ -7,7 +7,7 @@ use Prim.Native.Nat.{ℕ, _%_, _^_, _≤_, _<_}
 use native.Mathlib.Nat.{lt-of-lt-of-le, pow-le-pow-right}
 use native.Mathlib.Omega.{arith}
 use lib.Dec.{eqb, leb, ltb}
-use lib.IntN.{ℤ, pos, natAbs}
+use lib.IntN.{ℤ, natAbs}
 use lib.ListN.{length, List·getD-append}
 use borrow.Author.Tests.{eqb-true, leb-true, ltb-true, ltb-false, not-true}
 use Rattle.meaning.specs.Bytes.{when, both, digitAt, num, width, widthIn, digits}
@@ -151,13 +151,9 @@ two-digit-first z t e =
     when-is (λ (s : List ℕ). digitAt 0 (s ++ t) ≡ true) (ltb (natAbs z) (when (isNegative z) 10 100)) (λ _. year-first 2 z t e)
     (λ _. num-first 2 (natAbs z % 100) t)
 
-pub seven-digits : (k : ℕ) → 7 ≤ length (num k 1000001)
-unfolding width
-seven-digits k = rw length-num (omega arith)
-
-year-second : (k : ℕ) (t : List ℕ) → digitAt 1 (signedText k (pos 1000001) ++ t) ≡ true
-unfolding signedText
-year-second k t = num-second k 1000001 t (omega (arith, seven-digits k))
+year-second : (k : ℕ) (t : List ℕ) → digitAt 1 (signedText k (longNumbers .year) ++ t) ≡ true
+unfolding signedText width
+year-second k t = num-second k 2024 t (rw length-num (omega arith))
 
 zone-first : (utc colon : Bool) (minutes seconds : Group) (z : ℤ) (t : List ℕ) → digitAt 0 (zoneText utc colon minutes seconds z ++ t) ≡ false
 unfolding digitAt offsetText

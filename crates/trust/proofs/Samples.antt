@@ -10,7 +10,7 @@ use Rattle.meaning.specs.declared.Edition.the-variants.{First, Second}
 use Rattle.meaning.specs.declared.Refusal.the-variants.{LoneQuote}
 use Rattle.meaning.specs.declared.Verdict.{Verdict}
 use Rattle.meaning.specs.declared.Verdict.the-variants.{Yes, No, Refused}
-use Rattle.trust.specs.Check.{verdictOf, shortNumbers, longNumbers}
+use Rattle.trust.specs.Check.{verdictOf, shortNumbers, longNumbers, longYear}
 
 pub asked : Edition → String → Verdict
 unfolding verdictOf B.bytes
@@ -19,7 +19,7 @@ asked edition p = verdictOf edition (B.bytes p) (pos 2025)
 pub table : List (Sample String Verdict)
 table =
     "d/MM" ↦′ Yes ∷ "d/M" ↦′ No 2 longNumbers ∷ "XXXXX5" ↦′ Yes ∷ "XXXXX.5" ↦′ No 0 longNumbers ∷ "" ↦′ Yes
-    ∷ "yy" ↦′ No 0 longNumbers ∷ "yyyyy" ↦′ No 0 longNumbers ∷ "yyyyyy" ↦′ No 0 longNumbers ∷ "yyyyyyy" ↦′ Yes
+    ∷ "yy" ↦′ No 0 longYear ∷ "yyyyy" ↦′ No 0 longYear ∷ "yyyyyy" ↦′ No 0 longYear ∷ "yyyyyyy" ↦′ Yes
     ∷ "dH" ↦′ No 0 shortNumbers ∷ "D5" ↦′ No 0 shortNumbers ∷ "XXXXXe5" ↦′ No 0 longNumbers ∷ "XXXXXMMMMMd" ↦′ No 0 longNumbers
     ∷ "a'b''" ↦′ No 1 longNumbers ∷ "a'" ↦′ Refused (LoneQuote 1) ∷ []
 
@@ -31,7 +31,7 @@ samples = refl
 pub secondTable : List (Sample String Verdict)
 secondTable =
     "d/M" ↦′ Yes ∷ "M/d" ↦′ Yes ∷ "M" ↦′ Yes ∷ "Md" ↦′ No 0 shortNumbers ∷ "M5" ↦′ No 0 shortNumbers ∷ "d/MH" ↦′ No 2 shortNumbers
-    ∷ "MM5" ↦′ Yes ∷ "yy" ↦′ No 0 longNumbers ∷ "M/yy" ↦′ No 2 longNumbers ∷ "dH" ↦′ No 0 shortNumbers ∷ []
+    ∷ "MM5" ↦′ Yes ∷ "yy" ↦′ No 0 longYear ∷ "M/yy" ↦′ No 2 longYear ∷ "dH" ↦′ No 0 shortNumbers ∷ []
 
 pub secondSamples : Answered (asked Second) secondTable
 unfolding secondTable asked verdictOf B.bytes

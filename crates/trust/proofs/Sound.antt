@@ -38,7 +38,7 @@ use Rattle.trust.proofs.NameRules.{skipped-name-comes-back, matched-nam
 use Rattle.trust.proofs.Table.{zeroOf, numberFits, namesFit, sameLength, zoneFits, fits, read-fits, zero-fits, number-fits}
 use Rattle.trust.specs.Needs.{numberNeed, groupNeed, lastGroup, ruleNeed}
 use Rattle.trust.specs.declared.Need.{Need}
-use Rattle.trust.specs.declared.Need.the-variants.{Nothing, NoDigit, NoSecondDigit, Broken}
+use Rattle.trust.specs.declared.Need.the-variants.{Nothing, NoDigit, NoSecondDigit, Broken, LosesYear}
 
 -- a text meets a need
 abbrev pub Met : Need → List ℕ → Type 0
@@ -46,6 +46,7 @@ Met Nothing r = Unit
 Met NoDigit r = digitAt 0 r ≡ false
 Met NoSecondDigit r = digitAt 1 r ≡ false
 Met Broken r = ⊥
+Met LosesYear r = ⊥
 
 -- a rule's text comes back before r
 abbrev pub Back : Edition → ℕ → Rule → Fields → List ℕ → Type 0
@@ -135,7 +136,7 @@ letter-quarter-comes-back edition current f h r =
 
 -- years and zones
 
-seven : (k : ℕ) (r : List ℕ) → Met (when (leb 7 k) Nothing Broken) r → 7 ≤ k
+seven : (k : ℕ) (r : List ℕ) → Met (when (leb 7 k) Nothing LosesYear) r → 7 ≤ k
 seven k r = when-is (λ need. Met need r → 7 ≤ k) (leb 7 k) (λ e _. leb-true 7 k e) (λ e h. absurd h)
 
 group-free : (colon : Bool) (g : Group) (r : List ℕ) → Met (groupNeed colon g) r → Free colon g r

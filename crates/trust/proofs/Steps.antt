@@ -27,7 +27,7 @@ use Rattle.trust.specs.Ahead.{digitFirst, digitSecond}
 use Rattle.trust.specs.Check.{meets, witness, shortNumbers}
 use Rattle.trust.specs.Needs.{stepNeed}
 use Rattle.trust.specs.declared.Need.{Need}
-use Rattle.trust.specs.declared.Need.the-variants.{Nothing, NoDigit, NoSecondDigit, Broken}
+use Rattle.trust.specs.declared.Need.the-variants.{Nothing, NoDigit, NoSecondDigit, Broken, LosesYear}
 
 -- what the lookahead says of the text
 
@@ -37,6 +37,7 @@ met Nothing fit e f h = tt
 met NoDigit {ss} fit e f h = no-first-digit fit f h (not-true (digitFirst ss) e)
 met NoSecondDigit {ss} fit e f h = no-second-digit fit f h (not-true (digitSecond ss) e)
 met Broken fit e f h = true-is-not-false (sym e)
+met LosesYear fit e f h = true-is-not-false (sym e)
 
 shown : (need : Need) {ss : List Step} → Fitting ss → meets need ss ≡ false → Shown need (texts english (witness need) ss)
 unfolding meets
@@ -44,6 +45,7 @@ shown Nothing fit e = true-is-not-false e
 shown NoDigit {ss} fit e = rw (first-byte fit shortNumbers (allowed shortNumbers (witness-fine NoDigit)) (λ _. refl)) (not-false (digitFirst ss) e)
 shown NoSecondDigit {ss} fit e = rw (second-byte fit) (not-false (digitSecond ss) e)
 shown Broken fit e = tt
+shown LosesYear fit e = tt
 
 -- a part's text comes back before what the parts behind it write
 abbrev pub StepBack : Choices → ℕ → Step → List Step → Fields → Type 0

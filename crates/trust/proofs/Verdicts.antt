@@ -10,7 +10,7 @@ use lib.ListN.{length, drop}
 use borrow.Author.Tests.{leb-true}
 use Rattle.meaning.specs.Answers.{firstCurrentYear, currentYearCheck, fieldsCheck, patternCheck, within}
 use Rattle.meaning.specs.Names.{english}
-use Rattle.meaning.specs.Trust.{partAt, ComesBack, AllComeBack, FailsFirst, trustCheck, fullPair, SaysOf, Says}
+use Rattle.meaning.specs.Trust.{partAt, ComesBack, Records, AnyAllowed, RealDay, AllComeBack, FailsFirst, trustCheck, fullPair, SaysOf, Says}
 use Rattle.meaning.specs.Writing.{Step, steps}
 use Rattle.meaning.specs.declared.Checked.{Checked}
 use Rattle.meaning.specs.declared.Checked.the-variants.{Fine, Refused}
@@ -27,11 +27,13 @@ use Rattle.laws.proofs.Tests.{both-true, by-test}
 use Rattle.laws.proofs.Texts.{text-from}
 use Rattle.trust.proofs.Agreement.{SameButRecord, answers-of-coincide}
 use Rattle.trust.proofs.Fitting.{Fitting, fitting-from, steps-fit}
+use Rattle.trust.proofs.RealDays.{witness-real}
 use Rattle.trust.proofs.Steps.{step-comes-back, step-fails}
 use Rattle.trust.proofs.Turns.{failing-on, failing-here}
 use Rattle.trust.proofs.Witness.{witness-fine}
 use Rattle.trust.specs.Check.{meets, witness, firstFailing, verdictBy, verdictOf}
 use Rattle.trust.specs.Needs.{stepNeed}
+use Rattle.trust.specs.declared.Need.{Need}
 
 -- what the first part that fails is, by the definition
 
@@ -100,22 +102,7 @@ module _ (choices : Choices) (current : ℕ) {ss : List Step} (fit : Fitting ss)
   part-fails small e back =
       step-fails choices current small (fitting-from fit i there) e (rw (text-from english (witness (stepNeed (choices .edition) (partAt ss i))) ss i there) at back)
 
-all-come-back : (choices : Choices) (current : ℕ) {ss : List Step} → Fitting ss → (n : ℕ) → n ≤ length ss → ((j : ℕ) → j < n → holds (choices .edition) ss j ≡ true)
-    → AllComeBack choices english current ss n
-unfolding AllComeBack
-all-come-back choices current fit n h all f fine i k = part-comes-back choices current fit i (omega arith) (all i k) f fine
-
-fails-first : (choices : Choices) (current : ℕ) → current ≤ 9999 → {ss : List Step} → Fitting ss → (i : ℕ) (f : Fields) → FirstOf (choices .edition) ss i f
-    → FailsFirst choices english current ss i f
-fails-first choices current small {ss} fit i f first =
-    record {
-      there = first .there;
-      allowed = rw (first .shows) (witness-fine (stepNeed (choices .edition) (partAt ss i)));
-      fails = λ back. part-fails choices current fit i (first .there) small (first .fails) (rw (first .shows) at back);
-      earlier = all-come-back choices current fit i (omega (arith, first .there)) (first .earlier);
-    }
-
--- the whole answer
+-- the current year
 
 year-bound : (edition : Edition) (current : ℤ) → currentYearCheck edition current ≡ Fine → natAbs current ≤ 9999
 unfolding currentYearCheck
@@ -124,31 +111,70 @@ year-bound edition (pos n) h =
     leb-true n 9999 (both-true (leb first n) (leb n 9999) (fine-unless (within first 9999 n) (CurrentYear (pos n)) h) .1)
 year-bound edition (negsuc n) h = absurd (let z : _≡_ {A = ℕ} 0 1 = cc in omega arith)
 
-answer-says : (edition : Edition) (p : List ℕ) (current : ℤ) → trustCheck edition p current ≡ Fine → (v : Verdict) → Tells edition 0 (steps Full p) v → Says edition english p current v
-unfolding Tells SaysOf
-answer-says edition p current fine verdict.Yes h strict =
-    (fine, all-come-back (fullPair edition strict) (natAbs current) (steps-fit p) (length (steps Full p)) (omega arith) h)
-answer-says edition p current fine (verdict.No part f) h strict =
-    let small = year-bound edition current (else-fine (patternCheck p) (currentYearCheck edition current) fine .1) in
-    let e : part ≡ h .0 = omega (arith, h .1) in
-    (fine, rw e (fails-first (fullPair edition strict) (natAbs current) small (steps-fit p) (h .0) f (h .2)))
-answer-says edition p current fine (verdict.Refused why) h strict = absurd h
+-- the answer, of any records of which each is allowed and each that is shown is one
 
-pub verdict-says : (edition : Edition) (p : List ℕ) (current : ℤ) → Says edition english p current (verdictOf edition p current)
-unfolding verdictOf
-verdict-says edition p current = go (trustCheck edition p current) refl
-  where
-    go : (c : Checked) → trustCheck edition p current ≡ c → Says edition english p current (verdictBy c (firstFailing edition 0 (steps Full p)))
-    go Fine e = answer-says edition p current e (firstFailing edition 0 (steps Full p)) (tells edition 0 (steps Full p))
-    go (Refused why) e = λ strict. unfold SaysOf in e
+module _ (Counts : Records) (fine : (f : Fields) → Counts f → fieldsCheck f ≡ Fine) (shown : (need : Need) → Counts (witness need)) where
+  all-come-back : (choices : Choices) (current : ℕ) {ss : List Step} → Fitting ss → (n : ℕ) → n ≤ length ss
+      → ((j : ℕ) → j < n → holds (choices .edition) ss j ≡ true) → AllComeBack Counts choices english current ss n
+  unfolding AllComeBack
+  all-come-back choices current fit n h all f counts i k = part-comes-back choices current fit i (omega arith) (all i k) f (fine f counts)
 
--- what is said of a reading, strict or not, is what the check answers, but for the record
-pub told-as-checked : (edition : Edition) (p : List ℕ) (current : ℤ) (strict : Bool) (v : Verdict) → SaysOf (fullPair edition strict) english p current v
-    → SameButRecord v (verdictOf edition p current)
-told-as-checked edition p current strict v says =
-    answers-of-coincide (fullPair edition strict) english p current v (verdictOf edition p current) says (verdict-says edition p current strict)
+  fails-first : (choices : Choices) (current : ℕ) → current ≤ 9999 → {ss : List Step} → Fitting ss → (i : ℕ) (f : Fields)
+      → FirstOf (choices .edition) ss i f → FailsFirst Counts choices english current ss i f
+  fails-first choices current small {ss} fit i f first =
+      record {
+        there = first .there;
+        counts = rw (first .shows) (shown (stepNeed (choices .edition) (partAt ss i)));
+        fails = λ back. part-fails choices current fit i (first .there) small (first .fails) (rw (first .shows) at back);
+        earlier = all-come-back choices current fit i (omega (arith, first .there)) (first .earlier);
+      }
 
--- so it is the same of both
-pub same-strict-or-not : (edition : Edition) (p : List ℕ) (current : ℤ) (v w : Verdict) → SaysOf (fullPair edition true) english p current v
-    → SaysOf (fullPair edition false) english p current w → SameButRecord v w
-same-strict-or-not edition p current v w says says′ = told-as-checked edition p current true v says ∙ sym (told-as-checked edition p current false w says′)
+  module _ (edition : Edition) (strict : Bool) (p : List ℕ) (current : ℤ) where
+    answer-says : trustCheck edition p current ≡ Fine → (v : Verdict) → Tells edition 0 (steps Full p) v
+        → SaysOf Counts (fullPair edition strict) english p current v
+    unfolding Tells SaysOf
+    answer-says checked verdict.Yes h =
+        (checked, all-come-back (fullPair edition strict) (natAbs current) (steps-fit p) (length (steps Full p)) (omega arith) h)
+    answer-says checked (verdict.No part f) h =
+        let small = year-bound edition current (else-fine (patternCheck p) (currentYearCheck edition current) checked .1) in
+        let e : part ≡ h .0 = omega (arith, h .1) in
+        (checked, rw e (fails-first (fullPair edition strict) (natAbs current) small (steps-fit p) (h .0) f (h .2)))
+    answer-says checked (verdict.Refused why) h = absurd h
+
+    pub verdict-says-of : SaysOf Counts (fullPair edition strict) english p current (verdictOf edition p current)
+    unfolding verdictOf
+    verdict-says-of = go (trustCheck edition p current) refl
+      where
+        go : (c : Checked) → trustCheck edition p current ≡ c
+            → SaysOf Counts (fullPair edition strict) english p current (verdictBy c (firstFailing edition 0 (steps Full p)))
+        go Fine e = answer-says e (firstFailing edition 0 (steps Full p)) (tells edition 0 (steps Full p))
+        go (Refused why) e = unfold SaysOf in e
+
+    -- what is said of a reading is what the check answers, but for the record
+    pub told-as-checked-of : (v : Verdict) → SaysOf Counts (fullPair edition strict) english p current v → SameButRecord v (verdictOf edition p current)
+    told-as-checked-of v says =
+        answers-of-coincide Counts (fullPair edition strict) english p current v (verdictOf edition p current) says verdict-says-of
+
+-- of real days, and of any allowed record
+
+module _ (edition : Edition) (p : List ℕ) (current : ℤ) where
+  pub verdict-says : Says edition english p current (verdictOf edition p current)
+  verdict-says strict = verdict-says-of RealDay (λ f real. real .allowed) witness-real edition strict p current
+
+  module _ (strict : Bool) where
+    pub verdict-says-any : SaysOf AnyAllowed (fullPair edition strict) english p current (verdictOf edition p current)
+    verdict-says-any = verdict-says-of AnyAllowed (λ f h. h) witness-fine edition strict p current
+
+    pub told-as-checked : (v : Verdict) → SaysOf RealDay (fullPair edition strict) english p current v → SameButRecord v (verdictOf edition p current)
+    told-as-checked = told-as-checked-of RealDay (λ f real. real .allowed) witness-real edition strict p current
+
+    -- Nothing is lost: with any allowed record in the place of a real day's, verdict and part are the same.
+    pub same-of-any : (v w : Verdict) → SaysOf RealDay (fullPair edition strict) english p current v
+        → SaysOf AnyAllowed (fullPair edition strict) english p current w → SameButRecord v w
+    same-of-any v w says says′ =
+        told-as-checked v says ∙ sym (told-as-checked-of AnyAllowed (λ f h. h) witness-fine edition strict p current w says′)
+
+  -- so it is the same of a strict reading and of a plain one
+  pub same-strict-or-not : (v w : Verdict) → SaysOf RealDay (fullPair edition true) english p current v
+      → SaysOf RealDay (fullPair edition false) english p current w → SameButRecord v w
+  same-strict-or-not v w says says′ = told-as-checked true v says ∙ sym (told-as-checked false w says′)

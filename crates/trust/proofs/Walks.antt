@@ -8,15 +8,13 @@ use native.Mathlib.Omega.{arith}
 use lib.IntN.{ℤ, natAbs}
 use lib.ListN.{length, drop, length-append}
 use lib.Seq.{append-snoc, drop-append-seam}
-use Rattle.meaning.specs.Answers.{fieldsCheck}
 use Rattle.meaning.specs.Names.{Book}
 use Rattle.meaning.specs.Readers.{got}
 use Rattle.meaning.specs.Reading.{readStep, carriedStep}
-use Rattle.meaning.specs.Trust.{ComesBack, AllComeBack, SaysOf}
+use Rattle.meaning.specs.Trust.{Records, ComesBack, AllComeBack, SaysOf}
 use Rattle.meaning.specs.Whole.{Gave, walked, walk, text}
 use Rattle.meaning.specs.Writing.{Step, steps, stepText, texts}
 use Rattle.meaning.specs.declared.Carried.{Carried}
-use Rattle.meaning.specs.declared.Checked.the-variants.{Fine}
 use Rattle.meaning.specs.declared.Choices.{Choices}
 use Rattle.meaning.specs.declared.Fields.{Fields}
 use Rattle.meaning.specs.declared.Verdict.the-variants.{Yes}
@@ -68,11 +66,11 @@ module _ (choices : Choices) (book : Book) (current : ℕ) where
         ∙ rw (end, newest-last mine (gaveFrom book f (at + length own) ss) gave))
 
 -- Where the check says yes, a pattern reads the whole of what it wrote, and gives what its parts carry, each from its own text.
-pub walk-yes : (choices : Choices) (book : Book) (p : List ℕ) (current : ℤ) → SaysOf choices book p current Yes → (f : Fields) → fieldsCheck f ≡ Fine
+pub walk-yes : (Counts : Records) (choices : Choices) (book : Book) (p : List ℕ) (current : ℤ) → SaysOf Counts choices book p current Yes → (f : Fields) → Counts f
     → walk choices book (natAbs current) 0 0 (steps (choices .pair) p) (text (choices .pair) book p f) []
     ≡ walked (length (text (choices .pair) book p f)) (gaveBy book f 0 (steps (choices .pair) p))
 unfolding SaysOf AllComeBack text
-walk-yes choices book p current says f fine =
+walk-yes Counts choices book p current says f counts =
     let ss = steps (choices .pair) p in
-    walk-comes-back choices book (natAbs current) f 0 0 ss [] (says .1 f fine)
+    walk-comes-back choices book (natAbs current) f 0 0 ss [] (says .1 f counts)
     ∙ rw (zero-add (length (text (choices .pair) book p f)), append-nil (gaveBy book f 0 ss))

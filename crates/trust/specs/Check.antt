@@ -16,7 +16,7 @@ use Rattle.meaning.specs.declared.Verdict.the-variants as verdict
 use Rattle.trust.specs.Ahead.{digitFirst, digitSecond}
 use Rattle.trust.specs.Needs.{stepNeed}
 use Rattle.trust.specs.declared.Need.{Need}
-use Rattle.trust.specs.declared.Need.the-variants.{Nothing, NoDigit, NoSecondDigit, Broken}
+use Rattle.trust.specs.declared.Need.the-variants.{Nothing, NoDigit, NoSecondDigit, Broken, LosesYear}
 
 -- whether what these parts can write meets a need
 unfoldable pub meets : Need → List Step → Bool
@@ -25,17 +25,32 @@ meets Nothing behind = true
 meets NoDigit behind = not (digitFirst behind)
 meets NoSecondDigit behind = not (digitSecond behind)
 meets Broken behind = false
+meets LosesYear behind = false
 
--- Two records show every failure. Both are real days of the year 1,000,001, and each has numbers that differ from each other
--- (`RealDays` of proofs/). The first is Monday, 5 February, at 3:04:07, eight hours ahead: each of its numbers has fewer
--- digits than a greedy read takes.
+-- Three records show every failure. Each is a real day (`RealDays` of proofs/), and the numbers of each differ from each other. The
+-- first is Monday, 5 February 2024, at 3:04:07, eight hours ahead: each of its numbers has fewer digits than a greedy read takes.
 abbrev pub shortNumbers : Fields
 shortNumbers =
-    record { year = pos 1000001; month = 2; day = 5; doy = 36; week = 6; wday = 1; nanos = 11047000000000; offset = pos 28800 }
+    record { year = pos 2024; month = 2; day = 5; doy = 36; week = 6; wday = 1; nanos = 11047000000000; offset = pos 28800 }
 
--- The second is Friday, 23 November, at 22:38:59, nine hours behind: each of its numbers has as many digits as it can have.
+-- The second is Saturday, 23 November 2024, at 22:38:59, nine hours behind: each of its numbers but the year has as many digits as
+-- it can have.
 abbrev pub longNumbers : Fields
 longNumbers =
+    record {
+      year = pos 2024;
+      month = 11;
+      day = 23;
+      doy = 328;
+      week = 47;
+      wday = 6;
+      nanos = 81539000000000;
+      offset = negℤ (pos 32400);
+    }
+
+-- The third is Friday, 23 November of the year 1,000,001, at the same time: the year too has as many digits as it can have.
+abbrev pub longYear : Fields
+longYear =
     record {
       year = pos 1000001;
       month = 11;
@@ -47,13 +62,14 @@ longNumbers =
       offset = negℤ (pos 32400);
     }
 
--- The record that shows a failure: a digit that follows is taken for a short number's own, a long number is cut, and only a
--- long number has a second digit.
+-- The record that shows a failure: a digit that follows is taken for a short number's own, a long number is cut, only a long
+-- number has a second digit, and only a long year loses digits.
 abbrev pub witness : Need → Fields
 witness Nothing = longNumbers
 witness NoDigit = shortNumbers
 witness NoSecondDigit = longNumbers
 witness Broken = longNumbers
+witness LosesYear = longYear
 
 -- the first of these parts that does not hold, counted on from i
 unfoldable pub firstFailing : Edition → ℕ → List Step → Verdict

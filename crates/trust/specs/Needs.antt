@@ -14,7 +14,7 @@ use Rattle.meaning.specs.declared.Rule.{Rule}
 use Rattle.meaning.specs.declared.Rule.the-variants.{Number, SkippedNumber, LetterQuarter, SkippedName, MatchedName, Letters, Years, FixedYear, TwoDigitYear, Zone}
 use Rattle.laws.specs.Widths.{mostDigits}
 use Rattle.trust.specs.declared.Need.{Need}
-use Rattle.trust.specs.declared.Need.the-variants.{Nothing, NoDigit, NoSecondDigit, Broken}
+use Rattle.trust.specs.declared.Need.the-variants.{Nothing, NoDigit, NoSecondDigit, Broken, LosesYear}
 
 -- A number with more digits than a read takes is cut: single M in the first edition. One read by a least count takes a digit that follows it.
 abbrev pub numberNeed : Quantity → ℕ → ℕ → Need
@@ -42,8 +42,8 @@ ruleNeed edition (SkippedName l n) = Nothing
 ruleNeed edition (MatchedName l) = Nothing
 ruleNeed edition (Letters l n) = Nothing
 ruleNeed edition (Years k) = NoDigit
-ruleNeed edition (FixedYear k) = when (leb 7 k) Nothing Broken
-ruleNeed edition TwoDigitYear = Broken
+ruleNeed edition (FixedYear k) = when (leb 7 k) Nothing LosesYear
+ruleNeed edition TwoDigitYear = LosesYear
 ruleNeed edition (Zone utc colon minutes seconds) = groupNeed colon (lastGroup minutes seconds)
 
 -- "`'abc''` writes abc, yet a read skips 4 bytes"

@@ -1,5 +1,5 @@
-// Demand 3, the pattern check: whether every part comes back for every allowed record, or the first that does not, with a
-// record that shows it.
+// Demand 3, the pattern check: whether every part comes back for every record of a real day, or the first that does not, with
+// such a record that shows it.
 pub mod lookahead;
 pub mod needs;
 
@@ -33,16 +33,17 @@ fn meets(need: Need, pattern: &[u8], place: usize) -> bool
         Need::NoDigit => !digit_first(pattern, place),
         Need::NoSecondDigit => !digit_second(pattern, place),
         Need::Broken => false,
+        Need::LosesYear => false,
     }
 }
 
-// Two real days of the year 1,000,001: Monday, 5 February, at 3:04:07, and Friday, 23 November, at 22:38:59. All their numbers
-// differ, so that none can stand in the place of another.
+// Three real days: Monday, 5 February 2024, at 3:04:07; Saturday, 23 November 2024, at 22:38:59; and Friday, 23 November of the
+// year 1,000,001, at the same time. The numbers of each differ, so that none can stand in the place of another.
 fn short_numbers() -> Fields
     ensures { λ r. ⌜ r ≡ trust.shortNumbers ⌝ }
 {
     Fields {
-        year: 1000001,
+        year: 2024,
         month: 2,
         day: 5,
         doy: 36,
@@ -55,6 +56,21 @@ fn short_numbers() -> Fields
 
 fn long_numbers() -> Fields
     ensures { λ r. ⌜ r ≡ trust.longNumbers ⌝ }
+{
+    Fields {
+        year: 2024,
+        month: 11,
+        day: 23,
+        doy: 328,
+        week: 47,
+        wday: 6,
+        nanos: 81539000000000,
+        offset: -32400,
+    }
+}
+
+fn long_year() -> Fields
+    ensures { λ r. ⌜ r ≡ trust.longYear ⌝ }
 {
     Fields {
         year: 1000001,
@@ -77,6 +93,7 @@ fn witness(need: Need) -> Fields
         Need::NoDigit => short_numbers(),
         Need::NoSecondDigit => long_numbers(),
         Need::Broken => long_numbers(),
+        Need::LosesYear => long_year(),
     }
 }
 
@@ -109,7 +126,7 @@ fn trust_check(edition: Edition, pattern: &[u8], year: i32) -> Checked
 }
 
 // Whether a pattern can be trusted to read back what it wrote, in an edition and a current year: the refusals 1, 2, 3, 14; yes exactly when
-// every part comes back for every allowed record; else the first part that fails for some record, with such a record.
+// every part comes back for every record of a real day; else the first part that fails for some such record, with one.
 pub fn verdict_on(edition: Edition, pattern: &[u8], year: i32) -> Verdict
     ensures { λ r. ⌜ Says edition english (now (pattern .entry)) year r ⌝ }
 {

@@ -86,12 +86,12 @@ fn last_group(minutes: Group, seconds: Group) -> Group
 
 // "7 is the first count from 5 up that always does."
 fn fixed_year_need(count: usize) -> Need
-    ensures { λ r. ⌜ r ≡ when (leb 7 count) Need.Nothing Need.Broken ⌝ }
+    ensures { λ r. ⌜ r ≡ when (leb 7 count) Need.Nothing Need.LosesYear ⌝ }
 {
     if 7 <= count {
         return Need::Nothing;
     }
-    Need::Broken
+    Need::LosesYear
 }
 
 fn rule_need(edition: Edition, rule: Rule) -> Need
@@ -122,7 +122,7 @@ fn rule_need(edition: Edition, rule: Rule) -> Need
         } => Need::Nothing,
         Rule::Years(_) => Need::NoDigit,
         Rule::FixedYear(count) => fixed_year_need(count),
-        Rule::TwoDigitYear => Need::Broken,
+        Rule::TwoDigitYear => Need::LosesYear,
         Rule::Zone {
             utc: _,
             colon,

@@ -13,6 +13,7 @@ use crate::calendar::Fields;
 use crate::choices::Edition;
 use crate::expected::lone_quote;
 use crate::generator::{at_boundaries, in_range, Random, BOUNDARIES};
+use crate::gregorian;
 use crate::limits::{pattern_limit, year_limit};
 use crate::walk::{Parts, Written};
 
@@ -22,7 +23,7 @@ const RANDOM_RECORDS: usize = 8;
 pub enum Verdict {
     Refused(String),
     Yes,
-    /// The first part that does not come back for some record, and such a record.
+    /// The first part that does not come back for some record, and such a record, of a real day where one was found.
     No(usize, Fields),
 }
 
@@ -33,7 +34,7 @@ pub fn verdict(request: &CheckRequest, random: &mut Random) -> Verdict {
     }
     let trial = Trial::of(request);
     match trial.first_failure(random) {
-        Some((part, fields)) => Verdict::No(part, fields),
+        Some((part, fields)) => Verdict::No(part, trial.on_a_real_day(part, fields)),
         None => Verdict::Yes,
     }
 }
@@ -95,6 +96,13 @@ impl Trial {
         })
     }
 
+    /// A record of a real day that fails at the part, for one of any fields that does.
+    fn on_a_real_day(&self, part: usize, fields: Fields) -> Fields {
+        real_days(&fields)
+            .find(|real| self.first_failing(real) == Some(part))
+            .unwrap_or(fields)
+    }
+
     fn written_from(&self, part: usize, fields: &Fields) -> Written {
         let written = self.parts.write_from(part, fields);
         written.expect("the Rust writes every allowed record")
@@ -116,4 +124,19 @@ impl Trial {
 fn all_at_once(random: &mut Random) -> impl Iterator<Item = Fields> + '_ {
     let boundaries = (0..BOUNDARIES).map(at_boundaries);
     boundaries.chain((0..RANDOM_RECORDS).map(|_| in_range(random)))
+}
+
+/// The record's time and offset, and some others, on each day of a leap year, of one with seven digits and of one before the first.
+fn real_days(fields: &Fields) -> impl Iterator<Item = Fields> {
+    const HOUR: u64 = 3_600_000_000_000;
+    let clocks = [
+        (fields.nanoseconds, fields.offset),
+        (3 * HOUR + 247_000_000_000, 8 * 3600),
+        (22 * HOUR + 2_339_000_000_000, -9 * 3600),
+        (0, 0),
+    ];
+    [2024, 1_234_567, -12]
+        .into_iter()
+        .flat_map(gregorian::days_of_year)
+        .flat_map(move |day| clocks.map(|(nanoseconds, offset)| day.at(nanoseconds, offset)))
 }

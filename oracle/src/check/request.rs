@@ -3,6 +3,7 @@
 use super::{Trial, Verdict};
 use crate::calendar::Fields;
 use crate::choices::Edition;
+use crate::gregorian;
 use crate::limits::field_limit;
 use crate::request::{bytes, edition, edition_word, field_words, fields, hex, number};
 use std::fmt;
@@ -38,10 +39,13 @@ impl CheckRequest {
         }
     }
 
-    /// The record shown must be allowed, and the part shown the first that it fails at and the first at all.
+    /// The record shown must be allowed and of a real day, and the part shown the first that it fails at and the first at all.
     fn fault_of_no(&self, verdict: &Verdict, part: usize, fields: &Fields) -> Option<String> {
         if let Some(limit) = field_limit(fields) {
             return Some(format!("the record is {limit}"));
+        }
+        if !gregorian::is_real(fields) {
+            return Some("the record is of no real day".to_string());
         }
         match (Trial::of(self).first_failing(fields), verdict) {
             (None, _) => Some("the record comes back".to_string()),

@@ -22,6 +22,9 @@ digit-second-requires c κs = search needs
 enum-told-4 : tie.Need-enum-told-4
 enum-told-4 c = search needs
 
+enum-told-5 : tie.Need-enum-told-5
+enum-told-5 c = search needs
+
 returns : tie.Need-returns
 unfolding meets
 returns c = rw (c .enum-told .given .1)
@@ -38,6 +41,10 @@ returns-4 : tie.Need-returns-4
 unfolding meets
 returns-4 c = rw (c .enum-told4 .given .1)
 
+returns-5 : tie.Need-returns-5
+unfolding meets
+returns-5 c = rw (c .enum-told5 .given .1)
+
 pub meets-spec : {M : Type 1} → statement M
 meets-spec =
     tie.close
@@ -48,7 +55,9 @@ meets-spec =
     enum-told-3
     digit-second-requires
     enum-told-4
+    enum-told-5
     returns
     returns-2
     returns-3
-    returns-4)
+    returns-4
+    returns-5)

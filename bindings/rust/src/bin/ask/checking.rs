@@ -37,12 +37,12 @@ mod tests {
     #[test]
     fn by_the_word_for_the_edition() {
         let answer = |words: &str| asked(words).expect("a request");
-        assert!(answer("642f4d 2025").starts_with("no 2 1000001 11 23 "));
+        assert!(answer("642f4d 2025").starts_with("no 2 2024 11 23 "));
         assert_eq!(answer("642f4d 2025 second"), "yes");
-        assert!(answer("4d64 2025").starts_with("no 0 1000001 11 23 "));
-        assert!(answer("4d64 2025 second").starts_with("no 0 1000001 2 5 "));
+        assert!(answer("4d64 2025").starts_with("no 0 2024 11 23 "));
+        assert!(answer("4d64 2025 second").starts_with("no 0 2024 2 5 "));
         for word in ["", " second"] {
-            assert!(answer(&format!("7979 2025{word}")).starts_with("no 0 1000001 "));
+            assert!(answer(&format!("7979 2025{word}")).starts_with("no 0 1000001 11 23 "));
         }
         assert_eq!((answer("64 80"), answer("64 81 second")), ("yes".into(), "yes".into()));
         assert_eq!(answer("64 80 second"), "refused 14 80");
