@@ -1,4 +1,7 @@
 pub mod Ascii
+pub mod BookNames
+pub mod BookRules
+pub mod Books
 pub mod CalendarCycles
 pub mod CalendarDates
 pub mod CalendarLine

@@ -22,7 +22,7 @@ use Rattle.meaning.specs.declared.Fields.{Fields}
 use Rattle.meaning.specs.declared.Offset.{Offset}
 use Rattle.meaning.specs.declared.Offset.the-variants as offset
 use Rattle.meaning.specs.declared.Refusal.{Refusal}
-use Rattle.meaning.specs.declared.Refusal.the-variants.{PatternTooLong, PatternByte, LoneQuote, FieldRange, NoRoom, TextTooLong, TextByte, InPart, OffsetLength, OffsetRange, CurrentYear, TextLeft, NoSuchDay, NoDayNumber}
+use Rattle.meaning.specs.declared.Refusal.the-variants.{PatternTooLong, PatternByte, LoneQuote, FieldRange, NoRoom, TextTooLong, TextByte, InPart, OffsetLength, OffsetRange, CurrentYear, TextLeft, NoSuchDay, NoDayNumber, BookMark, BookVersion, BookCut, BookName}
 use Rattle.meaning.specs.declared.Trouble.{Trouble}
 use Rattle.meaning.specs.declared.Trouble.the-variants.{TooFew, NoNumber, NoName, NoSign, LiteralDiffers, PlusSign}
 use Rattle.meaning.specs.declared.Verdict.{Verdict}
@@ -68,6 +68,10 @@ table =
     ∷ (λ ds. NoSuchDay)
     ∷ (λ ds. NoDayNumber)
     ∷ (λ ds. InPart PlusSign (one ds) (two ds))
+    ∷ (λ ds. BookMark)
+    ∷ (λ ds. BookVersion)
+    ∷ (λ ds. BookCut)
+    ∷ (λ ds. BookName (one ds))
     ∷ []
 
 abbrev refusalOf : ℕ → List ℤ → Refusal
@@ -103,6 +107,10 @@ found (CurrentYear year) = record { again = refl; not-0 = refl }
 found (TextLeft place) = record { again = refl; not-0 = refl }
 found NoSuchDay = record { again = refl; not-0 = refl }
 found NoDayNumber = record { again = refl; not-0 = refl }
+found BookMark = record { again = refl; not-0 = refl }
+found BookVersion = record { again = refl; not-0 = refl }
+found BookCut = record { again = refl; not-0 = refl }
+found (BookName which) = record { again = refl; not-0 = refl }
 
 pub refusal-number : (why : Refusal) → eqb (number why) 0 ≡ false
 refusal-number why = found why .not-0
