@@ -6,6 +6,7 @@ use lib.ListN.{take, drop}
 use Rattle.meaning.specs.Bytes.{bytes}
 use Rattle.meaning.specs.Books.{bookOf, joined, namesOf, Valid, namesCheck, bookBytes, bookCheck, namesIn, shelved}
 use Rattle.meaning.specs.Names.{english}
+use Rattle.meaning.specs.OpenedBooks.{namesAt, bookIn, openedNames, heldNames}
 use Rattle.meaning.specs.declared.Checked.{Checked}
 use Rattle.meaning.specs.declared.Checked.the-variants.{Fine, Refused}
 use Rattle.meaning.specs.declared.Refusal.the-variants.{BookMark, BookVersion, BookCut, BookName}
@@ -21,6 +22,19 @@ english-read = refl
 pub english-again : bookOf (namesOf english) ≡ english
 unfolding english bytes joined
 english-again = refl
+
+-- opened, it stands for English, as a row of any other size does
+pub english-opened : bookIn (openedNames (namesOf english)) ≡ english
+unfolding english bytes joined openedNames bookIn namesAt
+english-opened = refl
+
+pub english-held : heldNames (openedNames (namesOf english)) ≡ namesOf english
+unfolding english bytes joined openedNames heldNames namesAt
+english-held = refl
+
+pub english-unopened : bookIn [] ≡ english
+unfolding bookIn
+english-unopened = refl
 
 pub english-valid : Valid english
 unfolding english bytes joined namesCheck

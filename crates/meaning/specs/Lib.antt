@@ -16,4 +16,5 @@ pub mod Calendar
 pub mod Weeks
 pub mod Days
 pub mod Books
+pub mod OpenedBooks
 pub mod Promises
