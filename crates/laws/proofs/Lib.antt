@@ -25,6 +25,7 @@ pub mod Names
 pub mod Needed
 pub mod NextDays
 pub mod Numbers
+pub mod OpenedBooks
 pub mod OwnReaders
 pub mod OwnText
 pub mod Places
