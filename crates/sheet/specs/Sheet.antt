@@ -71,7 +71,7 @@ SheetUnits p = InTwoRows (splitAnswer (split p)) (unitEntries p) 256
 -- an answer that `Says` allows, which leaves open the failing record
 pub record Checks (edition : Edition) (p : List ℕ) (current : ℤ) (answer : Verdict → Answer) (row : List ℤ) (r : ℕ) (rowAfter : List ℤ) : Type 0 where
   pub verdict : Verdict
-  pub says : Says edition english p current verdict
+  pub says : Says edition p current verdict
   pub given : Given (answer verdict) row rowAfter r
 
 abbrev pub verdictIn : List ℤ → Verdict → Answer
