@@ -1,6 +1,6 @@
 -- What the rules of a book give of each of its lists: every name has the letters that it may have, and where no name may begin
 -- another, none does.
-use mathlib.Core.Bool.{Bool, true, false}
+use mathlib.Core.Bool.{Bool, true}
 use mathlib.Core.List.{List, [], _∷_, _++_, map}
 use mathlib.Core.Option.{Option, none, some}
 use mathlib.Core.Path.{_≡_, refl, sym, ap}
@@ -9,7 +9,7 @@ use native.Mathlib.Omega.{arith}
 use lib.Dec.{eqb}
 use lib.ListN.{length, getD, drop}
 use lib.Seq.{drop-append-seam}
-use Rattle.meaning.specs.Answers.{_else_, refuseUnless, within}
+use Rattle.meaning.specs.Answers.{refuseUnless, within}
 use Rattle.meaning.specs.Books as books
 use Rattle.meaning.specs.Bytes.{when, both}
 use Rattle.meaning.specs.Names.{Book, english, names}

@@ -1,13 +1,12 @@
 -- Any row that is lent stands for a book with as many names as there must be, none longer than it may be: so what is written with it
 -- has its eight bytes for each pattern byte, whatever the row holds.
-use mathlib.Core.Bool.{true, false}
 use mathlib.Core.List.{List, [], _∷_}
 use mathlib.Core.Option.{Option, none, some}
 use mathlib.Core.Path.{_≡_, refl, sym, ap, _∙_}
-use Prim.Native.Nat.{ℕ, zero, suc, min, _*_, _≤_, _<_}
+use Prim.Native.Nat.{ℕ, zero, suc, _*_, _≤_, _<_}
 use native.Mathlib.Omega.{arith}
 use lib.Dec.{eqb}
-use lib.ListN.{length, take, drop, length-take}
+use lib.ListN.{length, drop, length-take}
 use Rattle.meaning.proofs.Books.{english-valid}
 use Rattle.meaning.specs.Answers.{fieldsCheck, patternCheck}
 use Rattle.meaning.specs.Books.{Shelf}
@@ -22,7 +21,7 @@ use Rattle.meaning.specs.declared.NameList.the-variants.{EraAbbreviated, EraNar
 use Rattle.meaning.specs.declared.Pair.{Pair}
 use Rattle.laws.specs.Shelves.{shelfOf}
 use Rattle.laws.specs.Widths.{longest, mostOn, mostLetters}
-use Rattle.laws.proofs.BookNames.{as-many, valid-short}
+use Rattle.laws.proofs.BookNames.{valid-short}
 use Rattle.laws.proofs.BookRules.{Listed, listed}
 use Rattle.laws.proofs.Fields.{Allowed}
 use Rattle.laws.proofs.Places.{place-there}

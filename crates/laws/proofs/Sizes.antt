@@ -28,7 +28,6 @@ use Rattle.meaning.specs.declared.Role.the-variants as role
 use Rattle.meaning.specs.declared.Rule.{Rule}
 use Rattle.meaning.specs.declared.Rule.the-variants.{Number, SkippedNumber, LetterQuarter, SkippedName, MatchedName, Letters, Years, FixedYear, TwoDigitYear, Zone}
 use Rattle.meaning.specs.declared.NameList.{NameList}
-use Rattle.laws.specs.Shelves.{shelfOf}
 use Rattle.laws.specs.Widths.{mostDigits, longest, groupMost, mostLetters, mostBytes}
 use Rattle.laws.proofs.Checks.{pattern-fine}
 use Rattle.laws.proofs.Digits.{length-num, width-at-most}

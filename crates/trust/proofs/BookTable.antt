@@ -3,12 +3,12 @@
 use mathlib.Core.Bool.{Bool, true, false, not}
 use mathlib.Core.List.{List, [], _∷_}
 use mathlib.Core.Option.{Option, none, some}
-use mathlib.Core.Path.{_≡_, refl, sym, ap, _∙_}
-use Prim.Native.Nat.{ℕ, zero, suc, _≤_, _<_}
+use mathlib.Core.Path.{_≡_, refl}
+use Prim.Native.Nat.{ℕ, zero, suc, _≤_}
 use native.Mathlib.Omega.{arith}
 use lib.Dec.{eqb, leb, ltb}
 use lib.ListN.{length, getD}
-use borrow.Author.Tests.{eq-eqb, eqb-true, le-leb, leb-true, lt-leb, le-ltb, ltb-true}
+use borrow.Author.Tests.{eq-eqb, le-leb, leb-true, lt-leb, ltb-true}
 use Rattle.meaning.specs.Answers.{within}
 use Rattle.meaning.specs.Books.{Shelf, isLetter, allLetters, Valid}
 use Rattle.meaning.specs.Bytes.{when, both, isDigit, digitAt, num}

@@ -1,7 +1,7 @@
 -- When a rule of the table is in order, with a book: one test of a rule. The laws of the check ask for nothing else of a rule.
 use mathlib.Core.Bool.{Bool, true, false, not}
 use mathlib.Core.List.{List}
-use mathlib.Core.Path.{_≡_, refl}
+use mathlib.Core.Path.{_≡_}
 use Prim.Native.Nat.{ℕ, _≤_, _<_}
 use lib.Dec.{eqb, leb, ltb}
 use lib.ListN.{length}
@@ -9,24 +9,21 @@ use borrow.Author.Tests.{eqb-true, leb-true, lt-ltb, ltb-true}
 use Rattle.meaning.specs.Bytes.{when, both, digitAt, num}
 use Rattle.meaning.specs.Names.{Book, english, names}
 use Rattle.meaning.specs.Reading.{mostRead}
-use Rattle.meaning.specs.Rules.{roleOf}
 use Rattle.meaning.specs.Writing.{quantityOf, nameText}
 use Rattle.meaning.specs.declared.Edition.the-variants.{First, Second}
 use Rattle.meaning.specs.declared.Edition.{Edition}
 use Rattle.meaning.specs.declared.Group.{Group}
 use Rattle.meaning.specs.declared.Group.the-variants.{Never, NotZero, Always}
 use Rattle.meaning.specs.declared.NameList.{NameList}
-use Rattle.meaning.specs.declared.Pair.the-variants.{Full}
 use Rattle.meaning.specs.declared.ParseUnit.{ParseUnit}
 use Rattle.meaning.specs.declared.Quantity.{Quantity}
 use Rattle.meaning.specs.declared.Quantity.the-variants.{Month, Quarter, Week, Day, DayOfYear, Weekday, WeekdayFromMonday, Hour1To12, Hour0To11, Hour0To23, Hour1To24, Minute, Second, Fraction}
 use Rattle.meaning.specs.declared.Rule.{Rule}
 use Rattle.meaning.specs.declared.Rule.the-variants.{Number, SkippedNumber, LetterQuarter, SkippedName, MatchedName, Letters, Years, FixedYear, TwoDigitYear, Zone}
 use Rattle.laws.proofs.Names.{allApart}
-use Rattle.laws.proofs.Table.{RoleHas, tablePasses, symbolPasses, role-passes}
 use Rattle.laws.proofs.Tests.{both-true, every}
 use Rattle.laws.specs.Widths.{mostDigits}
-use Rattle.trust.specs.Ahead.{opening, nameFirst, hasLetters}
+use Rattle.trust.specs.Ahead.{nameFirst, hasLetters}
 use Rattle.trust.specs.Check.{shortNumbers, longNumbers}
 
 -- the number that a quantity writes for zero
