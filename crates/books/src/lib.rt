@@ -1,0 +1,2 @@
+// Request [8], name books.
+pub mod names;
