@@ -1,2 +1,3 @@
 // Request [8], name books.
 pub mod names;
+pub mod shelves;
