@@ -2,7 +2,10 @@
 use mathlib.Core.List.{List, [], _∷_}
 use Prim.Native.Nat.{ℕ, zero, suc, _+_}
 use lib.ListN.{getD, drop}
+use Rattle.meaning.specs.Books.{Shelved, cut, shelved}
 use Rattle.meaning.specs.OpenedBooks.{nameAt}
+use Rattle.books.specs.declared.places.Found.{Found}
+use Rattle.books.specs.declared.places.Found.the-variants.{Cut, Until}
 
 abbrev pub nameIn : List ℕ → ℕ → List ℕ
 nameIn s at = nameAt 255 (drop at s)
@@ -15,3 +18,8 @@ namesBy s (at ∷ places) = nameIn s at ∷ namesBy s places
 unfoldable pub earlier : List ℕ → List ℕ → ℕ → ℕ → List (List ℕ)
 earlier s places first zero = []
 earlier s places first (suc k) = nameIn s (getD places (first + k) 0) ∷ earlier s places first k
+
+-- what was found of a book's bytes: names at these places, and what is behind the last
+abbrev pub shelvedBy : List ℕ → List ℕ → Found → Shelved
+shelvedBy s places Cut = cut
+shelvedBy s places (Until end) = shelved (namesBy s places) (drop end s)

@@ -1,3 +1,4 @@
 // Request [8], name books.
 pub mod names;
+pub mod places;
 pub mod shelves;
