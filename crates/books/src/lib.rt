@@ -1,4 +1,5 @@
 // Request [8], name books.
+pub mod laying;
 pub mod names;
 pub mod places;
 pub mod shelves;
