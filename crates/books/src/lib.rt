@@ -2,4 +2,5 @@
 pub mod laying;
 pub mod names;
 pub mod places;
+pub mod reading;
 pub mod shelves;
