@@ -6,7 +6,7 @@ ghost use Prim.Native.Nat.{suc, _+_, _≤_, _<_};
 ghost use lib.ListN.{length};
 ghost use Rattle.books.specs.Places.{namesBy};
 ghost use Rattle.laws.specs.Laid.{Laid};
-ghost use Rattle.meaning.specs.Books.{shelveNames};
+ghost use Rattle.meaning.specs.Books.{bookBytes};
 ghost use Rattle.meaning.specs.OpenedBooks.{inRoom, openedNames};
 use crate::names::name_at;
 use digits::laying::put_byte;
@@ -48,26 +48,27 @@ pub fn put_rooms(s: &[u8], places: &[usize], out: &mut [u8]) -> usize
     at
 }
 
-// How many bytes the names have, each behind its length.
-pub fn names_length(s: &[u8], places: &[usize]) -> usize
+// How many bytes the book of these names has.
+pub fn book_length(s: &[u8], places: &[usize]) -> usize
     requires { ⌜ length (now places) ≡ 64 ⌝ }
-    ensures { λ r. ⌜ r ≡ length (shelveNames (namesBy (now (s .entry)) (now (places .entry)))) ⌝ }
+    ensures { λ r. ⌜ r ≡ length (bookBytes (namesBy (now (s .entry)) (now (places .entry)))) ⌝ }
 {
-    let mut n = 0;
+    let mut n = 5;
     for i in 0..64 {
         n += 1 + name_at(s, places[i]).len();
     }
     n
 }
 
-pub fn put_names(s: &[u8], places: &[usize], out: &mut [u8], at: usize) -> usize
+// The mark, version 1, and the names.
+pub fn put_book(s: &[u8], places: &[usize], out: &mut [u8]) -> usize
     requires { ⌜ length (now places) ≡ 64 ⌝ }
-    requires { ⌜ at + length (shelveNames (namesBy (now s) (now places))) ≤ length (now out) ⌝ }
-    ensures { λ r. ⌜ Laid (now (out .entry)) (now (out .exit)) at r (shelveNames (namesBy (now (s .entry)) (now (places .entry)))) ⌝ }
+    requires { ⌜ length (bookBytes (namesBy (now s) (now places))) ≤ length (now out) ⌝ }
+    ensures { λ r. ⌜ Laid (now (out .entry)) (now (out .exit)) 0 r (bookBytes (namesBy (now (s .entry)) (now (places .entry)))) ⌝ }
 {
-    let mut next = at;
+    let mut at = put_bytes(b"LNB\x00\x01", out, 0);
     for i in 0..64 {
-        next = put_name(name_at(s, places[i]), out, next);
+        at = put_name(name_at(s, places[i]), out, at);
     }
-    next
+    at
 }

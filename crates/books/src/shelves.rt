@@ -21,7 +21,9 @@ pub struct Shelf {
 }
 
 const COUNT: [usize; 7] = [12, 12, 7, 7, 7, 7, 12];
+
 const LEAST: [usize; 7] = [2, 2, 2, 3, 2, 1, 1];
+
 const MOST: [usize; 7] = [20, 20, 20, 3, 2, 1, 1];
 
 fn shelf_at(k: usize) -> Shelf

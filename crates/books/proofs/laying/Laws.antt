@@ -9,7 +9,8 @@ use lib.Seq.{sets, drop-cons, take-append-le, take-append-add}
 use Rattle.books.specs.Places.{nameIn, namesBy}
 use Rattle.laws.proofs.Laid.{sets-append}
 use Rattle.laws.specs.Laid.{Laid}
-use Rattle.meaning.specs.Books.{shelveNames}
+use Rattle.meaning.specs.Books.{shelveNames, bookBytes}
+use Rattle.meaning.specs.Bytes.{bytes}
 use Rattle.meaning.specs.OpenedBooks.{nameAt, inRoom, openedNames}
 
 short-name : (s : List ℕ) → length (nameAt 255 s) < 256
@@ -52,6 +53,15 @@ module _ (s places : List ℕ) (i : ℕ) where
   pub none-opened : length places ≤ i → openedNames (namesBy s (drop i places)) ≡ []
   unfolding openedNames
   none-opened h = rw (names-over h)
+
+-- what stands before the names
+
+pub book-is : (ns : List (List ℕ)) → bookBytes ns ≡ (76 ∷ 78 ∷ 66 ∷ 0 ∷ 1 ∷ []) ++ shelveNames ns
+unfolding bookBytes bytes
+book-is ns = refl
+
+pub book-size : (ns : List (List ℕ)) → length (bookBytes ns) ≡ 5 + length (shelveNames ns)
+book-size ns = ap length (book-is ns) ∙ omega arith
 
 -- the room of a name
 

@@ -1,18 +1,18 @@
--- What is counted and the names that are left are all of them.
+-- What is counted and the names that are left are the whole book.
 use mathlib.Core.Path.{_≡_}
 use Prim.Native.Nat.{_+_, _-_, _*_, _≤_, _<_}
 use denote.Ref.{now}
 use lib.ListN.{length, getD, drop}
 use native.Mathlib.Omega.{arith}
 use borrow.Author.Needs.{needs}
-use Rattle.meaning.specs.Books.{shelveNames}
+use Rattle.meaning.specs.Books.{shelveNames, bookBytes}
 use Rattle.books.specs.Places.{namesBy}
-use Rattle.books.proofs.laying.Laws.{name-short, shelved-length, none-shelved}
-use Rattle.books.proofs.laying.names_length.Statement.{statement}
-use Rattle.books.proofs.laying.names_length.Tie as tie
+use Rattle.books.proofs.laying.Laws.{name-short, shelved-length, none-shelved, book-size}
+use Rattle.books.proofs.laying.book_length.Statement.{statement}
+use Rattle.books.proofs.laying.book_length.Tie as tie
 
 abbrev Inv-loop : tie.InvT-loop
-Inv-loop s places n₀ i₀ n i = (n ≤ i * 256) × (n + length (shelveNames (namesBy s (drop i places))) ≡ length (shelveNames (namesBy s places)))
+Inv-loop s places n₀ i₀ n i = (n ≤ 5 + i * 256) × (n + length (shelveNames (namesBy s (drop i places))) ≡ length (bookBytes (namesBy s places)))
 
 abbrev μ-loop : tie.MeasureT-loop
 μ-loop s places n₀ i₀ n i = 64 - i
@@ -24,7 +24,9 @@ short c =
     rw (c .name-at .ensures) (name-short (now (a .s)) (getD (now (a .places)) (m .loop .i) 0))
 
 loop-holds : tie.Need-loop-holds Inv-loop μ-loop
-loop-holds c = (omega arith, omega arith)
+loop-holds c =
+    let a = c .before .before .args in
+    (omega arith, omega (arith, book-size (namesBy (now (a .s)) (now (a .places)))))
 
 mul-name-at : tie.Need-mul-name-at Inv-loop μ-loop
 mul-name-at c = search needs
@@ -62,8 +64,8 @@ returns c =
     let none = none-shelved (now (a .s)) (now (a .places)) (m .loop .i) (omega (arith, m .before .before .before .pre)) in
     omega (arith, rw none at (m .loop .inv .1))
 
-pub names-length-spec : {M : Type 1} → statement M
-names-length-spec =
+pub book-length-spec : {M : Type 1} → statement M
+book-length-spec =
     tie.close
     (tie.spec
     Inv-loop
