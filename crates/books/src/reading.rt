@@ -1,10 +1,10 @@
 // The check of a book's bytes: 20, 22 where there is no version, 21, 22, 23.
 ghost use mathlib.Core.Path.{_≡_};
 ghost use Prim.Native.Nat.{_≤_};
-ghost use lib.ListN.{length, drop};
+ghost use lib.ListN.{length};
 ghost use Rattle.books.specs.Checks.{startCheck, Checks};
-ghost use Rattle.books.specs.Places.{namesBy};
-ghost use Rattle.meaning.specs.Books.{isMark, versionOf, shelved, shelvedCheck};
+ghost use Rattle.books.specs.Places.{shelvedBy};
+ghost use Rattle.meaning.specs.Books.{isMark, versionOf, shelvedCheck};
 use crate::places::Found;
 use crate::places::find_names;
 use crate::shelves::check_names;
@@ -59,7 +59,7 @@ fn check_start(bytes: &[u8]) -> Checked
 fn check_found(bytes: &[u8], places: &[usize], end: usize) -> Checked
     requires { ⌜ 5 ≤ length (now bytes) ⌝ }
     requires { ⌜ length (now places) ≡ 64 ⌝ }
-    ensures { λ r. ⌜ r ≡ shelvedCheck (versionOf (now (bytes .entry))) (shelved (namesBy (now (bytes .entry)) (now (places .entry))) (drop end (now (bytes .entry)))) ⌝ }
+    ensures { λ r. ⌜ r ≡ shelvedCheck (versionOf (now (bytes .entry))) (shelvedBy (now (bytes .entry)) (now (places .entry)) (Found.Until end)) ⌝ }
 {
     if version(bytes) != 2 {
         if end < bytes.len() {

@@ -1,11 +1,11 @@
 // The check of a book's names, 23: list by list, each name by itself and against the earlier ones of its list.
-ghost use mathlib.Core.List.{[], _∷_};
+ghost use mathlib.Core.List.{_∷_};
 ghost use mathlib.Core.Path.{_≡_};
 ghost use Prim.Native.Nat.{suc, _+_, _≤_, _<_};
-ghost use lib.ListN.{length, getD, drop};
-ghost use Rattle.books.specs.Places.{nameIn, namesBy, earlier};
-ghost use Rattle.books.specs.Shelves.{meant};
-ghost use Rattle.meaning.specs.Books as books;
+ghost use lib.ListN.{length, drop};
+ghost use Rattle.books.specs.Places.{namesBy, earlier};
+ghost use Rattle.books.specs.Shelves.{meant, goodAt, listCheck};
+ghost use Rattle.meaning.specs.Books.{shelves, apartFrom, namesCheck};
 use crate::names::all_letters;
 use crate::names::are_apart;
 use crate::names::name_at;
@@ -20,6 +20,7 @@ pub struct Shelf {
     pub apart: bool,
 }
 
+// In book order: wide and short months; wide, short, two-letter and narrow weekdays; narrow months.
 const COUNT: [usize; 7] = [12, 12, 7, 7, 7, 7, 12];
 
 const LEAST: [usize; 7] = [2, 2, 2, 3, 2, 1, 1];
@@ -28,7 +29,7 @@ const MOST: [usize; 7] = [20, 20, 20, 3, 2, 1, 1];
 
 fn shelf_at(k: usize) -> Shelf
     requires { ⌜ k < 7 ⌝ }
-    ensures { λ r. ⌜ drop k books.shelves ≡ meant r ∷ drop (suc k) books.shelves ⌝ }
+    ensures { λ r. ⌜ drop k shelves ≡ meant r ∷ drop (suc k) shelves ⌝ }
 {
     Shelf {
         count: COUNT[k],
@@ -41,7 +42,7 @@ fn shelf_at(k: usize) -> Shelf
 // A name against so many from the first of its list on.
 fn is_apart(s: &[u8], places: &[usize], first: usize, count: usize, name: &[u8]) -> bool
     requires { ⌜ first + count ≤ length (now places) ⌝ }
-    ensures { λ r. ⌜ r ≡ books.apartFrom (earlier (now (s .entry)) (now (places .entry)) first count) (now (name .entry)) ⌝ }
+    ensures { λ r. ⌜ r ≡ apartFrom (earlier (now (s .entry)) (now (places .entry)) first count) (now (name .entry)) ⌝ }
 {
     let mut left = count;
     while 0 < left {
@@ -56,7 +57,7 @@ fn is_apart(s: &[u8], places: &[usize], first: usize, count: usize, name: &[u8])
 // The name behind so many from the first of its list on.
 fn is_good(s: &[u8], places: &[usize], shelf: Shelf, first: usize, count: usize) -> bool
     requires { ⌜ first + count < length (now places) ⌝ }
-    ensures { λ r. ⌜ r ≡ books.isGood (meant shelf) (earlier (now (s .entry)) (now (places .entry)) first count) (nameIn (now (s .entry)) (getD (now (places .entry)) (first + count) 0)) ⌝ }
+    ensures { λ r. ⌜ r ≡ goodAt shelf (now (s .entry)) (now (places .entry)) first count ⌝ }
 {
     let name = name_at(s, places[first + count]);
     if name.len() < shelf.least {
@@ -77,7 +78,7 @@ fn is_good(s: &[u8], places: &[usize], shelf: Shelf, first: usize, count: usize)
 fn check_shelf(s: &[u8], places: &[usize], shelf: Shelf, first: usize) -> Checked
     requires { ⌜ length (now places) ≡ 64 ⌝ }
     requires { ⌜ first + shelf .count ≤ 64 ⌝ }
-    ensures { λ r. ⌜ r ≡ books.shelfCheck (meant shelf) (shelf .count) (suc first) [] (namesBy (now (s .entry)) (drop first (now (places .entry)))) ⌝ }
+    ensures { λ r. ⌜ r ≡ listCheck shelf (now (s .entry)) (now (places .entry)) first ⌝ }
 {
     let mut count = 0;
     while count < shelf.count {
@@ -91,7 +92,7 @@ fn check_shelf(s: &[u8], places: &[usize], shelf: Shelf, first: usize) -> Checke
 
 pub fn check_names(s: &[u8], places: &[usize]) -> Checked
     requires { ⌜ length (now places) ≡ 64 ⌝ }
-    ensures { λ r. ⌜ r ≡ books.namesCheck books.shelves 1 (namesBy (now (s .entry)) (now (places .entry))) ⌝ }
+    ensures { λ r. ⌜ r ≡ namesCheck shelves 1 (namesBy (now (s .entry)) (now (places .entry))) ⌝ }
 {
     let mut first = 0;
     for k in 0..7 {

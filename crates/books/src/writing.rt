@@ -15,11 +15,11 @@ use meaning::Wrote;
 pub fn write_english(out: &mut [u8]) -> Wrote
     ensures { λ r. ⌜ WritesNames (namesOf english) (now (out .entry)) r (now (out .exit)) ⌝ }
 {
-    let book = crate::english::BOOK;
-    if out.len() < book.len() {
-        return Wrote::Refused(Refusal::NoRoom(book.len()));
+    let n = crate::english::BOOK.len();
+    if out.len() < n {
+        return Wrote::Refused(Refusal::NoRoom(n));
     }
-    Wrote::Length(put_bytes(&book, out, 0))
+    Wrote::Length(put_bytes(&crate::english::BOOK, out, 0))
 }
 
 // Each length as it stands: where it is none that a name may have, that name is refused.

@@ -1,7 +1,6 @@
 -- What the check finds, and the names that it found.
 use mathlib.Core.Path.{_≡_, sym, _∙_}
 use denote.Ref.{now}
-use native.Mathlib.Omega.{arith}
 use borrow.Author.Needs.{needs}
 use Rattle.meaning.specs.Books.{bookCheck}
 use Rattle.meaning.specs.declared.Checked.the-variants.{Fine}

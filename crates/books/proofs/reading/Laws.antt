@@ -1,7 +1,7 @@
 -- Laws of the check of a book's bytes: its mark, its version, what is behind the names, and all of it.
 use mathlib.Core.Bool.{true, false}
 use mathlib.Core.List.{List, [], _∷_}
-use mathlib.Core.Path.{_≡_, refl, sym, ap, _∙_}
+use mathlib.Core.Path.{_≡_, sym, ap, _∙_}
 use Prim.Native.Nat.{ℕ, _≤_, _<_}
 use native.Mathlib.Omega.{arith}
 use lib.Dec.{eqb, leb}
@@ -12,9 +12,9 @@ use Rattle.books.specs.Places.{namesBy}
 use Rattle.laws.proofs.Checks.{else-assoc, else-fine, fine-unless}
 use Rattle.laws.proofs.Tests.{by-test}
 use Rattle.meaning.specs.Answers.{_else_, refuseUnless}
-use Rattle.meaning.specs.Books.{shelves, namesCheck, Shelved, cut, shelved, namesIn, isMark, isVersion, versionOf, shelvedCheck, bookCheck}
+use Rattle.meaning.specs.Books.{shelves, namesCheck, cut, shelved, namesIn, isMark, isVersion, versionOf, shelvedCheck, bookCheck}
 use Rattle.meaning.specs.Bytes.{bytes, both}
-use Rattle.meaning.specs.OpenedBooks.{bookNames, allNames}
+use Rattle.meaning.specs.OpenedBooks.{allNames}
 use Rattle.meaning.specs.Readers.{begins}
 use Rattle.meaning.specs.declared.Checked.{Checked}
 use Rattle.meaning.specs.declared.Checked.the-variants.{Fine, Refused}

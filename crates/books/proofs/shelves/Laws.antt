@@ -1,5 +1,5 @@
 -- Laws of the check of names: the lists as the code has them, the earlier names of a list one by one, a name, the names of a list.
-use mathlib.Core.Bool.{Bool, true, false}
+use mathlib.Core.Bool.{true, false}
 use mathlib.Core.List.{List, [], _∷_}
 use mathlib.Core.Path.{_≡_, refl}
 use Prim.Native.Nat.{ℕ, zero, suc, _+_, _-_, _≤_, _<_}

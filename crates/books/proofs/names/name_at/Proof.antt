@@ -1,8 +1,6 @@
 -- All that its length says, or all that is there.
 use native.Mathlib.Omega.{arith}
 use denote.Ref.{now}
-use Prim.Native.Nat.{_<_}
-use lib.ListN.{getD}
 use mathlib.Core.Path.{sym}
 use borrow.Author.Needs.{needs}
 use Rattle.books.proofs.names.Laws.{no-name, whole-name, cut-name}

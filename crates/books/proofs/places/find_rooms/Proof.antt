@@ -3,7 +3,6 @@ use mathlib.Core.List.{List, _++_}
 use mathlib.Core.Path.{_≡_, refl, sym, _∙_}
 use Prim.Native.Nat.{ℕ, _-_, _*_}
 use lib.ListN.{length, take, drop, length-set}
-use native.Mathlib.Omega.{arith}
 use borrow.Author.Needs.{needs}
 use Rattle.meaning.specs.OpenedBooks.{namesAt}
 use Rattle.books.specs.Places.{namesBy}

@@ -1,7 +1,6 @@
 -- Byte by byte.
 use mathlib.Core.Path.{sym}
 use denote.Ref.{now}
-use native.Mathlib.Omega.{arith}
 use borrow.Author.Tests.{eq-eqb, ne-eqb}
 use borrow.Author.Needs.{needs}
 use Rattle.books.proofs.reading.Laws.{mark-is, too-short}

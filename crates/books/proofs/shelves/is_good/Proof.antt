@@ -1,7 +1,6 @@
 -- Its length, its letters, and the earlier ones where the list asks for that.
-use mathlib.Core.Path.{_≡_, sym, _∙_}
+use mathlib.Core.Path.{sym, _∙_}
 use borrow.Author.Tests.{not-true, not-false}
-use native.Mathlib.Omega.{arith}
 use borrow.Author.Needs.{needs}
 use Rattle.books.proofs.shelves.Laws.{too-short, too-long, no-letters, by-itself, by-earlier}
 use Rattle.books.proofs.shelves.is_good.Statement.{statement}
