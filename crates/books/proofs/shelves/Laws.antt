@@ -15,10 +15,15 @@ use Rattle.meaning.specs.declared.Checked.the-variants.{Fine, Refused}
 use Rattle.meaning.specs.declared.Refusal.{Refusal}
 use Rattle.meaning.specs.declared.Refusal.the-variants.{BookName}
 
-pub shelf-there : (k : ℕ) → k < 7
-    → drop k books.shelves
-    ≡ books.shelf (getD (12 ∷ 12 ∷ 7 ∷ 7 ∷ 7 ∷ 7 ∷ 12 ∷ []) k 0) (getD (2 ∷ 2 ∷ 2 ∷ 3 ∷ 2 ∷ 1 ∷ 1 ∷ []) k 0) (getD (20 ∷ 20 ∷ 20 ∷ 3 ∷ 2 ∷ 1 ∷ 1 ∷ []) k 0) (ltb k 3)
-    ∷ drop (suc k) books.shelves
+abbrev told : ℕ → books.Shelf
+told k =
+    books.shelf
+    (getD (12 ∷ 12 ∷ 7 ∷ 7 ∷ 7 ∷ 7 ∷ 12 ∷ []) k 0)
+    (getD (2 ∷ 2 ∷ 2 ∷ 3 ∷ 2 ∷ 1 ∷ 1 ∷ []) k 0)
+    (getD (20 ∷ 20 ∷ 20 ∷ 3 ∷ 2 ∷ 1 ∷ 1 ∷ []) k 0)
+    (ltb k 3)
+
+pub shelf-there : (k : ℕ) → k < 7 → drop k books.shelves ≡ told k ∷ drop (suc k) books.shelves
 shelf-there zero h = refl
 shelf-there (suc zero) h = refl
 shelf-there (suc (suc zero)) h = refl

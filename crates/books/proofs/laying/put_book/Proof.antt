@@ -53,7 +53,16 @@ put-name-requires c κs =
     let name = c .before .name-at in
     let size = shelved-length (now (a .s)) (now (a .places)) (m .loop .i) (omega (arith, start .pre .0)) in (
       rw (name .ensures) (name-short (now (a .s)) (getD (now (a .places)) (m .loop .i) 0)),
-      omega (arith, m .loop .inv .0, m .loop .inv .1, start .pre .1, first .put-bytes .ensures .end, first .put-bytes .kept .1 .0, book-size (namesBy (now (a .s)) (now (a .places))), rw (← name .ensures) at size),
+      omega (
+        arith,
+        m .loop .inv .0,
+        m .loop .inv .1,
+        start .pre .1,
+        first .put-bytes .ensures .end,
+        first .put-bytes .kept .1 .0,
+        book-size (namesBy (now (a .s)) (now (a .places))),
+        rw (← name .ensures) at size,
+      ),
     )
 
 add-i : tie.Need-add-i Inv-loop μ-loop
@@ -79,17 +88,23 @@ loop-again c =
 same-length : tie.Need-same-length Inv-loop μ-loop
 same-length c = c .before .loop .inv .0 ∙ c .before .before .before .before .put-bytes .kept .1 .0
 
+names-laid : (c : tie.After-loop Inv-loop μ-loop) →
+    let L = c .before .loop in
+    let first = c .before .before .before .before in
+    let a = first .before .before .before .before .before .before .args in
+    Laid (first .put-bytes .last .1 .0) (L .out) (first .put-bytes .result) (L .at) (shelveNames (namesBy (now (a .s)) (now (a .places))))
+names-laid c =
+    let L = c .before .loop in
+    let start = c .before .before .before .before .before .before .before .before .before .before in
+    let a = start .args in
+    let none = none-shelved (now (a .s)) (now (a .places)) (L .i) (omega (arith, start .pre .0)) in
+    record { end = omega (arith, rw none at (L .inv .1)); held = rw none at (L .inv .2) }
+
 returns : tie.Need-returns Inv-loop μ-loop
 returns c =
-    let m = c .before in
-    let first = m .before .before .before in
-    let start = first .before .before .before .before .before .before in
-    let a = start .args in
-    let none = none-shelved (now (a .s)) (now (a .places)) (m .loop .i) (omega (arith, start .pre .0)) in
-    let ns = namesBy (now (a .s)) (now (a .places)) in
-    let names : Laid (first .put-bytes .last .1 .0) (m .loop .out) (first .put-bytes .result) (m .loop .at) (shelveNames ns) =
-    record { end = omega (arith, rw none at (m .loop .inv .1)); held = rw none at (m .loop .inv .2) } in
-    rw (book-is ns) (laid-then (first .put-bytes .ensures) names)
+    let first = c .before .before .before .before in
+    let a = first .before .before .before .before .before .before .args in
+    rw (book-is (namesBy (now (a .s)) (now (a .places)))) (laid-then (first .put-bytes .ensures) (names-laid c))
 
 pub put-book-spec : {M : Type 1} → statement M
 put-book-spec =

@@ -36,8 +36,11 @@ name-at-requires c κs = search needs
 put-room-requires : tie.Need-put-room-requires Inv-loop μ-loop
 put-room-requires c κs =
     let m = c .before .before .before .before in
-    let a = m .before .before .before .before .args in
-    (rw (c .before .name-at .ensures) (name-short (now (a .s)) (getD (now (a .places)) (m .loop .i) 0)), omega (arith, m .loop .inv .0, m .loop .inv .1, m .before .before .before .before .pre .1))
+    let start = m .before .before .before .before in
+    let a = start .args in (
+      rw (c .before .name-at .ensures) (name-short (now (a .s)) (getD (now (a .places)) (m .loop .i) 0)),
+      omega (arith, m .loop .inv .0, m .loop .inv .1, start .pre .1),
+    )
 
 add-i : tie.Need-add-i Inv-loop μ-loop
 add-i c = search needs

@@ -30,7 +30,8 @@ shelf-at-requires c κs = search needs
 check-shelf-requires : tie.Need-check-shelf-requires Inv-loop μ-loop
 check-shelf-requires c κs =
     let L = c .before .before .loop in
-    (c .before .before .before .before .before .pre, omega (arith, counted (L .first) (L .k) (meant (c .shelf-at .result)) (c .shelf-at .ensures) (L .inv .0)))
+    let all = counted (L .first) (L .k) (meant (c .shelf-at .result)) (c .shelf-at .ensures) (L .inv .0) in
+    (c .before .before .before .before .before .pre, omega arith)
 
 enum-known-checked : tie.Need-enum-known-checked Inv-loop μ-loop
 enum-known-checked c = search needs
