@@ -1,9 +1,10 @@
--- What the laws of texts ask of a book's names, any valid book has: as many names as English in each list, and bytes that are ASCII.
+-- What the laws of texts ask of a book's names, any valid book has: as many names as English in each list, of bytes that are ASCII, none
+-- empty and none longer than it may be.
 use mathlib.Core.Bool.{true}
 use mathlib.Core.List.{List, [], _∷_}
 use mathlib.Core.Option.{Option, none, some}
 use mathlib.Core.Path.{_≡_, refl, sym, ap, _∙_}
-use Prim.Native.Nat.{ℕ, _<_}
+use Prim.Native.Nat.{ℕ, _≤_, _<_}
 use native.Mathlib.Omega.{arith}
 use lib.Dec.{leb}
 use lib.ListN.{length}
@@ -17,10 +18,13 @@ use Rattle.meaning.specs.declared.Fields.{Fields}
 use Rattle.meaning.specs.declared.NameList.{NameList}
 use Rattle.meaning.specs.declared.Rule.{Rule}
 use Rattle.meaning.specs.declared.Rule.the-variants.{Number, SkippedNumber, LetterQuarter, SkippedName, MatchedName, Letters, Years, FixedYear, TwoDigitYear, Zone}
+use Rattle.laws.specs.Shelves.{shelfOf}
+use Rattle.laws.specs.Widths.{longest, mostOn, mostLetters}
 use Rattle.laws.proofs.Ascii.{isAscii, AsciiNames, english-ascii}
-use Rattle.laws.proofs.BookRules.{shelfOf, Listed, listed, every-name}
+use Rattle.laws.proofs.BookRules.{fits, Listed, listed, every-name}
 use Rattle.laws.proofs.Fields.{Allowed}
 use Rattle.laws.proofs.Places.{place-there}
+use Rattle.laws.proofs.Sizes.{Short}
 use Rattle.laws.proofs.SomeBytes.{isName, someNames, namesThere, english-there}
 use Rattle.laws.proofs.Table.{table-weaker}
 use Rattle.laws.proofs.Tests.{both-true, both-are, by-test, every}
@@ -81,3 +85,21 @@ rule-names b v (Zone utc colon minutes seconds) h = h
 pub valid-there : (b : Book) → Valid b → namesThere b ≡ true
 unfolding namesThere
 valid-there b v = table-weaker (someNames english) (someNames b) (rule-names b v) english-there
+
+-- and none is longer than it may be
+
+fit-short : (s : Shelf) (ns : List (List ℕ)) → every (fits s) ns ≡ true → longest ns ≤ s .most
+unfolding every longest
+fit-short s [] h = omega arith
+fit-short s (name ∷ ns) h =
+    let t = both-true (fits s name) (every (fits s) ns) h in
+    let size = both-true (within (s .least) (s .most) (length name)) (allLetters name) (t .0) .0 in
+    omega (arith, leb-true (length name) (s .most) (both-true (leb (s .least) (length name)) (leb (length name) (s .most)) size .1), fit-short s ns (t .1))
+
+listed-short : (b : Book) (l : NameList) (o : Option Shelf) → Listed b l o → longest (names b l) ≤ mostOn o l
+listed-short b l none same = rw same (omega arith)
+listed-short b l (some s) good = fit-short s (names b l) (good .0 .fit)
+
+pub valid-short : (b : Book) → Valid b → Short b
+unfolding mostLetters
+valid-short b v l = listed-short b l (shelfOf l) (listed b v l)

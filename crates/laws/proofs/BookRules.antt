@@ -1,6 +1,6 @@
 -- What the rules of a book give of each of its lists: every name has the letters that it may have, and where no name may begin
 -- another, none does.
-use mathlib.Core.Bool.{Bool, true, false}
+use mathlib.Core.Bool.{Bool, true}
 use mathlib.Core.List.{List, [], _∷_, _++_, map}
 use mathlib.Core.Option.{Option, none, some}
 use mathlib.Core.Path.{_≡_, refl, sym, ap}
@@ -9,7 +9,7 @@ use native.Mathlib.Omega.{arith}
 use lib.Dec.{eqb}
 use lib.ListN.{length, getD, drop}
 use lib.Seq.{drop-append-seam}
-use Rattle.meaning.specs.Answers.{_else_, refuseUnless, within}
+use Rattle.meaning.specs.Answers.{refuseUnless, within}
 use Rattle.meaning.specs.Books as books
 use Rattle.meaning.specs.Bytes.{when, both}
 use Rattle.meaning.specs.Names.{Book, english, names}
@@ -19,6 +19,7 @@ use Rattle.meaning.specs.declared.NameList.{NameList}
 use Rattle.meaning.specs.declared.NameList.the-variants.{EraAbbreviated, EraNarrow, EraWide, QuarterWide, MonthAbbreviated, MonthWide, MonthNarrow, WdayAbbreviated, WdayWide, WdayNarrow, WdayShort, PeriodUpper, PeriodLower, PeriodDotted, PeriodLetter, NoonUpper, NoonLower, NoonDotted, NoonLetter}
 use Rattle.meaning.specs.declared.Refusal.the-variants.{BookName}
 use borrow.Author.Tests.{eq-eqb, eqb-true}
+use Rattle.laws.specs.Shelves.{shelfOf}
 use Rattle.laws.proofs.Checks.{else-fine, fine-unless}
 use Rattle.laws.proofs.Names.{apart, allApart}
 use Rattle.laws.proofs.Tests.{both-true, both-are, by-test, every, every-weaker, true-is-not-false}
@@ -101,29 +102,6 @@ goods (s ∷ ss) i (l ∷ ls) e h =
 
 pub good-lists : (b : Book) → books.Valid b → Goods books.shelves (books.listsOf b)
 good-lists b v = goods books.shelves 1 (books.listsOf b) (v .counts) (v .good)
-
--- by the list of names: the shelf that a book has it on, if it is the book's
-
-abbrev pub shelfOf : NameList → Option books.Shelf
-shelfOf EraAbbreviated = none
-shelfOf EraNarrow = none
-shelfOf EraWide = none
-shelfOf QuarterWide = none
-shelfOf MonthAbbreviated = some (books.shelf 12 2 20 true)
-shelfOf MonthWide = some (books.shelf 12 2 20 true)
-shelfOf MonthNarrow = some (books.shelf 12 1 1 false)
-shelfOf WdayAbbreviated = some (books.shelf 7 3 3 false)
-shelfOf WdayWide = some (books.shelf 7 2 20 true)
-shelfOf WdayNarrow = some (books.shelf 7 1 1 false)
-shelfOf WdayShort = some (books.shelf 7 2 2 false)
-shelfOf PeriodUpper = none
-shelfOf PeriodLower = none
-shelfOf PeriodDotted = none
-shelfOf PeriodLetter = none
-shelfOf NoonUpper = none
-shelfOf NoonLower = none
-shelfOf NoonDotted = none
-shelfOf NoonLetter = none
 
 -- what a list has: it is the same in every book, or it is good for its shelf, and has as many names
 abbrev pub Listed : Book → NameList → Option books.Shelf → Type 0

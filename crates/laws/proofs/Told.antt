@@ -8,9 +8,10 @@ use Prim.Native.Nat.{ℕ}
 use lib.Dec.{eqb}
 use lib.IntN.{ℤ, pos, natAbs}
 use lib.ListN.{getD}
+use Rattle.meaning.proofs.Books.{english-valid}
 use Rattle.meaning.specs.Answers.{number, details, Answer, refused, answerBy, wroteAnswer, offsetAnswer, dayNumberAnswer, verdictAnswer}
 use Rattle.meaning.specs.Bytes.{when}
-use Rattle.meaning.specs.Names.{Book}
+use Rattle.meaning.specs.Names.{english}
 use Rattle.meaning.specs.Promises.{SameAnswer}
 use Rattle.meaning.specs.Trust.{SaysOf, Says, trustCheck}
 use Rattle.meaning.specs.declared.Checked.{Checked}
@@ -211,9 +212,9 @@ pub day-number-by-told : (r d : DayNumber) → dayNumberAnswer r ≡ dayNumberAn
 day-number-by-told r d e = record { told = e; whole = day-numbers-told-apart r d e }
 
 -- the check: the first of its checks that refuses, or what its yes or no returns
-pub says-told : (edition : Edition) (book : Book) (p : List ℕ) (current : ℤ) (v : Verdict) → Says edition book p current v
+pub says-told : (edition : Edition) (p : List ℕ) (current : ℤ) (v : Verdict) → Says edition p current v
     → verdictAnswer v ≡ answerBy (trustCheck edition p current) (verdictAnswer v .values)
 unfolding SaysOf
-says-told edition book p current verdict.Yes s = rw (s false .0)
-says-told edition book p current (verdict.No part f) s = rw (s false .0)
-says-told edition book p current (verdict.Refused why) s = rw (s false)
+says-told edition p current verdict.Yes s = rw (s english english-valid false .0)
+says-told edition p current (verdict.No part f) s = rw (s english english-valid false .0)
+says-told edition p current (verdict.Refused why) s = rw (s english english-valid false)

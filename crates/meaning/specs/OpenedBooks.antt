@@ -2,9 +2,9 @@
 -- so that none has to look at the whole book to find a name.
 use mathlib.Core.List.{List, [], _∷_, _++_}
 use Prim.Native.Nat.{ℕ, zero, suc, min}
-use lib.Dec.{eqb, leb}
+use lib.Dec.{eqb}
 use lib.ListN.{length, take, drop, replicate}
-use Rattle.meaning.specs.Answers.{_else_, refuseUnless, roomCheck}
+use Rattle.meaning.specs.Answers.{_else_, roomCheck}
 use Rattle.meaning.specs.Books.{shelves, namesOf, Shelved, cut, shelved, namesIn, namesCheck, bookCheck, bookBytes}
 use Rattle.meaning.specs.Bytes.{when}
 use Rattle.meaning.specs.Names.{Book, english}

@@ -14,7 +14,6 @@ use Rattle.laws.proofs.DayNumbers.{days-coincide}
 use Rattle.laws.proofs.Determined.{determined}
 use Rattle.laws.specs.CalendarLine.{Short}
 use Rattle.meaning.specs.Answers.{Answer, fieldNumbers, verdictAnswer}
-use Rattle.meaning.specs.Names.{english}
 use Rattle.meaning.specs.declared.Choices.{Choices}
 use Rattle.meaning.specs.declared.Edition.{Edition}
 use Rattle.meaning.specs.declared.Fields.{Fields}
@@ -130,7 +129,7 @@ pub checks-coincide : (edition : Edition) (p : List ℕ) (current : ℤ) (row : 
     → SheetChecks edition p current row r rowAfter → SheetChecks edition p current row r′ rowAfter′ → SameCheck r r′ rowAfter rowAfter′
 checks-coincide edition p current row a b =
     checks-by (has 10 row) (a .verdict) (b .verdict) (leb-true 10 (length row))
-    (answers-coincide edition english p current (a .verdict) (b .verdict) (a .says) (b .says)) (a .given) (b .given)
+    (answers-coincide edition p current (a .verdict) (b .verdict) (a .says) (b .says)) (a .given) (b .given)
 
 pub checks-with-coincide : (n : ℕ) (p : List ℕ) (current : ℤ) (row : List ℤ) {r r′ : ℕ} {rowAfter rowAfter′ : List ℤ}
     → SheetChecksWith n p current row r rowAfter → SheetChecksWith n p current row r′ rowAfter′ → SameCheck r r′ rowAfter rowAfter′
@@ -140,5 +139,5 @@ checks-with-coincide n p current row {r} {r′} {rowAfter} {rowAfter′} a b = g
         → Given (ifChoices stands (verdictIn row (b .verdict))) row rowAfter′ r′ → SameCheck r r′ rowAfter rowAfter′
     go true x y =
         checks-by (has 10 row) (a .verdict) (b .verdict) (leb-true 10 (length row))
-        (answers-coincide (editionOf n) english p current (a .verdict) (b .verdict) (a .says) (b .says)) x y
+        (answers-coincide (editionOf n) p current (a .verdict) (b .verdict) (a .says) (b .says)) x y
     go false x y = same-check (given-coincide x y)

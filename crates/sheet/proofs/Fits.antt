@@ -16,6 +16,7 @@ use Rattle.laws.proofs.Fields.{allowed}
 use Rattle.laws.proofs.Pluses.{behindPart}
 use Rattle.laws.proofs.Sizes as sizes
 use Rattle.laws.proofs.Tests.{when-is}
+use Rattle.meaning.proofs.Books.{english-valid}
 use Rattle.meaning.specs.Answers.{_else_, refuseUnless, within, byteCheck, bytesCheck, endsInLoneQuote, patternCheck, fieldsCheck, roomCheck, textCheck, firstCurrentYear, currentYearCheck, restCheck, details}
 use Rattle.meaning.specs.Bytes.{when, both, plus}
 use Rattle.meaning.specs.Calendar.{isDate, dateNumber}
@@ -211,11 +212,11 @@ day-number-fits y m d =
 
 -- the check
 
-pub verdict-fits : (edition : Edition) (p : List ℕ) (current : ℤ) (v : Verdict) → NumberFits (length p) → SFits w32 current → Says edition english p current v → VerdictFits v
+pub verdict-fits : (edition : Edition) (p : List ℕ) (current : ℤ) (v : Verdict) → NumberFits (length p) → SFits w32 current → Says edition p current v → VerdictFits v
 unfolding SaysOf trustCheck
 verdict-fits edition p current verdict.Yes h y s = tt
 verdict-fits edition p current (verdict.No part f) h y s =
-    (omega (arith, s false .1 .there, few-steps Full p), omega (arith, allowed f (s false .1 .counts .allowed) .nanos))
+    (omega (arith, s english english-valid false .1 .there, few-steps Full p), omega (arith, allowed f (s english english-valid false .1 .counts .allowed) .nanos))
 verdict-fits edition p current (verdict.Refused why) h y s =
     let checks = else-fits (patternCheck p) (currentYearCheck edition current) (pattern-fits p h) (λ _. year-fits edition current y) in
-    rw (s false) at checks
+    rw (s english english-valid false) at checks
