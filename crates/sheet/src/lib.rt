@@ -39,7 +39,8 @@ fn write(pair: Pair, pattern: &[u8], f: Fields, out: &mut [u8], row: &mut [i64])
     if row.len() < 2 {
         return 100;
     }
-    give_wrote(format_with(pair, pattern, f, out), row)
+    let none: [u8; 0] = [];
+    give_wrote(format_with(pair, &none, pattern, f, out), row)
 }
 
 fn read(choices: Choices, pattern: &[u8], text: &[u8], year: i32, row: &mut [i64]) -> u32
@@ -48,7 +49,8 @@ fn read(choices: Choices, pattern: &[u8], text: &[u8], year: i32, row: &mut [i64
     if row.len() < 48 {
         return 100;
     }
-    give_reading(parse_with(choices, pattern, text, year), row)
+    let none: [u8; 0] = [];
+    give_reading(parse_with(choices, &none, pattern, text, year), row)
 }
 
 // The full pair's writer. The row: the length and 0, or the refusal's details.

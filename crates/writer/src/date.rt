@@ -9,5 +9,6 @@ use meaning::Wrote;
 pub fn format(pattern: &[u8], f: Fields, out: &mut [u8]) -> Wrote
     ensures { λ r. ⌜ Writes Pair.Date english (now (pattern .entry)) f (now (out .entry)) r (now (out .exit)) ⌝ }
 {
-    format_with(Pair::Date, pattern, f, out)
+    let none: [u8; 0] = [];
+    format_with(Pair::Date, &none, pattern, f, out)
 }

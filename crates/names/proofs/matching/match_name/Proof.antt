@@ -1,17 +1,27 @@
--- The table of the list's number holds the list's names: t where it is known, l where its number is.
 use borrow.Author.Needs.{needs}
-use Rattle.names.proofs.tables.Laws.{match-told}
 use Rattle.names.proofs.matching.match_name.Statement.{statement}
 use Rattle.names.proofs.matching.match_name.Tie as tie
+use Rattle.names.proofs.matching.match_name.Reads as reads
+use Rattle.names.proofs.matching.match_name.Lts as lts
+use Rattle.names.proofs.matching.match_english.Reads as match-english-reads
+use Rattle.names.proofs.matching.match_opened.Reads as match-opened-reads
+
+-- src/matching.rt:79:9
+match-opened-requires : tie.Need-match-opened-requires
+match-opened-requires c κs = search needs
+
+-- src/matching.rt:79:9
+returns : tie.Need-returns
+returns c = search needs
+
+-- src/matching.rt:81:5
+match-english-requires : tie.Need-match-english-requires
+match-english-requires c κs = search needs
+
+-- src/matching.rt:75:1
+returns-2 : tie.Need-returns-2
+returns-2 c = ?
 
 pub match-name-spec : {M : Type 1} → statement M
 match-name-spec =
-    tie.close
-    (tie.spec
-    (λ c κs. search needs)
-    (λ c κs. search needs) (λ c. search needs) (λ c. search needs) (λ c κs. search needs)
-    (λ c. let t = c .before .before .before .before .before in let l = t .before .before in match-told (t .seven .ensures) (rw (t .before .if1 .taken) at (l .table-of .ensures .1)) _ (c .first-name .ensures))
-    (λ c κs. search needs) (λ c. search needs) (λ c. search needs) (λ c κs. search needs)
-    (λ c. let t = c .before .before .before .before .before in let l = t .before .before .before in match-told (t .twelve .ensures) (rw (t .before .if2 .taken) at (l .table-of .ensures .1)) _ (c .first-name2 .ensures))
-    (λ c κs. search needs)
-    (λ c. let l = c .before .before .before in rw (l .table-of .ensures .1) at (c .match-in .ensures)))
+    tie.close (tie.spec match-opened-requires returns match-english-requires returns-2)
