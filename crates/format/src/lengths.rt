@@ -140,7 +140,11 @@ pub fn step_length(book: &[u8], step: Step, pattern: &[u8], f: Fields) -> usize
         Step::Open { from } => open_length(&pattern[from..]),
         Step::Short { number, count } => padded_length(short_number(number, f), count as usize),
         Step::Year(k) => rule_length(book, Rule::Years(k), f),
-        Step::MonthAbbreviated => rule_length(book, Rule::MatchedName(NameList::MonthAbbreviated), f),
+        Step::MonthAbbreviated => rule_length(
+            book,
+            Rule::MatchedName(NameList::MonthAbbreviated),
+            f,
+        ),
         Step::MonthWide => rule_length(book, Rule::MatchedName(NameList::MonthWide), f),
         Step::WdayWide => rule_length(book, Rule::MatchedName(NameList::WdayWide), f),
         Step::Run {

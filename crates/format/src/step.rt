@@ -82,7 +82,13 @@ pub fn format_step(
         }
         Step::Year(k) => zero_padded_i(f.year, k, out, at),
         Step::MonthAbbreviated => {
-            format_name(book, NameList::MonthAbbreviated, (f.month - 1) as usize, out, at)
+            format_name(
+                book,
+                NameList::MonthAbbreviated,
+                (f.month - 1) as usize,
+                out,
+                at,
+            )
         }
         Step::MonthWide => format_name(book, NameList::MonthWide, (f.month - 1) as usize, out, at),
         Step::WdayWide => format_name(book, NameList::WdayWide, f.wday as usize, out, at),

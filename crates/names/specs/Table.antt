@@ -1,14 +1,14 @@
 -- Names in rooms, and what a match among them finds.
 use mathlib.Core.List.{List}
 use mathlib.Core.Path.{_≡_}
-use Prim.Native.Nat.{ℕ, _+_, _*_, _≤_, _<_}
+use Prim.Native.Nat.{ℕ, _*_, _≤_, _<_}
 use lib.ListN.{length, drop}
-use Rattle.meaning.specs.Names.{names, english}
+use Rattle.meaning.specs.Names.{Book, names, english}
 use Rattle.meaning.specs.OpenedBooks.{nameRoom, openedSize, nameAt, namesAt, openedBook}
 use Rattle.meaning.specs.Readers.{Got, got, stopped}
 use Rattle.meaning.specs.declared.NameList.{NameList}
 use Rattle.meaning.specs.declared.NameList.the-variants.{MonthAbbreviated, MonthWide, MonthNarrow, WdayAbbreviated, WdayWide, WdayNarrow, WdayShort}
-use Rattle.names.specs.Lists.{mostAt}
+use Rattle.names.specs.Lists.{listAt, mostAt}
 use Rattle.names.specs.declared.rooms.Rooms.{Rooms}
 use Rattle.names.specs.declared.tables.Found.{Found}
 use Rattle.names.specs.declared.tables.Found.the-variants.{Name, Nothing}
@@ -22,23 +22,33 @@ abbrev pub foundIn : Got ℕ → Found
 foundIn (got length′ index) = Name index length′
 foundIn (stopped why place) = Nothing
 
--- rows of the English weekdays, and of the months: the names of each of their tables, cut to its most letters
+-- the number of a table that has a list's names
+pub record Numbered (n : ℕ) (list : NameList) : Type 0 where
+  pub below : n < 17
+  pub same : (book : Book) → names book (listAt n) ≡ names book list
+
+-- rows whose rooms hold these names, cut to the most letters
+pub record IsTable (most count : ℕ) (rows : List ℕ) (these : List (List ℕ)) : Type 0 where
+  pub short : most ≤ 20
+  pub inside : count * nameRoom ≤ length rows
+  pub held : namesAt most count rows ≡ these
+
+-- those of the English weekdays, and of the months: the names of each of their tables
 pub record Weekdays (rows : List ℕ) : Type 0 where
-  pub wide : namesAt 20 7 rows ≡ names english WdayWide
-  pub abbreviated : namesAt 3 7 rows ≡ names english WdayAbbreviated
-  pub short : namesAt 2 7 rows ≡ names english WdayShort
-  pub narrow : namesAt 1 7 rows ≡ names english WdayNarrow
+  pub wide : IsTable 20 7 rows (names english WdayWide)
+  pub abbreviated : IsTable 3 7 rows (names english WdayAbbreviated)
+  pub short : IsTable 2 7 rows (names english WdayShort)
+  pub narrow : IsTable 1 7 rows (names english WdayNarrow)
 
 pub record Months (rows : List ℕ) : Type 0 where
-  pub wide : namesAt 20 12 rows ≡ names english MonthWide
-  pub abbreviated : namesAt 3 12 rows ≡ names english MonthAbbreviated
-  pub narrow : namesAt 1 12 rows ≡ names english MonthNarrow
+  pub wide : IsTable 20 12 rows (names english MonthWide)
+  pub abbreviated : IsTable 3 12 rows (names english MonthAbbreviated)
+  pub narrow : IsTable 1 12 rows (names english MonthNarrow)
 
--- the rooms of a list in every opened book
+-- where a list is in every opened book
 pub record InBook (r : Rooms) (list : NameList) : Type 0 where
-  pub short : r .most ≤ 20
-  pub inside : r .from + r .count * nameRoom ≤ openedSize
-  pub held : (row : List ℕ) → namesAt (r .most) (r .count) (drop (r .from) row) ≡ names (openedBook row) list
+  pub inside : r .from ≤ openedSize
+  pub holds : (row : List ℕ) → length row ≡ openedSize → IsTable (r .most) (r .count) (drop (r .from) row) (names (openedBook row) list)
 
 -- a table of the English weekdays or months, and its most letters
 pub record IsEnglish (table most : ℕ) : Type 0 where

@@ -3,14 +3,13 @@
 // book, then the weekdays and the months.
 ghost use mathlib.Core.Path.{_≡_};
 ghost use Prim.Native.Nat.{_≤_, _<_};
-ghost use Rattle.meaning.specs.Names.{Book, names, english};
-ghost use Rattle.meaning.specs.OpenedBooks.{namesAt};
-ghost use Rattle.names.specs.Lists.{listAt, mostAt};
-ghost use Rattle.names.specs.Table.{Weekdays, Months};
+ghost use Rattle.meaning.specs.Names.{names, english};
+ghost use Rattle.names.specs.Lists.{listAt};
+ghost use Rattle.names.specs.Table.{Numbered, IsTable, Weekdays, Months, IsEnglish};
 use meaning::NameList;
 
 pub fn table_of(list: NameList) -> usize
-    ensures { λ r. ⌜ (r < 17) × ((book : Book) → names book (listAt r) ≡ names book list) ⌝ }
+    ensures { λ r. ⌜ Numbered r list ⌝ }
 {
     match list {
         NameList::EraAbbreviated => 0,
@@ -38,7 +37,7 @@ pub fn table_of(list: NameList) -> usize
 // How many letters the English weekdays and months of a table have at most.
 pub fn most_of(table: usize) -> usize
     requires { ⌜ (10 ≤ table) × (table < 17) ⌝ }
-    ensures { λ r. ⌜ r ≡ mostAt table ⌝ }
+    ensures { λ r. ⌜ IsEnglish table r ⌝ }
 {
     match table {
         11 => 3,
@@ -52,7 +51,7 @@ pub fn most_of(table: usize) -> usize
 
 pub fn two(n: usize) -> [u8; 42]
     requires { ⌜ n < 5 ⌝ }
-    ensures { λ r. ⌜ namesAt 20 2 r ≡ names english (listAt n) ⌝ }
+    ensures { λ r. ⌜ IsTable 20 2 r (names english (listAt n)) ⌝ }
 {
     match n {
         0 => crate::rows::ERA_ABBREVIATED,
@@ -65,7 +64,7 @@ pub fn two(n: usize) -> [u8; 42]
 
 pub fn four(n: usize) -> [u8; 84]
     requires { ⌜ (5 ≤ n) × (n < 9) ⌝ }
-    ensures { λ r. ⌜ namesAt 20 4 r ≡ names english (listAt n) ⌝ }
+    ensures { λ r. ⌜ IsTable 20 4 r (names english (listAt n)) ⌝ }
 {
     match n {
         5 => crate::rows::QUARTER_WIDE,
@@ -76,7 +75,7 @@ pub fn four(n: usize) -> [u8; 84]
 }
 
 pub fn six() -> [u8; 126]
-    ensures { λ r. ⌜ namesAt 20 6 r ≡ names english (listAt 9) ⌝ }
+    ensures { λ r. ⌜ IsTable 20 6 r (names english (listAt 9)) ⌝ }
 {
     crate::rows::NOON_WORDS
 }

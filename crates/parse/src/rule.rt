@@ -53,7 +53,10 @@ pub fn parse_rule(
         Rule::LetterQuarter => pass(2, text, cursor),
         Rule::SkippedName { names: _, length } => pass(length, text, cursor),
         Rule::MatchedName(names) => parse_name(book, names, text, cursor),
-        Rule::Letters { names, length } => named(names, cursor.match_letters(book, names, length, text)),
+        Rule::Letters { names, length } => named(
+            names,
+            cursor.match_letters(book, names, length, text),
+        ),
         Rule::Years(_) => parse_years(text, cursor),
         Rule::FixedYear(count) => parse_fixed_year(count, text, cursor),
         Rule::TwoDigitYear => parse_two_digit_year(edition, current_year, text, cursor),

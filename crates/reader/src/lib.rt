@@ -22,13 +22,7 @@ use meaning::Pair;
 use meaning::Reading;
 
 // Reads a text by a pattern, with these choices. A refused read gives only the refusal and its detail.
-pub fn parse_with(
-    choices: Choices,
-    book: &[u8],
-    pattern: &[u8],
-    text: &[u8],
-    year: i32,
-) -> Reading
+pub fn parse_with(choices: Choices, book: &[u8], pattern: &[u8], text: &[u8], year: i32) -> Reading
     ensures { λ r. ⌜ Reads choices (bookIn (now (book .entry))) (now (pattern .entry)) (now (text .entry)) year r ⌝ }
 {
     let edition = choices.edition;

@@ -18,13 +18,7 @@ use pattern::checks::pattern_check;
 
 // Writes a record by a pattern of either pair. A refused write alters no byte, an accepted one just those it reports. The text is
 // measured where 8 bytes for each of the pattern, which are always enough, do not fit.
-pub fn format_with(
-    pair: Pair,
-    book: &[u8],
-    pattern: &[u8],
-    f: Fields,
-    out: &mut [u8],
-) -> Wrote
+pub fn format_with(pair: Pair, book: &[u8], pattern: &[u8], f: Fields, out: &mut [u8]) -> Wrote
     ensures { λ r. ⌜ Writes pair (bookIn (now (book .entry))) (now (pattern .entry)) f (now (out .entry)) r (now (out .exit)) ⌝ }
 {
     let of_fields = fields_check(f);

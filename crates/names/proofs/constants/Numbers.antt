@@ -7,9 +7,8 @@ use borrow.Author.Tests.{eqb-true, eqb-false}
 use lib.Dec.{eqb}
 use Rattle.laws.proofs.Tests.{by-test}
 use Rattle.meaning.specs.Names.{Book, names, english}
-use Rattle.meaning.specs.OpenedBooks.{namesAt}
 use Rattle.names.specs.Lists.{listAt, mostAt}
-use Rattle.names.specs.Table.{Weekdays, Months}
+use Rattle.names.specs.Table.{IsTable, Weekdays, Months, IsEnglish}
 
 -- the first of those from k on, or a later one
 pub first-or : (P : ℕ → Type 0) (k n : ℕ) → k ≤ n → P k → (k < n → P n) → P n
@@ -30,14 +29,15 @@ fixed-names book n h =
 -- the English weekdays' and months' names are in their rows
 
 abbrev Held : ℕ → List ℕ → ℕ → Type 0
-Held count rows n = namesAt (mostAt n) count rows ≡ names english (listAt n)
+Held count rows n = IsTable (mostAt n) count rows (names english (listAt n))
 
-pub each-weekday : {rows : List ℕ} → Weekdays rows → (n : ℕ) → 10 ≤ n → n < 14 → namesAt (mostAt n) 7 rows ≡ names english (listAt n)
-each-weekday {rows} w n h k =
+pub weekday-table : {rows : List ℕ} {n most : ℕ} → Weekdays rows → IsEnglish n most → n < 14 → IsTable most 7 rows (names english (listAt n))
+weekday-table {rows} {n} w e k =
     let next = first-or (Held 7 rows) in
-    next 10 n h (w .wide) (λ m. next 11 n m (w .abbreviated) (λ m. next 12 n m (w .short) (λ m. next 13 n m (w .narrow) (λ m. absurd (omega arith)))))
+    rw (e .short)
+    (next 10 n (e .from) (w .wide) (λ m. next 11 n m (w .abbreviated) (λ m. next 12 n m (w .short) (λ m. next 13 n m (w .narrow) (λ m. absurd (omega arith))))))
 
-pub each-month : {rows : List ℕ} → Months rows → (n : ℕ) → 14 ≤ n → n < 17 → namesAt (mostAt n) 12 rows ≡ names english (listAt n)
-each-month {rows} w n h k =
+pub month-table : {rows : List ℕ} {n most : ℕ} → Months rows → IsEnglish n most → 14 ≤ n → IsTable most 12 rows (names english (listAt n))
+month-table {rows} {n} w e h =
     let next = first-or (Held 12 rows) in
-    next 14 n h (w .wide) (λ m. next 15 n m (w .abbreviated) (λ m. next 16 n m (w .narrow) (λ m. absurd (omega arith))))
+    rw (e .short) (next 14 n h (w .wide) (λ m. next 15 n m (w .abbreviated) (λ m. next 16 n m (w .narrow) (λ m. absurd (omega arith)))))

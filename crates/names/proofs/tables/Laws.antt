@@ -10,12 +10,15 @@ use borrow.Author.Tests.{eq-eqb, ne-eqb}
 use lib.Dec.{eqb}
 use lib.ListN.{length, take, drop, getD, length-take, length-drop, drop-of-length-le}
 use lib.Seq.{drop-cons, drop-drop, getD-take, getD-drop}
+use Rattle.laws.proofs.OpenedBooks.{count-at}
 use Rattle.laws.proofs.Tests.{when-true, when-false}
 use Rattle.meaning.specs.Bytes.{both, when}
 use Rattle.meaning.specs.OpenedBooks.{nameRoom, nameAt, namesAt}
-use Rattle.meaning.specs.Readers.{begins, firstName, got, stopped}
+use Rattle.meaning.specs.Readers.{begins, firstName, matchName, got, stopped}
 use Rattle.meaning.specs.declared.Trouble.the-variants.{NoName}
-use Rattle.names.specs.Table.{nameIn}
+use Rattle.laws.specs.Laid.{Laid}
+use Rattle.names.specs.Table.{nameIn, foundIn, IsTable}
+use Rattle.names.specs.declared.tables.Found.{Found}
 
 -- ---- what a room holds
 
@@ -43,11 +46,6 @@ room most rows i short h =
 
 -- ---- rooms, one after the other
 
-pub names-length : (most count : ℕ) (rows : List ℕ) → length (namesAt most count rows) ≡ count
-unfolding namesAt
-names-length most zero rows = refl
-names-length most (suc k) rows = ap suc (names-length most k (drop nameRoom rows))
-
 pub names-at : (most count : ℕ) (rows : List ℕ) (i : ℕ) → i < count → getD (namesAt most count rows) i [] ≡ nameIn most rows i
 unfolding namesAt
 names-at most zero rows i h = absurd (omega arith)
@@ -55,6 +53,31 @@ names-at most (suc k) rows zero h = refl
 names-at most (suc k) rows (suc i) h =
     let e : nameRoom + i * nameRoom ≡ suc i * nameRoom = omega arith in
     names-at most k (drop nameRoom rows) i (omega arith) ∙ rw (drop-drop, e)
+
+-- ---- rooms that hold these names, for the calls over them
+
+module _ {most count : ℕ} {rows : List ℕ} {these : List (List ℕ)} (t : IsTable most count rows these) where
+  index-below : (i : ℕ) → i < length these → i < count
+  index-below i h = omega (arith, count-at most count rows, ap length (t .held))
+
+  name-told : (i : ℕ) → i < length these → nameIn most rows i ≡ getD these i []
+  name-told i h = sym (names-at most count rows i (index-below i h)) ∙ rw (t .held)
+
+  pub index-asked : (i : ℕ) → i < length these → (most ≤ 20) × (i * nameRoom + nameRoom ≤ length rows)
+  index-asked i h = let k = index-below i h in (t .short, omega arith)
+
+  pub length-told : (i : ℕ) → i < length these → length (nameIn most rows i) ≡ length (getD these i [])
+  length-told i h = ap length (name-told i h)
+
+  pub put-asked : (i at room : ℕ) → i < length these → at + length (getD these i []) ≤ room
+      → ((most ≤ 20) × (i * nameRoom + nameRoom ≤ length rows)) × (at + length (nameIn most rows i) ≤ room)
+  put-asked i at room h k = (index-asked i h, omega (arith, length-told i h))
+
+  pub put-told : {old new : List ℕ} {at next : ℕ} (i : ℕ) → i < length these → Laid old new at next (nameIn most rows i) → Laid old new at next (getD these i [])
+  put-told i h l = rw (name-told i h) at l
+
+  pub match-told : {r : Found} (s : List ℕ) → r ≡ foundIn (matchName (namesAt most count rows) s) → r ≡ foundIn (matchName these s)
+  match-told s l = rw (t .held) at l
 
 -- ---- a turn over the bytes of a name
 
@@ -93,7 +116,7 @@ module _ (most count : ℕ) (rows s : List ℕ) (i : ℕ) where
   step : i < count → firstName i (drop i all) s ≡ when (begins name s) (got (length name) i) (firstName (i + 1) (drop (i + 1) all) s)
   unfolding firstName
   step h =
-      let k : i < length all = omega (arith, names-length most count rows) in
+      let k : i < length all = omega (arith, count-at most count rows) in
       rw (drop-cons all i [] k, names-at most count rows i h, add-one i)
 
   pub this-name : i < count → begins name s ≡ true → firstName i (drop i all) s ≡ got (length name) i
@@ -105,5 +128,5 @@ module _ (most count : ℕ) (rows s : List ℕ) (i : ℕ) where
   pub no-name : count ≤ i → firstName i (drop i all) s ≡ stopped NoName 0
   unfolding firstName
   no-name h =
-      let k : length all ≤ i = omega (arith, names-length most count rows) in
+      let k : length all ≤ i = omega (arith, count-at most count rows) in
       rw (drop-of-length-le all k)

@@ -1,5 +1,6 @@
 -- The rows compute to the names of each table.
 use mathlib.Core.Path.{refl}
+use native.Mathlib.Omega.{arith}
 use Rattle.meaning.specs.Bytes.{bytes}
 use Rattle.meaning.specs.Names.{names, english}
 use Rattle.meaning.specs.OpenedBooks.{namesAt}
@@ -8,4 +9,12 @@ use Rattle.names.proofs.constants.seven.Tie as tie
 
 pub seven-spec : {M : Type 1} → statement M
 unfolding names english bytes namesAt
-seven-spec = tie.close (tie.spec (λ c. record { wide = refl; abbreviated = refl; short = refl; narrow = refl }))
+seven-spec =
+    tie.close
+    (tie.spec
+    (λ c. record {
+      wide = record { short = omega arith; inside = omega arith; held = refl };
+      abbreviated = record { short = omega arith; inside = omega arith; held = refl };
+      short = record { short = omega arith; inside = omega arith; held = refl };
+      narrow = record { short = omega arith; inside = omega arith; held = refl };
+    }))

@@ -1,5 +1,6 @@
 -- The table computes to its list's names.
 use mathlib.Core.Path.{refl}
+use native.Mathlib.Omega.{arith}
 use Rattle.meaning.specs.Bytes.{bytes}
 use Rattle.meaning.specs.Names.{names, english}
 use Rattle.meaning.specs.OpenedBooks.{namesAt}
@@ -8,4 +9,4 @@ use Rattle.names.proofs.constants.six.Tie as tie
 
 pub six-spec : {M : Type 1} → statement M
 unfolding names english bytes namesAt
-six-spec = tie.close (tie.spec (λ c. refl))
+six-spec = tie.close (tie.spec (λ c. record { short = omega arith; inside = omega arith; held = refl }))

@@ -1,59 +1,18 @@
+-- The list's names are those of its table, l where its number is known, or those of the rooms, o where these are known.
 use borrow.Author.Needs.{needs}
+use denote.Ref.{now}
+use Rattle.meaning.specs.Names.{english}
+use Rattle.names.proofs.rooms.Lent.{part-holds, fixed-list, opened-list}
+use Rattle.names.proofs.tables.Laws.{match-told}
 use Rattle.names.proofs.matching.match_opened.Statement.{statement}
 use Rattle.names.proofs.matching.match_opened.Tie as tie
-use Rattle.names.proofs.matching.match_opened.Reads as reads
-use Rattle.names.proofs.matching.match_opened.Lts as lts
-use Rattle.names.proofs.constants.table_of.Reads as table-of-reads
-use Rattle.names.proofs.matching.match_english.Reads as match-english-reads
-use Rattle.names.proofs.rooms.rooms_of.Reads as rooms-of-reads
-use Rattle.names.proofs.tables.first_name.Reads as first-name-reads
-
--- src/matching.rt:65:9
-table-of-requires : tie.Need-table-of-requires
-table-of-requires c κs = search needs
-
--- src/matching.rt:67:9
-match-english-requires : tie.Need-match-english-requires
-match-english-requires c κs = search needs
-
--- src/matching.rt:67:9
-returns : tie.Need-returns
-returns c = ?
-
--- src/matching.rt:69:9
-rooms-of-requires : tie.Need-rooms-of-requires
-rooms-of-requires c κs = search needs
-
--- src/matching.rt:71:16
-sub-first-name : tie.Need-sub-first-name
-sub-first-name c = search needs
-
--- src/matching.rt:71:16
-part-first-name-start : tie.Need-part-first-name-start
-part-first-name-start c = search needs
-
--- src/matching.rt:71:16
-part-first-name-end : tie.Need-part-first-name-end
-part-first-name-end c = search needs
-
--- src/matching.rt:71:5
-first-name-requires : tie.Need-first-name-requires
-first-name-requires c κs = search needs
-
--- src/matching.rt:61:1
-returns-2 : tie.Need-returns-2
-returns-2 c = ?
 
 pub match-opened-spec : {M : Type 1} → statement M
 match-opened-spec =
     tie.close
     (tie.spec
-    table-of-requires
-    match-english-requires
-    returns
-    rooms-of-requires
-    sub-first-name
-    part-first-name-start
-    part-first-name-end
-    first-name-requires
-    returns-2)
+    (λ c κs. search needs) (λ c κs. search needs)
+    (λ c. let l = c .before .before in let s = l .before .before .before in rw (fixed-list (l .table-of .ensures) (now (s .args .book)) (search needs), l .table-of .ensures .same english) (c .match-english .ensures))
+    (λ c κs. search needs) (λ c. search needs) (λ c. search needs) (λ c. search needs)
+    (λ c κs. let o = c .before in let s = o .before .before .before .before .before in let t = part-holds (o .rooms-of .ensures) (now (s .args .book)) (s .pre) in (t .short, t .inside))
+    (λ c. let o = c .before .before in let l = o .before .before in let s = l .before .before .before in rw (opened-list (l .table-of .ensures) (now (s .args .book))) (match-told (part-holds (o .rooms-of .ensures) (now (s .args .book)) (s .pre)) _ (c .first-name .ensures))))
