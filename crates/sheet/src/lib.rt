@@ -39,14 +39,7 @@ use reader::plain;
 use verdict::verdict_on;
 use writer::format_with;
 
-fn write(
-    pair: Pair,
-    book: &[u8],
-    pattern: &[u8],
-    f: Fields,
-    out: &mut [u8],
-    row: &mut [i64],
-) -> u32
+fn write(pair: Pair, book: &[u8], pattern: &[u8], f: Fields, out: &mut [u8], row: &mut [i64]) -> u32
     ensures { λ r. ⌜ SheetWrites pair (bookIn (now (book .entry))) (now (pattern .entry)) f (now (out .entry)) (now (row .entry)) r (now (out .exit)) (now (row .exit)) ⌝ }
 {
     if row.len() < 2 {
