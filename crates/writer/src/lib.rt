@@ -16,7 +16,7 @@ use meaning::Refusal;
 use meaning::Wrote;
 use pattern::checks::pattern_check;
 
-// Writes a record by a pattern of either pair. A refused write alters no byte, an accepted one just those it reports. The text is
+// Writes a record by a pattern of either pair, with the names of a lent book. A refused write alters no byte, an accepted one just those it reports. The text is
 // measured where 8 bytes for each of the pattern, which are always enough, do not fit.
 pub fn format_with(pair: Pair, book: &[u8], pattern: &[u8], f: Fields, out: &mut [u8]) -> Wrote
     ensures { λ r. ⌜ Writes pair (bookIn (now (book .entry))) (now (pattern .entry)) f (now (out .entry)) r (now (out .exit)) ⌝ }
@@ -35,10 +35,17 @@ pub fn format_with(pair: Pair, book: &[u8], pattern: &[u8], f: Fields, out: &mut
     Wrote::Length(format_parts(pair, book, pattern, f, out))
 }
 
+// With the English names, for which an empty row stands.
+fn format_english(pair: Pair, pattern: &[u8], f: Fields, out: &mut [u8]) -> Wrote
+    ensures { λ r. ⌜ Writes pair english (now (pattern .entry)) f (now (out .entry)) r (now (out .exit)) ⌝ }
+{
+    let none: [u8; 0] = [];
+    format_with(pair, &none, pattern, f, out)
+}
+
 // The full pair's writer.
 pub fn format(pattern: &[u8], f: Fields, out: &mut [u8]) -> Wrote
     ensures { λ r. ⌜ Writes Pair.Full english (now (pattern .entry)) f (now (out .entry)) r (now (out .exit)) ⌝ }
 {
-    let none: [u8; 0] = [];
-    format_with(Pair::Full, &none, pattern, f, out)
+    format_english(Pair::Full, pattern, f, out)
 }
