@@ -42,7 +42,7 @@ names-there v s (shelved ns rest) kept h =
     (kept .1, else-fine (refuseUnless (when (mayGoOn v) true (eqb (length rest) 0)) BookCut) (namesCheck shelves 1 ns) h .1)
 
 module _ (s : List ℕ) (fine : bookCheck s ≡ Fine) where
-  read-names : (length (bookNames s) ≡ 64) × (namesCheck shelves 1 (bookNames s) ≡ Fine)
+  pub read-names : (length (bookNames s) ≡ 64) × (namesCheck shelves 1 (bookNames s) ≡ Fine)
   read-names = names-there (versionOf s) (drop 5 s) (namesIn 64 (drop 5 s)) (names-kept 64 (drop 5 s)) (opened s fine .there)
 
   -- what it was opened into stands for its names
@@ -65,7 +65,7 @@ module _ (s : List ℕ) (fine : bookCheck s ≡ Fine) where
 
 -- a row that was written
 
-held-all : (row : List ℕ) → length (heldNames row) ≡ 64
+pub held-all : (row : List ℕ) → length (heldNames row) ≡ 64
 unfolding heldNames
 held-all row =
     when-is (λ (ns : List (List ℕ)). length ns ≡ 64) (eqb (length row) openedSize) (λ _. count-at 255 64 row) (λ _. all-names english english-valid)

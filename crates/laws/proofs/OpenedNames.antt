@@ -96,7 +96,7 @@ lists-held (s ∷ ss) (l ∷ ls) before few e good =
 
 -- a valid book
 
-abbrev added : List ℕ → ℕ
+abbrev pub added : List ℕ → ℕ
 added [] = 0
 added (n ∷ ns) = n + added ns
 

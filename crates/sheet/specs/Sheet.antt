@@ -1,17 +1,17 @@
 -- What each function for C and Rust promises of the number r that it returns and of the lent rows afterwards. Where a lent row
 -- is too small for the answer, r is 100, where a number stands for no choices, 101, where a row is no book, 102, and nothing is altered.
-use mathlib.Core.Bool.{Bool, true}
+use mathlib.Core.Bool.{Bool}
 use mathlib.Core.List.{List, []}
 use mathlib.Core.Path.{_≡_}
 use Prim.Native.Nat.{ℕ}
-use lib.Dec.{eqb, leb}
+use lib.Dec.{leb}
 use lib.IntN.{ℤ}
 use lib.ListN.{length}
 use Rattle.meaning.specs.Answers.{Answer, splitAnswer, wroteAnswer, readAnswer, offsetAnswer, dayNumberAnswer, dayAnswer, verdictAnswer}
 use Rattle.meaning.specs.Bytes.{when, both}
 use Rattle.meaning.specs.Days.{DayOf, dayNumber}
 use Rattle.meaning.specs.Names.{Book, english}
-use Rattle.meaning.specs.OpenedBooks.{openedSize, bookIn, openBook, openOutput, writeBook, bookOutput}
+use Rattle.meaning.specs.OpenedBooks.{bookIn, openBook, openOutput, writeBook, bookOutput}
 use Rattle.meaning.specs.Trust.{Says}
 use Rattle.meaning.specs.Whole.{split, write, output, read, parseOffset}
 use Rattle.meaning.specs.declared.Choices.{Choices}
@@ -20,7 +20,7 @@ use Rattle.meaning.specs.declared.Edition.{Edition}
 use Rattle.meaning.specs.declared.Fields.{Fields}
 use Rattle.meaning.specs.declared.Pair.{Pair}
 use Rattle.meaning.specs.declared.Verdict.{Verdict}
-use Rattle.sheet.specs.Rows.{inRow, Given, laid, pairOf, editionOf, choicesOf, ofReading, ofCheck, isMarked, splitNumbers, unitEntries}
+use Rattle.sheet.specs.Rows.{inRow, Given, laid, pairOf, editionOf, choicesOf, ofReading, ofCheck, isBook, isMarked, splitNumbers, unitEntries}
 
 -- whether a row has so many entries
 abbrev pub has : {A : Type 0} → ℕ → List A → Bool
@@ -33,10 +33,6 @@ ifRoom room answer = when room answer (record { number = 100; values = [] })
 -- an answer where a number stands for choices
 abbrev pub ifChoices : Bool → Answer → Answer
 ifChoices stands answer = when stands answer (record { number = 101; values = [] })
-
--- whether a lent row is a book: an opened one, or an empty row, which stands for English
-abbrev pub isBook : List ℕ → Bool
-isBook book = when (eqb (length book) 0) true (eqb (length book) openedSize)
 
 -- an answer where a row is a book
 abbrev pub ifBook : Bool → Answer → Answer

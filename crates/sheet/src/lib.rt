@@ -8,8 +8,10 @@ pub mod splits;
 pub mod units;
 pub mod verdicts;
 
+ghost use Rattle.meaning.specs.Names.{english};
+ghost use Rattle.meaning.specs.OpenedBooks.{bookIn};
 ghost use Rattle.meaning.specs.Whole.{plain};
-ghost use Rattle.sheet.specs.Sheet.{SheetWrites, SheetReads, SheetReadsWith, SheetParsesOffset, SheetSplits, SheetUnits, SheetChecks, SheetChecksWith, SheetTellsRead, SheetDay, SheetDayNumber};
+ghost use Rattle.sheet.specs.Sheet.{SheetWrites, SheetReads, SheetReadsWith, SheetWritesBy, SheetReadsBy, SheetOpensBook, SheetWritesBook, SheetParsesOffset, SheetSplits, SheetUnits, SheetChecks, SheetChecksWith, SheetTellsRead, SheetDay, SheetDayNumber};
 use crate::answers::give_offset;
 use crate::answers::give_wrote;
 use crate::days::give_day;
@@ -17,10 +19,14 @@ use crate::days::give_day_number;
 use crate::readings::choices_of;
 use crate::readings::edition_of;
 use crate::readings::give_reading;
+use crate::readings::is_book;
 use crate::readings::is_marked;
+use crate::readings::pair_of;
 use crate::splits::give_split;
 use crate::units::give_units;
 use crate::verdicts::give_verdict;
+use books::read_book;
+use books::write_book;
 use calendar::day_number;
 use calendar::day_of;
 use meaning::Choices;
@@ -33,24 +39,29 @@ use reader::plain;
 use verdict::verdict_on;
 use writer::format_with;
 
-fn write(pair: Pair, pattern: &[u8], f: Fields, out: &mut [u8], row: &mut [i64]) -> u32
-    ensures { λ r. ⌜ SheetWrites pair (now (pattern .entry)) f (now (out .entry)) (now (row .entry)) r (now (out .exit)) (now (row .exit)) ⌝ }
+fn write(pair: Pair, book: &[u8], pattern: &[u8], f: Fields, out: &mut [u8], row: &mut [i64]) -> u32
+    ensures { λ r. ⌜ SheetWrites pair (bookIn (now (book .entry))) (now (pattern .entry)) f (now (out .entry)) (now (row .entry)) r (now (out .exit)) (now (row .exit)) ⌝ }
 {
     if row.len() < 2 {
         return 100;
     }
-    let none: [u8; 0] = [];
-    give_wrote(format_with(pair, &none, pattern, f, out), row)
+    give_wrote(format_with(pair, book, pattern, f, out), row)
 }
 
-fn read(choices: Choices, pattern: &[u8], text: &[u8], year: i32, row: &mut [i64]) -> u32
-    ensures { λ r. ⌜ SheetReads choices (now (pattern .entry)) (now (text .entry)) year (now (row .entry)) r (now (row .exit)) ⌝ }
+fn read(
+    choices: Choices,
+    book: &[u8],
+    pattern: &[u8],
+    text: &[u8],
+    year: i32,
+    row: &mut [i64],
+) -> u32
+    ensures { λ r. ⌜ SheetReads choices (bookIn (now (book .entry))) (now (pattern .entry)) (now (text .entry)) year (now (row .entry)) r (now (row .exit)) ⌝ }
 {
     if row.len() < 48 {
         return 100;
     }
-    let none: [u8; 0] = [];
-    give_reading(parse_with(choices, &none, pattern, text, year), row)
+    give_reading(parse_with(choices, book, pattern, text, year), row)
 }
 
 // The full pair's writer. The row: the length and 0, or the refusal's details.
@@ -68,7 +79,7 @@ pub extern "C" fn sheet_write(
     out: &mut [u8],
     answer: &mut [i64],
 ) -> u32
-    ensures { λ r. ⌜ SheetWrites Pair.Full (now (pattern .entry)) (record { year = year; month = month; day = day; doy = doy; week = week; wday = wday; nanos = nanos; offset = offset }) (now (out .entry)) (now (answer .entry)) r (now (out .exit)) (now (answer .exit)) ⌝ }
+    ensures { λ r. ⌜ SheetWrites Pair.Full english (now (pattern .entry)) (record { year = year; month = month; day = day; doy = doy; week = week; wday = wday; nanos = nanos; offset = offset }) (now (out .entry)) (now (answer .entry)) r (now (out .exit)) (now (answer .exit)) ⌝ }
 {
     let f = Fields {
         year,
@@ -80,7 +91,8 @@ pub extern "C" fn sheet_write(
         nanos,
         offset,
     };
-    write(Pair::Full, pattern, f, out, answer)
+    let english: [u8; 0] = [];
+    write(Pair::Full, &english, pattern, f, out, answer)
 }
 
 // The Date pair's writer.
@@ -98,7 +110,7 @@ pub extern "C" fn sheet_write_date(
     out: &mut [u8],
     answer: &mut [i64],
 ) -> u32
-    ensures { λ r. ⌜ SheetWrites Pair.Date (now (pattern .entry)) (record { year = year; month = month; day = day; doy = doy; week = week; wday = wday; nanos = nanos; offset = offset }) (now (out .entry)) (now (answer .entry)) r (now (out .exit)) (now (answer .exit)) ⌝ }
+    ensures { λ r. ⌜ SheetWrites Pair.Date english (now (pattern .entry)) (record { year = year; month = month; day = day; doy = doy; week = week; wday = wday; nanos = nanos; offset = offset }) (now (out .entry)) (now (answer .entry)) r (now (out .exit)) (now (answer .exit)) ⌝ }
 {
     let f = Fields {
         year,
@@ -110,24 +122,27 @@ pub extern "C" fn sheet_write_date(
         nanos,
         offset,
     };
-    write(Pair::Date, pattern, f, out, answer)
+    let english: [u8; 0] = [];
+    write(Pair::Date, &english, pattern, f, out, answer)
 }
 
 // The full pair's reader. The row: the bytes read, the mask, how many units, the fifteen values, and for each unit where its part
 // began, from 18 on, and where it ended, from 33 on; or the refusal's details and zeros, 48 numbers in all.
 #[no_mangle]
 pub extern "C" fn sheet_read(pattern: &[u8], text: &[u8], year: i32, answer: &mut [i64]) -> u32
-    ensures { λ r. ⌜ SheetReads (plain Pair.Full) (now (pattern .entry)) (now (text .entry)) year (now (answer .entry)) r (now (answer .exit)) ⌝ }
+    ensures { λ r. ⌜ SheetReads (plain Pair.Full) english (now (pattern .entry)) (now (text .entry)) year (now (answer .entry)) r (now (answer .exit)) ⌝ }
 {
-    read(plain(Pair::Full), pattern, text, year, answer)
+    let english: [u8; 0] = [];
+    read(plain(Pair::Full), &english, pattern, text, year, answer)
 }
 
 // The Date pair's reader.
 #[no_mangle]
 pub extern "C" fn sheet_read_date(pattern: &[u8], text: &[u8], year: i32, answer: &mut [i64]) -> u32
-    ensures { λ r. ⌜ SheetReads (plain Pair.Date) (now (pattern .entry)) (now (text .entry)) year (now (answer .entry)) r (now (answer .exit)) ⌝ }
+    ensures { λ r. ⌜ SheetReads (plain Pair.Date) english (now (pattern .entry)) (now (text .entry)) year (now (answer .entry)) r (now (answer .exit)) ⌝ }
 {
-    read(plain(Pair::Date), pattern, text, year, answer)
+    let english: [u8; 0] = [];
+    read(plain(Pair::Date), &english, pattern, text, year, answer)
 }
 
 // A reader with choices, each a number, added: 1 for the Date pair, 2 for a strict reading, 4 for the second edition. The row as
@@ -145,7 +160,93 @@ pub extern "C" fn sheet_read_with(
     if 7 < choices {
         return 101;
     }
-    read(choices_of(choices), pattern, text, year, answer)
+    let english: [u8; 0] = [];
+    read(choices_of(choices), &english, pattern, text, year, answer)
+}
+
+// A book opened: its bytes into a lent row of 1,344 bytes or more. The row of the answer: 1344 and 0, or the refusal's details.
+#[no_mangle]
+pub extern "C" fn sheet_book_read(bytes: &[u8], book: &mut [u8], answer: &mut [i64]) -> u32
+    ensures { λ r. ⌜ SheetOpensBook (now (bytes .entry)) (now (book .entry)) (now (answer .entry)) r (now (book .exit)) (now (answer .exit)) ⌝ }
+{
+    if answer.len() < 2 {
+        return 100;
+    }
+    give_wrote(read_book(bytes, book), answer)
+}
+
+// The book of a lent row, written as bytes of version 1; an empty row is English. Another row than an opened book's is none: 102, and
+// nothing is altered. The row of the answer: the length and 0, or the refusal's details.
+#[no_mangle]
+pub extern "C" fn sheet_book_write(book: &[u8], out: &mut [u8], answer: &mut [i64]) -> u32
+    ensures { λ r. ⌜ SheetWritesBook (now (book .entry)) (now (out .entry)) (now (answer .entry)) r (now (out .exit)) (now (answer .exit)) ⌝ }
+{
+    if !is_book(book) {
+        return 102;
+    }
+    if answer.len() < 2 {
+        return 100;
+    }
+    give_wrote(write_book(book, out), answer)
+}
+
+// A writer with a reader's choices, of which the pair counts, and the names of a lent book. The row as before.
+#[no_mangle]
+pub extern "C" fn sheet_write_by(
+    choices: u32,
+    book: &[u8],
+    pattern: &[u8],
+    year: i32,
+    month: u32,
+    day: u32,
+    doy: u32,
+    week: u32,
+    wday: u32,
+    nanos: u64,
+    offset: i32,
+    out: &mut [u8],
+    answer: &mut [i64],
+) -> u32
+    ensures { λ r. ⌜ SheetWritesBy choices (now (book .entry)) (now (pattern .entry)) (record { year = year; month = month; day = day; doy = doy; week = week; wday = wday; nanos = nanos; offset = offset }) (now (out .entry)) (now (answer .entry)) r (now (out .exit)) (now (answer .exit)) ⌝ }
+{
+    if 7 < choices {
+        return 101;
+    }
+    if !is_book(book) {
+        return 102;
+    }
+    let f = Fields {
+        year,
+        month,
+        day,
+        doy,
+        week,
+        wday,
+        nanos,
+        offset,
+    };
+    write(pair_of(choices), book, pattern, f, out, answer)
+}
+
+// A reader with choices and the names of a lent book. The row as before.
+#[no_mangle]
+pub extern "C" fn sheet_read_by(
+    choices: u32,
+    book: &[u8],
+    pattern: &[u8],
+    text: &[u8],
+    year: i32,
+    answer: &mut [i64],
+) -> u32
+    ensures { λ r. ⌜ SheetReadsBy choices (now (book .entry)) (now (pattern .entry)) (now (text .entry)) year (now (answer .entry)) r (now (answer .exit)) ⌝ }
+{
+    if 7 < choices {
+        return 101;
+    }
+    if !is_book(book) {
+        return 102;
+    }
+    read(choices_of(choices), book, pattern, text, year, answer)
 }
 
 // 1 where a unit was read, by the mask of a reading, the second number of its row; else 0.
