@@ -45,4 +45,4 @@ abbrev pub unseen : Edition → Choices
 unseen edition = record { pair = Full; strict = false; edition = edition }
 
 abbrev pub plainRead : Edition → Book → ℕ → Step → Reader Carried
-plainRead edition book current = readStep (unseen edition) book current
+plainRead edition = readStep (unseen edition)

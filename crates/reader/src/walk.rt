@@ -70,15 +70,8 @@ pub fn parse_parts(
     while place < pattern.len() {
         let part = next_part(pattern, place);
         let step = step_of(pair, pattern, part);
-        match parse_step(
-            edition,
-            book,
-            step,
-            pattern,
-            current_year,
-            text,
-            Cursor { at },
-        ) {
+        let cursor = Cursor { at };
+        match parse_step(edition, book, step, pattern, current_year, text, cursor) {
             PartRead::Stopped { trouble, place: to } => return refused_in(i, trouble, to),
             PartRead::Got { carried, next } => {
                 let start = at;

@@ -1,4 +1,4 @@
--- The full pair.
+-- The full pair. An empty row stands for the English book.
 use borrow.Author.Needs.{needs}
 use mir.Syntax.{w32}
 use mir.ValLaws.{toZ-ofZ}
@@ -6,11 +6,11 @@ use Rattle.meaning.proofs.Books.{english-unopened}
 use Rattle.reader.proofs.parse.Statement.{statement}
 use Rattle.reader.proofs.parse.Tie as tie
 
-plain-requires : tie.Need-plain-requires
-plain-requires c κs = search needs
-
 slice-aggregate-parse-with : tie.Need-slice-aggregate-parse-with
 slice-aggregate-parse-with c = search needs
+
+plain-requires : tie.Need-plain-requires
+plain-requires c κs = search needs
 
 parse-with-requires : tie.Need-parse-with-requires
 parse-with-requires c κs = search needs

@@ -154,10 +154,9 @@ add-place : tie.Need-add-place Inv-loop μ-loop
 add-place c =
     let m = c .before .before .before .before .before .before in
     let L = m .before .before .before .loop in
-    let s = m .before .before .before .before .before .before .before in
-    let a = s .args in
-    let n = next (now (a .pattern)) (L .place) (m .before .next-part .result) (m .before .before .loop-test .taken) (m .before .next-part .ensures) in
-    omega (arith, n .fits, s .good .1 .1 .0 .1)
+    let start = m .before .before .before .before .before .before .before in
+    let n = next (now (start .args .pattern)) (L .place) (m .before .next-part .result) (m .before .before .loop-test .taken) (m .before .next-part .ensures) in
+    omega (arith, n .fits, start .fits)
 
 add-i : tie.Need-add-i Inv-loop μ-loop
 add-i c = search needs
