@@ -3,6 +3,7 @@
 pub mod answers;
 pub mod days;
 pub mod entries;
+pub mod named;
 pub mod readings;
 pub mod splits;
 pub mod units;
@@ -11,7 +12,7 @@ pub mod verdicts;
 ghost use Rattle.meaning.specs.Names.{english};
 ghost use Rattle.meaning.specs.OpenedBooks.{bookIn};
 ghost use Rattle.meaning.specs.Whole.{plain};
-ghost use Rattle.sheet.specs.Sheet.{SheetWrites, SheetReads, SheetReadsWith, SheetWritesBy, SheetReadsBy, SheetOpensBook, SheetWritesBook, SheetParsesOffset, SheetSplits, SheetUnits, SheetChecks, SheetChecksWith, SheetTellsRead, SheetDay, SheetDayNumber};
+ghost use Rattle.sheet.specs.Sheet.{SheetWrites, SheetReads, SheetReadsWith, SheetParsesOffset, SheetSplits, SheetUnits, SheetChecks, SheetChecksWith, SheetTellsRead, SheetDay, SheetDayNumber};
 use crate::answers::give_offset;
 use crate::answers::give_wrote;
 use crate::days::give_day;
@@ -19,14 +20,10 @@ use crate::days::give_day_number;
 use crate::readings::choices_of;
 use crate::readings::edition_of;
 use crate::readings::give_reading;
-use crate::readings::is_book;
 use crate::readings::is_marked;
-use crate::readings::pair_of;
 use crate::splits::give_split;
 use crate::units::give_units;
 use crate::verdicts::give_verdict;
-use books::read_book;
-use books::write_book;
 use calendar::day_number;
 use calendar::day_of;
 use meaning::Choices;
@@ -162,91 +159,6 @@ pub extern "C" fn sheet_read_with(
     }
     let english: [u8; 0] = [];
     read(choices_of(choices), &english, pattern, text, year, answer)
-}
-
-// A book opened: its bytes into a lent row of 1,344 bytes or more. The row of the answer: 1344 and 0, or the refusal's details.
-#[no_mangle]
-pub extern "C" fn sheet_book_read(bytes: &[u8], book: &mut [u8], answer: &mut [i64]) -> u32
-    ensures { λ r. ⌜ SheetOpensBook (now (bytes .entry)) (now (book .entry)) (now (answer .entry)) r (now (book .exit)) (now (answer .exit)) ⌝ }
-{
-    if answer.len() < 2 {
-        return 100;
-    }
-    give_wrote(read_book(bytes, book), answer)
-}
-
-// The book of a lent row, written as bytes of version 1; an empty row is English. Another row than an opened book's is none: 102, and
-// nothing is altered. The row of the answer: the length and 0, or the refusal's details.
-#[no_mangle]
-pub extern "C" fn sheet_book_write(book: &[u8], out: &mut [u8], answer: &mut [i64]) -> u32
-    ensures { λ r. ⌜ SheetWritesBook (now (book .entry)) (now (out .entry)) (now (answer .entry)) r (now (out .exit)) (now (answer .exit)) ⌝ }
-{
-    if !is_book(book) {
-        return 102;
-    }
-    if answer.len() < 2 {
-        return 100;
-    }
-    give_wrote(write_book(book, out), answer)
-}
-
-// A writer with a reader's choices, of which the pair counts, and the names of a lent book. The row as before.
-#[no_mangle]
-pub extern "C" fn sheet_write_by(
-    choices: u32,
-    book: &[u8],
-    pattern: &[u8],
-    year: i32,
-    month: u32,
-    day: u32,
-    doy: u32,
-    week: u32,
-    wday: u32,
-    nanos: u64,
-    offset: i32,
-    out: &mut [u8],
-    answer: &mut [i64],
-) -> u32
-    ensures { λ r. ⌜ SheetWritesBy choices (now (book .entry)) (now (pattern .entry)) (record { year = year; month = month; day = day; doy = doy; week = week; wday = wday; nanos = nanos; offset = offset }) (now (out .entry)) (now (answer .entry)) r (now (out .exit)) (now (answer .exit)) ⌝ }
-{
-    if 7 < choices {
-        return 101;
-    }
-    if !is_book(book) {
-        return 102;
-    }
-    let f = Fields {
-        year,
-        month,
-        day,
-        doy,
-        week,
-        wday,
-        nanos,
-        offset,
-    };
-    write(pair_of(choices), book, pattern, f, out, answer)
-}
-
-// A reader with choices and the names of a lent book. The row as before.
-#[no_mangle]
-pub extern "C" fn sheet_read_by(
-    choices: u32,
-    book: &[u8],
-    pattern: &[u8],
-    text: &[u8],
-    year: i32,
-    answer: &mut [i64],
-) -> u32
-    ensures { λ r. ⌜ SheetReadsBy choices (now (book .entry)) (now (pattern .entry)) (now (text .entry)) year (now (answer .entry)) r (now (answer .exit)) ⌝ }
-{
-    if 7 < choices {
-        return 101;
-    }
-    if !is_book(book) {
-        return 102;
-    }
-    read(choices_of(choices), book, pattern, text, year, answer)
 }
 
 // 1 where a unit was read, by the mask of a reading, the second number of its row; else 0.

@@ -6,8 +6,8 @@ use mathlib.Core.Path.{refl, sym, _∙_}
 use native.Mathlib.Omega.{arith}
 use Rattle.sheet.proofs.BookFits.{write-book-fits}
 use borrow.Author.Needs.{needs}
-use Rattle.sheet.proofs.sheet_book_write.Statement.{statement}
-use Rattle.sheet.proofs.sheet_book_write.Tie as tie
+use Rattle.sheet.proofs.named.sheet_book_write.Statement.{statement}
+use Rattle.sheet.proofs.named.sheet_book_write.Tie as tie
 
 is-book-requires : tie.Need-is-book-requires
 is-book-requires c κs = search needs

@@ -6,8 +6,8 @@ use mathlib.Core.Path.{refl, sym, _∙_}
 use mir.Syntax.{w32}
 use mir.ValLaws.{toZ-ofZ}
 use borrow.Author.Needs.{needs}
-use Rattle.sheet.proofs.sheet_write_by.Statement.{statement}
-use Rattle.sheet.proofs.sheet_write_by.Tie as tie
+use Rattle.sheet.proofs.named.sheet_write_by.Statement.{statement}
+use Rattle.sheet.proofs.named.sheet_write_by.Tie as tie
 
 returns : tie.Need-returns
 returns c =

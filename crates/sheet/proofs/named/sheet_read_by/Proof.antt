@@ -10,8 +10,8 @@ use Rattle.sheet.proofs.Rooms.{chosen, no-choices, by-book, no-book}
 use Rattle.sheet.specs.Rows.{choicesOf, ofReading, isBook}
 use Rattle.sheet.specs.Sheet.{ifBook, readOf}
 use borrow.Author.Needs.{needs}
-use Rattle.sheet.proofs.sheet_read_by.Statement.{statement}
-use Rattle.sheet.proofs.sheet_read_by.Tie as tie
+use Rattle.sheet.proofs.named.sheet_read_by.Statement.{statement}
+use Rattle.sheet.proofs.named.sheet_read_by.Tie as tie
 
 returns : tie.Need-returns
 returns c =

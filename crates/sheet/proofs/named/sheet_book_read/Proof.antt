@@ -6,8 +6,8 @@ use mathlib.Core.Path.{refl}
 use native.Mathlib.Omega.{arith}
 use Rattle.sheet.proofs.BookFits.{open-fits}
 use borrow.Author.Needs.{needs}
-use Rattle.sheet.proofs.sheet_book_read.Statement.{statement}
-use Rattle.sheet.proofs.sheet_book_read.Tie as tie
+use Rattle.sheet.proofs.named.sheet_book_read.Statement.{statement}
+use Rattle.sheet.proofs.named.sheet_book_read.Tie as tie
 
 returns : tie.Need-returns
 returns c =
