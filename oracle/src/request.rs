@@ -221,7 +221,7 @@ pub(crate) fn edition_word(edition: Edition) -> &'static str {
     }
 }
 
-/// The book where the next word is one; none where that has no bytes.
+/// The book where the next word is for one, if any; the line is no request where that word has no byte string.
 pub(crate) fn book<'a>(
     words: &mut Peekable<impl Iterator<Item = &'a str>>,
 ) -> Option<Option<Vec<u8>>> {
