@@ -25,7 +25,8 @@ pub fn bytes(turn: usize, random: &mut Random) -> Vec<u8> {
     match turn % FAMILIES {
         0 => cut_short(step),
         1 => of_names(&broken_in_turn(step, random), random),
-        2 | 3 => of_names(&good_names(random), random),
+        2 => of_names(&good_names(random), random),
+        3 => going_on(step, random),
         _ => damaged(&good_names(random), random),
     }
 }
@@ -47,6 +48,13 @@ fn cut_short(step: usize) -> Vec<u8> {
     bytes[4] = 1 + step as u8 % 2;
     bytes.truncate(length);
     bytes
+}
+
+/// In each version with none to three bytes behind the names.
+fn going_on(step: usize, random: &mut Random) -> Vec<u8> {
+    let version = 1 + step as u16 % 2;
+    let rest = random.bytes(step / 2 % 4, LETTERS);
+    [bytes_of(version, &good_names(random)), rest].concat()
 }
 
 /// A book of these names, with what may stand behind them in version 2.
