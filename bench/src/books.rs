@@ -165,7 +165,7 @@ pub fn table(records: &[Record]) -> Result<String, String> {
     let headings = NAMES
         .iter()
         .enumerate()
-        .map(|(number, name)| columns(number, name, ' ', "x built in"));
+        .map(|(number, name)| columns(number, name, ' ', "times"));
     table += &table_row("", headings);
     for pattern in PATTERNS {
         let mut built_in = Ours::new(pattern, records).ok_or_else(|| not_written(pattern))?;
