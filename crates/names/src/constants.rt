@@ -1,7 +1,6 @@
 // The English names of the specification as constant rows. Their tables have numbers, so that matcher and writer find the rows of
 // a list by one function for each size: first the tables of two names, then those of four and six, which are the same in every
 // book, then the weekdays and the months.
-ghost use mathlib.Core.Path.{_≡_};
 ghost use Prim.Native.Nat.{_≤_, _<_};
 ghost use Rattle.meaning.specs.Names.{names, english};
 ghost use Rattle.names.specs.Lists.{listAt};

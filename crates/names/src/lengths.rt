@@ -9,6 +9,7 @@ ghost use Rattle.names.specs.Lists.{listAt};
 ghost use Rattle.names.specs.Table.{IsEnglish, IsOpened};
 use crate::constants::most_of;
 use crate::constants::table_of;
+use crate::rooms::OPENED;
 use crate::rooms::rooms_of;
 use crate::tables::length_at;
 use meaning::NameList;
@@ -63,7 +64,7 @@ pub fn name_length(book: &[u8], list: NameList, index: usize) -> usize
         return fixed_length(table, index);
     }
     let most = most_of(table);
-    if book.len() == 1344 {
+    if book.len() == OPENED {
         return opened_length(book, table, index);
     }
     english_length(table, most, index)

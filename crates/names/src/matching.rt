@@ -9,6 +9,7 @@ ghost use Rattle.names.specs.Lists.{listAt};
 ghost use Rattle.names.specs.Table.{foundIn};
 use crate::constants::most_of;
 use crate::constants::table_of;
+use crate::rooms::OPENED;
 use crate::rooms::rooms_of;
 use crate::tables::Found;
 use crate::tables::first_name;
@@ -75,7 +76,7 @@ fn match_opened(book: &[u8], list: NameList, text: &[u8]) -> Found
 pub fn match_name(book: &[u8], list: NameList, text: &[u8]) -> Found
     ensures { λ r. ⌜ r ≡ foundIn (matchName (names (bookIn (now (book .entry))) list) (now (text .entry))) ⌝ }
 {
-    if book.len() == 1344 {
+    if book.len() == OPENED {
         return match_opened(book, list, text);
     }
     match_english(list, text)

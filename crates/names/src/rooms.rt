@@ -4,6 +4,9 @@ ghost use Prim.Native.Nat.{_≤_, _<_};
 ghost use Rattle.names.specs.Lists.{listAt};
 ghost use Rattle.names.specs.Table.{InBook};
 
+// The size of the row of an opened book: 64 rooms.
+pub const OPENED: usize = 1344;
+
 // Where a list begins, how many names it has, and how many letters they have at most.
 pub struct Rooms {
     pub from: usize,

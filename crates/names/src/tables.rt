@@ -1,7 +1,7 @@
 // Rooms of names, the English ones as those of an opened book: the one matcher, the one writer and the one measurer. Where a list
 // has a most of letters, a longer name is cut to it.
 ghost use mathlib.Core.Path.{_≡_};
-ghost use Prim.Native.Nat.{_+_, _*_, _<_, _≤_};
+ghost use Prim.Native.Nat.{_+_, _*_, _≤_};
 ghost use lib.ListN.{length};
 ghost use Rattle.laws.specs.Laid.{Laid};
 ghost use Rattle.meaning.specs.OpenedBooks.{namesAt};

@@ -10,6 +10,7 @@ ghost use Rattle.names.specs.Lists.{listAt};
 ghost use Rattle.names.specs.Table.{IsEnglish, IsOpened};
 use crate::constants::most_of;
 use crate::constants::table_of;
+use crate::rooms::OPENED;
 use crate::rooms::rooms_of;
 use crate::tables::put_name;
 use meaning::NameList;
@@ -68,7 +69,7 @@ pub fn format_name(book: &[u8], list: NameList, index: usize, out: &mut [u8], at
         return put_fixed(table, index, out, at);
     }
     let most = most_of(table);
-    if book.len() == 1344 {
+    if book.len() == OPENED {
         return put_opened(book, table, index, out, at);
     }
     put_english(table, most, index, out, at)
