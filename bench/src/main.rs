@@ -1,7 +1,9 @@
-//! The benchmark: ours beside the Rust, glibc, ICU and, for days, chrono, time and java.time, in one run on the machine that it was built on.
+//! The benchmark: ours beside the Rust, glibc, ICU and, for days, chrono, time and java.time, in one run on the machine that it was built on;
+//! and ours with a name book beside ours without.
 #![cfg_attr(not(icu), allow(dead_code))]
 
 mod agreement;
+mod books;
 mod contender;
 mod days;
 mod glibc;
@@ -21,7 +23,10 @@ mod stack;
 mod table;
 mod timing;
 
+use books::ByBook;
+use contender::Contender;
 use measure::{Line, Op, NAMES};
+use ours::Ours;
 use records::{records, Record};
 use rows::Row;
 use std::env::args;
@@ -29,7 +34,7 @@ use std::fs;
 use std::process::ExitCode;
 
 const USAGE: &str =
-    "usage: bench PICTURE.svg\n       bench calls CONTENDER write|read|check ROW CALLS\n       bench days\n       bench stack";
+    "usage: bench PICTURE.svg\n       bench calls CONTENDER write|read|check ROW CALLS\n       bench days\n       bench books\n       bench stack";
 
 fn main() -> ExitCode {
     let words: Vec<String> = args().skip(1).collect();
@@ -40,6 +45,7 @@ fn main() -> ExitCode {
             Ok(())
         }
         ["days"] => days::table().map(|table| print!("{table}")),
+        ["books"] => books::table(&records()).map(|table| print!("{table}")),
         [picture] => run(picture),
         ["calls", contender, op, row, calls] => only_calls(contender, op, row, calls),
         _ => Err(USAGE.to_string()),
@@ -75,6 +81,7 @@ fn run(picture: &str) -> Result<(), String> {
     println!("{}", table::checks(&patterns, &measure::checked(&patterns)));
     let growths = measure::grown(&records);
     println!("{}", table::growths(&growths));
+    println!("{}", books::table(&records)?);
     println!("{}", days::table()?);
     fs::write(picture, plot::picture(&machine_and_day, &written, &read, &growths))
         .map_err(|why| format!("{picture}: {why}"))?;
@@ -110,14 +117,34 @@ fn only_calls(contender: &str, op: &str, row: &str, calls: &str) -> Result<(), S
         ours::check_calls(pattern.as_bytes(), calls);
         return Ok(());
     }
-    let number = NAMES.iter().position(|name| *name == contender).ok_or(USAGE)?;
-    let row = rows.get(row).ok_or(USAGE)?;
-    let mut contender =
-        measure::contender(number, row, &records).ok_or("not there, or it does not take the pattern")?;
+    let book = books::opened();
+    let mut contender = contender_at(contender, row, &rows, &book, &records).ok_or(USAGE)?;
     match op {
         "write" => contender.write_calls(calls),
         "read" => contender.read_calls(calls),
         _ => return Err(USAGE.to_string()),
     }
     Ok(())
+}
+
+/// By its name: at a row of the tables or, behind those, at a pattern with names, where it is ours without a book or with one.
+fn contender_at<'a>(
+    name: &str,
+    row: usize,
+    rows: &'a [Row],
+    book: &'a [u8],
+    records: &'a [Record],
+) -> Option<Box<dyn Contender + 'a>> {
+    let pattern = match rows.get(row) {
+        Some(row) => row.pattern.as_str(),
+        None => books::PATTERNS.get(row - rows.len())?,
+    };
+    match name {
+        "book" => Some(Box::new(ByBook::new(book, pattern, records)?)),
+        "ours" => Some(Box::new(Ours::new(pattern, records)?)),
+        _ => {
+            let number = NAMES.iter().position(|known| *known == name)?;
+            measure::contender(number, rows.get(row)?, records)
+        }
+    }
 }

@@ -55,13 +55,17 @@ fn write_into(pattern: &[u8], f: &Fields, out: &mut [u8; ROOM], answer: &mut [i6
 pub fn read(pattern: &[u8], text: &[u8]) -> Result<Reading, u32> {
     let mut answer = [0; READ_ANSWER];
     let number = read_into(pattern, text, &mut answer);
-    accepted(number, || Reading {
+    accepted(number, || reading_of(&answer))
+}
+
+pub fn reading_of(answer: &[i64; READ_ANSWER]) -> Reading {
+    Reading {
         taken: answer[0] as usize,
         mask: answer[1] as u16,
         values: answer[READ_VALUES..READ_STARTS]
             .try_into()
             .expect("as many values as units"),
-    })
+    }
 }
 
 #[inline(always)]
@@ -159,7 +163,7 @@ impl Contender for Ours<'_> {
     }
 }
 
-fn accepted<T>(number: u32, answer: impl FnOnce() -> T) -> Result<T, u32> {
+pub fn accepted<T>(number: u32, answer: impl FnOnce() -> T) -> Result<T, u32> {
     match number {
         0 => Ok(answer()),
         _ => Err(number),

@@ -1,5 +1,6 @@
 //! How deep each exported function goes: the stack below a call is painted, and what is paint no longer was used.
 
+use crate::books;
 use crate::ours::ROOM;
 use crate::records::{Record, CURRENT_YEAR};
 use crate::rows::Row;
@@ -135,6 +136,32 @@ fn of_check(pattern: &[u8]) -> usize {
     })
 }
 
+/// A write and the read of what it wrote, by the book.
+fn of_both_by(book: &[u8], pattern: &[u8], f: &Fields, text: &[u8]) -> [usize; 2] {
+    let (mut wrote, mut read) = ([0; raw::WRITE_ANSWER], [0; raw::READ_ANSWER]);
+    let mut out = [0; ROOM];
+    [
+        depth(|| books::write_into(book, pattern, f, &mut out, &mut wrote)),
+        depth(|| books::read_into(book, pattern, text, &mut read)),
+    ]
+}
+
+/// A book read and written.
+fn of_books(book: &[u8]) -> [(&'static str, usize); 2] {
+    let mut answer = [0; raw::BOOK_ANSWER];
+    let mut bytes = [0; raw::LONGEST_BOOK];
+    let (from, row) = ((book.as_ptr(), book.len()), (answer.as_mut_ptr(), answer.len()));
+    let to = (bytes.as_mut_ptr(), bytes.len());
+    // SAFETY: each pointer goes with the length of the slice that it comes from; and likewise below.
+    let write = depth(|| unsafe { raw::sheet_book_write(from.0, from.1, to.0, to.1, row.0, row.1) });
+    let length = answer[0] as usize;
+    let mut opened = [0; raw::BOOK_ROW];
+    let (from, to) = ((bytes.as_ptr(), length), (opened.as_mut_ptr(), opened.len()));
+    let row = (answer.as_mut_ptr(), answer.len());
+    let read = depth(|| unsafe { raw::sheet_book_read(from.0, from.1, to.0, to.1, row.0, row.1) });
+    [("book_read", read), ("book_write", write)]
+}
+
 fn of_parse_offset(text: &[u8]) -> usize {
     let mut answer = [0; raw::OFFSET_ANSWER];
     // SAFETY: each pointer goes with the length of the slice that it comes from.
@@ -169,10 +196,11 @@ fn of_days() -> [(&'static str, usize); 2] {
 }
 
 /// The depths by one pattern, in the order of `FUNCTIONS`.
-fn depths(pattern: &[u8], f: &Fields) -> Vec<usize> {
+fn depths(book: &[u8], pattern: &[u8], f: &Fields) -> Vec<usize> {
     let mut out = [0; ROOM];
     let (write, length) = of_write(raw::sheet_write, pattern, f, &mut out);
     let text = out[..length].to_vec();
+    let [write_by, read_by] = of_both_by(book, pattern, f, &text);
     vec![
         write,
         of_write(raw::sheet_write, pattern, f, &mut out[..length]).0,
@@ -180,19 +208,23 @@ fn depths(pattern: &[u8], f: &Fields) -> Vec<usize> {
         of_write(raw::sheet_write_date, pattern, f, &mut out).0,
         of_read(raw::sheet_read, pattern, &text),
         of_read(raw::sheet_read_date, pattern, &text),
+        write_by,
+        read_by,
         of_check(pattern),
         of_rows(raw::sheet_split, pattern),
         of_rows(raw::sheet_units, pattern),
     ]
 }
 
-const FUNCTIONS: [&str; 9] = [
+const FUNCTIONS: [&str; 11] = [
     "write",
     "write, room to the byte",
     "write, a byte too little",
     "write_date",
     "read",
     "read_date",
+    "write_by a book",
+    "read_by a book",
     "check",
     "split",
     "units",
@@ -201,13 +233,14 @@ const FUNCTIONS: [&str; 9] = [
 /// The table: a line for each function, a column for each pattern.
 pub fn table(rows: &[Row], records: &[Record]) -> String {
     let patterns: Vec<&str> = rows.iter().map(|row| row.pattern.as_str()).chain([NAMES]).collect();
-    let fields = records[0].fields;
-    let (columns, offset, days) = with_stack(|| {
+    let (fields, book) = (records[0].fields, books::opened());
+    let (columns, offset, others) = with_stack(|| {
         let columns = patterns
             .iter()
-            .map(|pattern| depths(pattern.as_bytes(), &fields))
+            .map(|pattern| depths(&book, pattern.as_bytes(), &fields))
             .collect::<Vec<_>>();
-        (columns, of_parse_offset(b"+05:30"), of_days())
+        let others = of_days().into_iter().chain(of_books(&book));
+        (columns, of_parse_offset(b"+05:30"), others.collect::<Vec<_>>())
     });
     let mut table = String::from("Bytes of stack that a call takes, with its return address\n\n");
     for (number, pattern) in patterns.iter().enumerate() {
@@ -229,7 +262,7 @@ pub fn table(rows: &[Row], records: &[Record]) -> String {
         }
     }
     let _ = write!(table, "\n{:<24}{offset:>6}\n", "parse_offset, +05:30");
-    for (name, depth) in days {
+    for (name, depth) in others {
         let _ = writeln!(table, "{name:<24}{depth:>6}");
     }
     table

@@ -1,5 +1,6 @@
 /* Writes a record by a pattern, reads it back, underlines what was read, shows what the parts of a pattern are, checks a pattern,
- * reads strictly, reads and checks in the second edition, shows a refusal and places a bar of a chart. */
+ * reads strictly, reads and checks in the second edition, shows a refusal, places a bar of a chart, and writes and reads with the
+ * names of a book, which it finds where it is run at the root of the repository. */
 #include "sheet.h"
 
 #include <inttypes.h>
@@ -170,6 +171,55 @@ static void show_a_day_that_is_not_there(int32_t year, uint32_t month, uint32_t 
                sheet_refusal_text(number));
 }
 
+static size_t bytes_of_file(const char *path, uint8_t *out, size_t room) {
+    FILE *file = fopen(path, "rb");
+    if (file == NULL)
+        return 0;
+    size_t length = fread(out, 1, room, file);
+    fclose(file);
+    return length;
+}
+
+/* Opens the book of a file; whether it is one. */
+static int open_book(const char *path, uint8_t *book) {
+    uint8_t file[4096];
+    int64_t answer[SHEET_BOOK_ANSWER];
+    size_t length = bytes_of_file(path, file, sizeof file);
+    uint32_t number = sheet_book_read(file, length, book, SHEET_BOOK_ROW, answer, SHEET_BOOK_ANSWER);
+    if (number != SHEET_ACCEPTED)
+        printf("%s is refused with %" PRIu32 ": %s\n", path, number, sheet_refusal_text(number));
+    return number == SHEET_ACCEPTED;
+}
+
+static void write_and_read_with_a_book(const char *path, const char *pattern) {
+    uint8_t book[SHEET_BOOK_ROW];
+    uint8_t text[SHEET_LONGEST_TEXT];
+    int64_t wrote[SHEET_WRITE_ANSWER];
+    int64_t read[SHEET_READ_ANSWER];
+    if (!open_book(path, book))
+        return;
+    if (sheet_write_by(0, book, sizeof book, bytes(pattern), strlen(pattern), 2025, 12, 3, 337, 49, 3, 0, 0, text, sizeof text,
+                       wrote, SHEET_WRITE_ANSWER) != SHEET_ACCEPTED)
+        return;
+    printf("%s with %s writes %.*s\n", pattern, path, (int)wrote[0], (const char *)text);
+    if (sheet_read_by(SHEET_STRICT, book, sizeof book, bytes(pattern), strlen(pattern), text, (size_t)wrote[0], CURRENT_YEAR,
+                      read, SHEET_READ_ANSWER) == SHEET_ACCEPTED)
+        show_value("month", read, SHEET_MONTH);
+}
+
+/* An opened book whose short name of March gets a byte that is no letter can't be written. */
+static void show_a_bad_name(const char *path) {
+    uint8_t book[SHEET_BOOK_ROW];
+    uint8_t out[SHEET_LONGEST_BOOK];
+    int64_t answer[SHEET_BOOK_ANSWER];
+    if (!open_book(path, book))
+        return;
+    book[SHEET_NAME_ROOM * (SHEET_SHORT_MONTHS + 2) + 1] = '3';
+    uint32_t number = sheet_book_write(book, sizeof book, out, sizeof out, answer, SHEET_BOOK_ANSWER);
+    if (number == SHEET_BOOK_NAME)
+        printf("a book is refused with %" PRIu32 ": %s, name %" PRId64 "\n", number, sheet_refusal_text(number), answer[0]);
+}
+
 int main(void) {
     write_and_read_back("yyyy/MM/dd");
     underline_what_is_read("d MMMM y", "3 December -12");
@@ -184,5 +234,7 @@ int main(void) {
     show_a_refusal("yyyy/MM/dd");
     place_a_bar((date){2026, 2, 26}, (date){2026, 3, 5});
     show_a_day_that_is_not_there(2026, 2, 29);
+    write_and_read_with_a_book("books/dutch.lnb", "eeee d MMMM");
+    show_a_bad_name("books/dutch.lnb");
     return 0;
 }

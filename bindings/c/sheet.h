@@ -1,8 +1,8 @@
 /* sheet.h: dates, times and zone offsets by patterns such as yyyy/MM/dd, and the numbers of days, for C and C++.
  *
  * What is lent. A pattern or a text is bytes with their number and needs no zero byte at its end. Text goes to `out`, numbers
- * go to the rows `answer`, `parts` and `units`, which are aligned as int64_t is. What a function may alter must overlap nothing
- * else that it is lent. Nothing is kept after the return, and no memory is asked for.
+ * go to the rows `answer`, `parts` and `units`, which are aligned as int64_t is. An opened book is bytes too. What a function may
+ * alter must overlap nothing else that it is lent. Nothing is kept after the return, and no memory is asked for.
  *
  * Lengths. A length says how many bytes or entries stand behind the pointer, and never more, not even where the pattern or the
  * text is too long and will be refused. A null pointer with the length 0 is an empty slice. What is proved of the functions is
@@ -11,12 +11,13 @@
  * Threads and stack. The functions have no state: any thread may call any of them at any time, with rows and an `out` that no
  * other thread uses meanwhile. A call takes no more than SHEET_MOST_STACK bytes of the stack.
  *
- * What is returned. SHEET_ACCEPTED; or the number of a refusal, 1 to 19; or SHEET_ROW_TOO_SMALL where a row has fewer entries than
- * the function asks for, or SHEET_NO_SUCH_CHOICE where a number stands for no choices: then nothing is altered.
+ * What is returned. SHEET_ACCEPTED; or the number of a refusal, 1 to 23; or SHEET_ROW_TOO_SMALL where a row has fewer entries than
+ * the function asks for, SHEET_NO_SUCH_CHOICE where a number stands for no choices, or SHEET_NO_BOOK where bytes are lent as an
+ * opened book that are none: then nothing is altered.
  *
  * What is altered. Accepted, the first entries of `answer`, as many as the function asks for, are what its comment says, and a
- * writer alters so many bytes of `out` as it answers. Refused, these entries are the refusal's details, then zeros, and none of
- * `out`, `parts` and `units` is altered. Nothing behind them ever is.
+ * writer alters so many bytes of `out` as it answers, as sheet_book_read does of `book`. Refused, these entries are the refusal's
+ * details, then zeros, and none of `out`, `book`, `parts` and `units` is altered. Nothing behind them ever is.
  *
  * Parts of a pattern and places in a pattern or a text are counted from 0. docs/SPECIFICATION.md says what a pattern means.
  */
@@ -43,9 +44,19 @@ extern "C" {
 /* A writer needs no more than so many bytes of output for each byte of the pattern, so SHEET_LONGEST_TEXT are always enough. */
 #define SHEET_BYTES_A_PATTERN_BYTE 8
 
-/* No call takes more bytes of the stack. As measured on x86-64, a write takes 1,016 at most, with names, a read 1,120,
- * sheet_day 1,632, which lays a table, and the other functions under 250. */
+/* No call takes more bytes of the stack. As measured on x86-64, a write takes 1,272 at most, with names, a read 1,448,
+ * sheet_day 1,632, which lays a table, opening or writing a book 928, and the other functions under 260. */
 #define SHEET_MOST_STACK 2048
+
+/* An opened book: 64 rooms of 21 bytes, one for each name in book order. In a room stand a byte that is the length of the name,
+ * the name, which has 20 letters at most, and then zeros. */
+#define SHEET_BOOK_ROW 1344
+#define SHEET_BOOK_ROOMS 64
+#define SHEET_NAME_ROOM 21
+#define SHEET_LONGEST_NAME 20
+
+/* The longest book of version 1, in bytes: so many are always enough for sheet_book_write. */
+#define SHEET_LONGEST_BOOK 743
 
 /* How many entries each function asks for in `answer`, sheet_split in `parts`, and sheet_units in `units`. */
 #define SHEET_WRITE_ANSWER 2
@@ -58,6 +69,7 @@ extern "C" {
 #define SHEET_CHECK_ANSWER 10
 #define SHEET_DAY_ANSWER 6
 #define SHEET_DAY_NUMBER_ANSWER 2
+#define SHEET_BOOK_ANSWER 2
 
 /* What is returned. Behind a refusal stand its details, which are the first one or two entries of `answer`. */
 #define SHEET_ACCEPTED 0
@@ -65,7 +77,7 @@ extern "C" {
 #define SHEET_PATTERN_BYTE 2     /* a pattern byte that is 0 or above 127: place of the first */
 #define SHEET_LONE_QUOTE 3       /* the last byte of the pattern is a quote that opens: its place */
 #define SHEET_FIELD_RANGE 4      /* a field out of its range: the first such field, 1 to 8 in the order of the arguments */
-#define SHEET_NO_ROOM 5          /* `out` is shorter than the text: bytes needed */
+#define SHEET_NO_ROOM 5          /* `out`, or `book`, is shorter than what goes there: bytes needed */
 #define SHEET_TEXT_TOO_LONG 6    /* a text of over 2,048 bytes: its length */
 #define SHEET_TEXT_BYTE 7        /* a text byte above 127: place of the first */
 #define SHEET_TOO_FEW 8          /* too few bytes left in the text: part, place */
@@ -80,8 +92,13 @@ extern "C" {
 #define SHEET_NO_SUCH_DAY 17     /* a year, month or day that is not there: 0 */
 #define SHEET_NO_DAY_NUMBER 18   /* a day whose number 32 signed bits can't hold: 0 */
 #define SHEET_PLUS_SIGN 19       /* a plus as the first byte of a number: part, place */
+#define SHEET_BOOK_MARK 20       /* a book that does not begin with LNB: 0 */
+#define SHEET_BOOK_VERSION 21    /* a book of another version than 1 and 2: 0 */
+#define SHEET_BOOK_LENGTH 22     /* a book that is cut short, or one of version 1 with bytes behind its names: 0 */
+#define SHEET_BOOK_NAME 23       /* a name of a book that breaks a rule: the number of the first, 1 to 64 in book order */
 #define SHEET_ROW_TOO_SMALL 100  /* a row is too small: nothing is altered, and there are no details */
 #define SHEET_NO_SUCH_CHOICE 101 /* a number that stands for no choices: likewise */
+#define SHEET_NO_BOOK 102        /* bytes that are no opened book: likewise */
 
 /* The choices of a reading, which are added: dates alone; a strict reading; the second edition. */
 #define SHEET_DATE_PAIR 1
@@ -119,6 +136,15 @@ extern "C" {
 #define SHEET_QUOTES 1
 #define SHEET_QUOTED 2
 #define SHEET_OPEN 3
+
+/* The lists of a book: which room of it has each one's first name. The months begin with January, the weekdays with Sunday. */
+#define SHEET_WIDE_MONTHS 0
+#define SHEET_SHORT_MONTHS 12
+#define SHEET_WIDE_WEEKDAYS 24
+#define SHEET_SHORT_WEEKDAYS 31
+#define SHEET_TWO_LETTER_WEEKDAYS 38
+#define SHEET_NARROW_WEEKDAYS 45
+#define SHEET_NARROW_MONTHS 52
 
 /* Writes a record by a pattern into `out`.
  * Fields: year -5,879,611 to 5,879,611 without 0; month 1..12; day 1..31; day of the year 1..366; week 1..53; weekday 0..6 from
@@ -181,7 +207,42 @@ uint32_t sheet_split(const uint8_t *pattern, size_t pattern_len, int64_t *answer
 uint32_t sheet_units(const uint8_t *pattern, size_t pattern_len, int64_t *answer, size_t answer_len, int64_t *units,
                      size_t units_len);
 
-/* Says whether a pattern can be trusted to read back what it wrote, for every record; `year` is the current year.
+/* Opens a book: checks the bytes of a file, as books/README.md has them, and lays its names into `book`, where sheet_write_by and
+ * sheet_read_by find them. It is done once for a book; what was opened is then lent to each call, and may be to several at once.
+ * Answers: SHEET_BOOK_ROW, which is how many bytes of `book` it altered, and 0.
+ * Refuses: 20; 22 where the bytes end before the version does; 21; 22 where they end before the names do or, in version 1, go on
+ * behind them; 23; 5 where `book` has fewer than SHEET_BOOK_ROW bytes; the first in this order. */
+uint32_t sheet_book_read(const uint8_t *bytes, size_t bytes_len, uint8_t *book, size_t book_len, int64_t *answer,
+                         size_t answer_len);
+
+/* Writes the bytes of a file, of version 1, with names that are laid out as in an opened book, which it checks: so a book is made.
+ * An empty `book` stands for the English names. A length in it of more than 20 makes a bad name.
+ * For a `book` of any other size than 0 and SHEET_BOOK_ROW bytes SHEET_NO_BOOK is returned, whatever the size of `answer`.
+ * Answers: the length of the book, and 0.
+ * Refuses: 23, then 5. */
+uint32_t sheet_book_write(const uint8_t *book, size_t book_len, uint8_t *out, size_t out_len, int64_t *answer,
+                          size_t answer_len);
+
+/* Writes with the names of an opened book, and with choices: 0 as sheet_write, SHEET_DATE_PAIR as sheet_write_date. SHEET_STRICT
+ * and SHEET_SECOND_EDITION added make no difference. An empty `book` stands for the English names.
+ * For a number that is no sum of choices SHEET_NO_SUCH_CHOICE is returned, then for a `book` of any other size than 0 and
+ * SHEET_BOOK_ROW bytes SHEET_NO_BOOK, both whatever the size of `answer`. A `book` of that size may hold any bytes: a length that
+ * is more than a name of its list may have counts as that much, and SHEET_BYTES_A_PATTERN_BYTE are still enough.
+ * Answers: as sheet_write.
+ * Refuses: as sheet_write. */
+uint32_t sheet_write_by(uint32_t choices, const uint8_t *book, size_t book_len, const uint8_t *pattern, size_t pattern_len,
+                        int32_t year, uint32_t month, uint32_t day, uint32_t doy, uint32_t week, uint32_t wday, uint64_t nanos,
+                        int32_t offset, uint8_t *out, size_t out_len, int64_t *answer, size_t answer_len);
+
+/* Reads with the names of an opened book, and with choices: as sheet_read_with. Names are matched byte for byte, case included.
+ * For other numbers and rows the same is returned as by sheet_write_by.
+ * Answers: as sheet_read.
+ * Refuses: as sheet_read_with. */
+uint32_t sheet_read_by(uint32_t choices, const uint8_t *book, size_t book_len, const uint8_t *pattern, size_t pattern_len,
+                       const uint8_t *text, size_t text_len, int32_t year, int64_t *answer, size_t answer_len);
+
+/* Says whether a pattern can be trusted to read back what it wrote, for every record; `year` is the current year. It takes no
+ * book, as its answer is the same with every book that can be opened, and the record that is shown fails with every one.
  * Answers: yes is 1, then zeros; no is 0, the first part that does not come back for some record, and the eight fields of such
  * a record, in the order of sheet_write.
  * Refuses: 1, 2, 3, 14, the first in this order. */
@@ -230,8 +291,13 @@ static inline const char *sheet_refusal_text(uint32_t number) {
     case SHEET_NO_SUCH_DAY: return "there is no such day";
     case SHEET_NO_DAY_NUMBER: return "the day's number doesn't fit 32 signed bits";
     case SHEET_PLUS_SIGN: return "the text has a plus in front of a number";
+    case SHEET_BOOK_MARK: return "the book does not begin with the mark LNB";
+    case SHEET_BOOK_VERSION: return "the book is of another version than 1 and 2";
+    case SHEET_BOOK_LENGTH: return "the book is cut short, or goes on behind its names";
+    case SHEET_BOOK_NAME: return "the book has a bad name";
     case SHEET_ROW_TOO_SMALL: return "a row for the answer is too small";
     case SHEET_NO_SUCH_CHOICE: return "there is no such choice";
+    case SHEET_NO_BOOK: return "the bytes are no opened book";
     default: return "no such number";
     }
 }

@@ -1,19 +1,23 @@
 //! The answers of the line protocol, as the Rust gives them.
 
+use crate::book::Opened;
 use crate::calendar::Fields;
 use crate::days::{self, Day};
-use crate::request::{hex, Request};
+use crate::names;
+use crate::request::{hex, name_words, Request};
 use crate::walk::{self, Kind, Pair, Part, Reading};
 
 pub const BAD_REQUEST: &str = "bad request";
 
-/// The Rust's answer to a line; `refused` where it errs, panics or can't be asked. It knows no strict reading and no second
-/// edition.
+/// The Rust's answer to a line; `refused` where it errs, panics or can't be asked. It knows no strict reading, no second edition, and
+/// of a book the names alone.
 pub fn answer(line: &str) -> String {
     let Some(request) = Request::from_line(line) else {
         return BAD_REQUEST.to_string();
     };
-    accepted(&request).unwrap_or_else(|| "refused".to_string())
+    let by_book = names::by_book(request.book(), || accepted(&request));
+    let accepted = by_book.ok().flatten();
+    accepted.unwrap_or_else(|| "refused".to_string())
 }
 
 fn accepted(request: &Request) -> Option<String> {
@@ -24,15 +28,17 @@ fn accepted(request: &Request) -> Option<String> {
             pattern,
             fields,
             room,
+            ..
         } => {
             let text = text_of(*pair, pattern, fields)?;
-            (text.len() <= *room).then(|| wrote(&text))
+            (text.len() <= *room).then(|| wrote(text.as_bytes()))
         }
         Request::Read {
             choices,
             pattern,
             text,
             now,
+            ..
         } => {
             let (pattern, text) = (as_pattern(pattern)?, as_text(text)?);
             Some(read(&walk::read(choices.pair, pattern, text, *now).ok()?))
@@ -42,6 +48,7 @@ fn accepted(request: &Request) -> Option<String> {
         Request::DayNumber { year, month, day } => {
             Some(day_number(days::day_number(*year, *month, *day).ok()?))
         }
+        Request::Book { .. } | Request::BookWrite { .. } => None,
     }
 }
 
@@ -79,8 +86,8 @@ fn kind(kind: Kind) -> &'static str {
     }
 }
 
-pub fn wrote(text: &str) -> String {
-    format!("wrote {} {}", text.len(), hex(text.as_bytes()))
+pub fn wrote(bytes: &[u8]) -> String {
+    format!("wrote {} {}", bytes.len(), hex(bytes))
 }
 
 pub fn read(reading: &Reading) -> String {
@@ -108,4 +115,8 @@ pub fn day(day: &Day) -> String {
 
 pub fn day_number(number: i32) -> String {
     format!("number {number}")
+}
+
+pub fn book(opened: &Opened) -> String {
+    format!("book {} {}", opened.version, name_words(&opened.names))
 }

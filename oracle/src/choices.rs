@@ -1,4 +1,4 @@
-//! What a reading is asked for, beside its pattern and its text.
+//! What a reading is asked for, beside its pattern and its text, and with which books.
 
 use crate::walk::Pair;
 
@@ -62,6 +62,24 @@ impl Edition {
         match self {
             Edition::First => 1,
             Edition::Second => 81,
+        }
+    }
+}
+
+/// Which books the requests with a pattern come with.
+#[derive(Clone, Copy, Debug, PartialEq, Eq)]
+pub enum Books {
+    /// That of the names that the Rust has.
+    English,
+    Random,
+}
+
+impl Books {
+    pub fn named(name: &str) -> Option<Books> {
+        match name {
+            "english" => Some(Books::English),
+            "random" => Some(Books::Random),
+            _ => None,
         }
     }
 }

@@ -5,16 +5,19 @@
 //! a literal that differs, and 16 where text is left over. Beyond these the Rust decides: where it answers, its answer is the
 //! line; where it doesn't, the line is the specification's number for the way it stopped, read off its wording, with the part
 //! and the place that it had come to. In the second edition, which the Rust does not have either, it decides with other parts in
-//! the place of those that are read otherwise.
+//! the place of those that are read otherwise. With a book it decides with the book's names for its own; a book that is refused
+//! decides before, and the specification decides alone what is read of a book or written as one.
 
 use crate::answer::{self, as_pattern, as_text};
 use crate::below;
+use crate::book;
 use crate::choices::Choices;
 use crate::days;
 use crate::limits::{
     day_limit, field_limit, pattern_limit, refused, room_limit, text_limit, year_limit,
 };
 use crate::minus::with_plus;
+use crate::names;
 use crate::pluses::{plus_in, IN_AN_OFFSET};
 use crate::request::Request;
 use crate::strict;
@@ -27,7 +30,7 @@ pub enum Expected {
     Limit(String),
     /// The Rust errs or panics.
     Refused(String),
-    /// The Rust answers.
+    /// The Rust answers, or a book is good.
     Accepted(String),
     /// The Rust came to a number that begins with a plus, whatever it answered, or it wrote a minus before zeros alone, or its
     /// weekday or week of a day below 0 is another than the calendar's.
@@ -51,8 +54,10 @@ impl Expected {
 /// No program answers this: the Rust stopped where the specification knows no refusal.
 const UNEXPLAINED: &str = "the Rust stops in a way that the specification does not know";
 
+/// A book that is refused decides before all else.
 pub fn expected(request: &Request) -> Expected {
-    first_limit(request).unwrap_or_else(|| from_the_rust(request))
+    let decide = || first_limit(request).unwrap_or_else(|| from_the_rust(request));
+    names::by_book(request.book(), decide).unwrap_or_else(Expected::Limit)
 }
 
 /// The checks that stand before any part is written or read, in the specification's order.
@@ -69,6 +74,7 @@ fn first_limit(request: &Request) -> Option<Expected> {
             pattern,
             text,
             now,
+            ..
         } => limit(pattern_limit(pattern))
             .or_else(|| lone_quote(pattern).map(Expected::Refused))
             .or_else(|| limit(year_limit(choices.edition, *now)))
@@ -76,6 +82,19 @@ fn first_limit(request: &Request) -> Option<Expected> {
         Request::ParseOffset { text } => limit(text_limit(text)),
         Request::DayOf { .. } => None,
         Request::DayNumber { year, .. } => limit(day_limit(*year)),
+        Request::Book { bytes } => Some(of_a_book(book::open(bytes), answer::book)),
+        Request::BookWrite { room, names } => {
+            let wrote = |bytes: &Vec<u8>| answer::wrote(bytes);
+            Some(of_a_book(book::write(names, *room), wrote))
+        }
+    }
+}
+
+/// By the specification alone as well.
+fn of_a_book<T>(told: Result<T, String>, line: impl Fn(&T) -> String) -> Expected {
+    match told {
+        Ok(answer) => Expected::Accepted(line(&answer)),
+        Err(refused) => Expected::Limit(refused),
     }
 }
 
@@ -103,6 +122,7 @@ fn from_the_rust(request: &Request) -> Expected {
             pattern,
             fields,
             room,
+            ..
         } => {
             let pattern = as_pattern(pattern).expect(ASCII);
             let Ok(text) = walk::write(*pair, pattern, fields) else {
@@ -110,8 +130,8 @@ fn from_the_rust(request: &Request) -> Expected {
             };
             limit(room_limit(&text, *room)).unwrap_or_else(|| {
                 match with_plus(*pair, pattern, fields) {
-                    Some(ours) => Expected::Excepted(answer::wrote(&ours)),
-                    None => Expected::Accepted(answer::wrote(&text)),
+                    Some(ours) => Expected::Excepted(answer::wrote(ours.as_bytes())),
+                    None => Expected::Accepted(answer::wrote(text.as_bytes())),
                 }
             })
         }
@@ -120,6 +140,7 @@ fn from_the_rust(request: &Request) -> Expected {
             pattern,
             text,
             now,
+            ..
         } => {
             let pattern = as_pattern(pattern).expect(ASCII);
             let text = as_text(text).expect(ASCII);
@@ -140,6 +161,9 @@ fn from_the_rust(request: &Request) -> Expected {
             Ok(number) => Expected::Accepted(answer::day_number(number)),
             Err(cause) => Expected::Refused(refused_day(&cause)),
         },
+        Request::Book { .. } | Request::BookWrite { .. } => {
+            unreachable!("the specification alone decides")
+        }
     }
 }
 

@@ -8,6 +8,7 @@ mod guard;
 mod util;
 
 pub mod answer;
+pub mod book;
 pub mod check;
 pub mod choices;
 pub mod days;
@@ -17,7 +18,10 @@ pub mod generator;
 pub mod gregorian;
 pub mod limits;
 mod minus;
+pub mod names;
+pub mod op;
 pub mod options;
+mod part;
 mod pluses;
 pub mod printing;
 pub mod request;

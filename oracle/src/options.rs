@@ -1,7 +1,7 @@
 //! The options that the generator, the recorder and the comparer share.
 
 use crate::check::CheckRequest;
-use crate::choices::Edition;
+use crate::choices::{Books, Edition};
 use crate::generator::{CheckGenerator, Generator};
 use crate::request::{Op, Request};
 use std::num::NonZeroUsize;
@@ -15,8 +15,10 @@ pub struct Options {
     pub count: Option<usize>,
     /// Of a longer run only each request of this step is taken.
     pub every: NonZeroUsize,
-    /// All of them where none is named.
+    /// The usual ones where none is named.
     pub ops: Option<Vec<Op>>,
+    /// Which books the requests come with; none where none is named.
+    pub books: Option<Books>,
     /// Of a check; both where none is named.
     pub edition: Option<Edition>,
     /// A file of requests, instead of generated ones.
@@ -50,6 +52,7 @@ impl Options {
             count: None,
             every: NonZeroUsize::MIN,
             ops: None,
+            books: None,
             edition: None,
             requests: None,
             program: Vec::new(),
@@ -60,6 +63,7 @@ impl Options {
                 "--count" => options.count = Some(number(args.next())?),
                 "--every" => options.every = number(args.next())?,
                 "--ops" => options.ops = Some(ops(&word(args.next())?)?),
+                "--books" => options.books = Some(books(&word(args.next())?)?),
                 "--edition" => options.edition = Some(edition(&word(args.next())?)?),
                 "--requests" => options.requests = Some(word(args.next())?),
                 "--" => options.program = args.by_ref().collect(),
@@ -70,8 +74,8 @@ impl Options {
     }
 
     pub fn generated(&self) -> impl Iterator<Item = Request> {
-        let ops = self.ops.clone().unwrap_or(Op::ALL.to_vec());
-        Generator::new(self.seed, ops)
+        let ops = self.ops.clone().unwrap_or(Op::usual(self.books));
+        Generator::with(self.books, self.seed, ops)
             .step_by(self.every.get())
             .take(self.count.unwrap_or(COUNT))
     }
@@ -80,7 +84,7 @@ impl Options {
     pub fn generated_checks(&self) -> impl Iterator<Item = CheckRequest> {
         let editions = self.edition.map_or(Edition::ALL.to_vec(), |one| vec![one]);
         let whole_list = editions.len() * CheckGenerator::whole_list();
-        CheckGenerator::new(self.seed, editions)
+        CheckGenerator::with(self.books, self.seed, editions)
             .step_by(self.every.get())
             .take(self.count.unwrap_or(whole_list))
     }
@@ -98,6 +102,10 @@ fn number<T: FromStr>(arg: Option<String>) -> Result<T, String> {
 
 fn edition(name: &str) -> Result<Edition, String> {
     Edition::named(name).ok_or_else(|| format!("{name} is no edition"))
+}
+
+fn books(name: &str) -> Result<Books, String> {
+    Books::named(name).ok_or_else(|| format!("{name} are no books"))
 }
 
 fn ops(names: &str) -> Result<Vec<Op>, String> {

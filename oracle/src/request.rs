@@ -1,7 +1,9 @@
 //! The requests of the line protocol: one a line, words separated by one space.
 
+use crate::book::{LONGEST_NAME, NAMES};
 use crate::calendar::Fields;
 use crate::choices::{Choices, Edition};
+pub use crate::op::Op;
 use crate::walk::Pair;
 use std::fmt;
 use std::iter::Peekable;
@@ -9,23 +11,7 @@ use std::str::FromStr;
 
 pub const MOST_ROOM: usize = 4096;
 
-#[derive(Clone, Copy, Debug, PartialEq, Eq)]
-pub enum Op {
-    Split,
-    Write,
-    WriteDate,
-    Read,
-    ReadDate,
-    ReadStrict,
-    ReadDateStrict,
-    ReadSecond,
-    ReadDateSecond,
-    ReadStrictSecond,
-    ReadDateStrictSecond,
-    ParseOffset,
-    DayOf,
-    DayNumber,
-}
+const BOOK: &str = "book:";
 
 #[derive(Clone, Debug, PartialEq, Eq)]
 pub enum Request {
@@ -37,12 +23,14 @@ pub enum Request {
         pattern: Vec<u8>,
         fields: Fields,
         room: usize,
+        book: Option<Vec<u8>>,
     },
     Read {
         choices: Choices,
         pattern: Vec<u8>,
         text: Vec<u8>,
         now: i32,
+        book: Option<Vec<u8>>,
     },
     ParseOffset {
         text: Vec<u8>,
@@ -55,80 +43,13 @@ pub enum Request {
         month: u32,
         day: u32,
     },
-}
-
-impl Op {
-    pub const ALL: [Op; 14] = [
-        Op::Split,
-        Op::Write,
-        Op::WriteDate,
-        Op::Read,
-        Op::ReadDate,
-        Op::ReadStrict,
-        Op::ReadDateStrict,
-        Op::ReadSecond,
-        Op::ReadDateSecond,
-        Op::ReadStrictSecond,
-        Op::ReadDateStrictSecond,
-        Op::ParseOffset,
-        Op::DayOf,
-        Op::DayNumber,
-    ];
-
-    pub fn name(self) -> &'static str {
-        match self {
-            Op::Split => "split",
-            Op::Write => "write",
-            Op::WriteDate => "write_date",
-            Op::Read => "read",
-            Op::ReadDate => "read_date",
-            Op::ReadStrict => "read_strict",
-            Op::ReadDateStrict => "read_date_strict",
-            Op::ReadSecond => "read_second",
-            Op::ReadDateSecond => "read_date_second",
-            Op::ReadStrictSecond => "read_strict_second",
-            Op::ReadDateStrictSecond => "read_date_strict_second",
-            Op::ParseOffset => "parse_offset",
-            Op::DayOf => "day_of",
-            Op::DayNumber => "day_number",
-        }
-    }
-
-    /// What a read is asked for; none where it is no read.
-    pub fn choices(self) -> Option<Choices> {
-        let (full, date) = (Choices::of(Pair::Full), Choices::of(Pair::Date));
-        Some(match self {
-            Op::Read => full,
-            Op::ReadDate => date,
-            Op::ReadStrict => full.strict(),
-            Op::ReadDateStrict => date.strict(),
-            Op::ReadSecond => full.second(),
-            Op::ReadDateSecond => date.second(),
-            Op::ReadStrictSecond => full.strict().second(),
-            Op::ReadDateStrictSecond => date.strict().second(),
-            Op::Split | Op::Write | Op::WriteDate => return None,
-            Op::ParseOffset | Op::DayOf | Op::DayNumber => return None,
-        })
-    }
-
-    fn of_read(choices: Choices) -> Op {
-        let of_these = |op: &Op| op.choices() == Some(choices);
-        let op = Op::ALL.into_iter().find(of_these);
-        op.expect("each choice of a read has its op")
-    }
-
-    /// The first word of its requests.
-    fn word(self) -> &'static str {
-        match self.choices().map(|choices| choices.pair) {
-            Some(Pair::Full) => Op::Read.name(),
-            Some(Pair::Date) => Op::ReadDate.name(),
-            None => self.name(),
-        }
-    }
-
-    pub fn named(name: &str) -> Option<Op> {
-        Op::ALL.into_iter().find(|op| op.name() == name)
-    }
+    Book {
+        bytes: Vec<u8>,
+    },
+    BookWrite {
+        room: usize,
+        names: Vec<Vec<u8>>,
+    },
 }
 
 impl Request {
@@ -153,6 +74,13 @@ impl Request {
                 month: number(&mut words)?,
                 day: number(&mut words)?,
             },
+            Op::Book => Request::Book {
+                bytes: bytes(&mut words)?,
+            },
+            Op::BookWrite => Request::BookWrite {
+                room: room(&mut words)?,
+                names: names(&mut words)?,
+            },
             read => read_request(read.choices()?.pair, &mut words)?,
         };
         words.next().is_none().then_some(request)
@@ -169,7 +97,25 @@ impl Request {
             Request::ParseOffset { .. } => Op::ParseOffset,
             Request::DayOf { .. } => Op::DayOf,
             Request::DayNumber { .. } => Op::DayNumber,
+            Request::Book { .. } => Op::Book,
+            Request::BookWrite { .. } => Op::BookWrite,
         }
+    }
+
+    /// The book that it comes with.
+    pub fn book(&self) -> Option<&[u8]> {
+        match self {
+            Request::Write { book, .. } | Request::Read { book, .. } => book.as_deref(),
+            _ => None,
+        }
+    }
+
+    /// The same with another book or with none, where it takes one.
+    pub fn with_book(mut self, other: Option<Vec<u8>>) -> Request {
+        if let Request::Write { book, .. } | Request::Read { book, .. } = &mut self {
+            *book = other;
+        }
+        self
     }
 }
 
@@ -182,21 +128,33 @@ impl fmt::Display for Request {
                 pattern,
                 fields,
                 room,
+                book,
                 ..
-            } => write!(f, "{} {} {room}", hex(pattern), field_words(fields)),
+            } => {
+                let book = book_word(book);
+                write!(f, "{} {} {room}{book}", hex(pattern), field_words(fields))
+            }
             Request::Read {
                 choices,
                 pattern,
                 text,
                 now,
+                book,
             } => {
                 let strict = if choices.strict { " strict" } else { "" };
-                let edition = edition_word(choices.edition);
-                write!(f, "{} {} {now}{strict}{edition}", hex(pattern), hex(text))
+                let (edition, book) = (edition_word(choices.edition), book_word(book));
+                write!(
+                    f,
+                    "{} {} {now}{strict}{edition}{book}",
+                    hex(pattern),
+                    hex(text)
+                )
             }
             Request::ParseOffset { text } => f.write_str(&hex(text)),
             Request::DayOf { number } => write!(f, "{number}"),
             Request::DayNumber { year, month, day } => write!(f, "{year} {month} {day}"),
+            Request::Book { bytes } => f.write_str(&hex(bytes)),
+            Request::BookWrite { room, names } => write!(f, "{room} {}", name_words(names)),
         }
     }
 }
@@ -215,16 +173,21 @@ pub fn hex(bytes: &[u8]) -> String {
     digits
 }
 
-fn write_request<'a>(pair: Pair, words: &mut impl Iterator<Item = &'a str>) -> Option<Request> {
+/// With the word that may stand behind it; what stands behind that is left.
+fn write_request<'a>(
+    pair: Pair,
+    words: &mut Peekable<impl Iterator<Item = &'a str>>,
+) -> Option<Request> {
     Some(Request::Write {
         pair,
         pattern: bytes(words)?,
         fields: fields(words)?,
-        room: number(words).filter(|room| *room <= MOST_ROOM)?,
+        room: room(words)?,
+        book: book(words)?,
     })
 }
 
-/// With the words that may stand behind it, in this order; what stands behind those is left.
+/// Likewise, with words in this order.
 fn read_request<'a>(
     pair: Pair,
     words: &mut Peekable<impl Iterator<Item = &'a str>>,
@@ -238,6 +201,7 @@ fn read_request<'a>(
             strict: words.next_if_eq(&"strict").is_some(),
             edition: edition(words),
         },
+        book: book(words)?,
     })
 }
 
@@ -255,6 +219,39 @@ pub(crate) fn edition_word(edition: Edition) -> &'static str {
         Edition::First => "",
         Edition::Second => " second",
     }
+}
+
+/// The book where the next word is for one, if any; the line is no request where that word has no byte string.
+pub(crate) fn book<'a>(
+    words: &mut Peekable<impl Iterator<Item = &'a str>>,
+) -> Option<Option<Vec<u8>>> {
+    match words.next_if(|word| word.starts_with(BOOK)) {
+        Some(word) => Some(Some(bytes(&mut [&word[BOOK.len()..]].into_iter())?)),
+        None => Some(None),
+    }
+}
+
+/// The word for a book behind a request, with the space before it.
+pub(crate) fn book_word(book: &Option<Vec<u8>>) -> String {
+    match book {
+        Some(bytes) => format!(" {BOOK}{}", hex(bytes)),
+        None => String::new(),
+    }
+}
+
+/// As many as a book has, none longer than a length byte can tell.
+fn names<'a>(words: &mut impl Iterator<Item = &'a str>) -> Option<Vec<Vec<u8>>> {
+    let name = |_| bytes(words).filter(|name| name.len() <= LONGEST_NAME);
+    (0..NAMES).map(name).collect()
+}
+
+pub fn name_words(names: &[Vec<u8>]) -> String {
+    let words: Vec<String> = names.iter().map(|name| hex(name)).collect();
+    words.join(" ")
+}
+
+fn room<'a>(words: &mut impl Iterator<Item = &'a str>) -> Option<usize> {
+    number(words).filter(|room| *room <= MOST_ROOM)
 }
 
 pub(crate) fn fields<'a>(words: &mut impl Iterator<Item = &'a str>) -> Option<Fields> {

@@ -1,7 +1,7 @@
 //! Request [6]: the second edition, which the Rust does not have. A single M is read as the Rust reads a single d, and a year of two
 //! digits is found by trying the years around the current one; how far a read came, and all else, is the Rust's own.
 
-use crate::util::parse::{ParseUnit, ParsedPart};
+use crate::part::{Carried, MONTH};
 
 /// The part that the Rust reads in the place of this one.
 pub fn stand_in(part: &str) -> &str {
@@ -12,13 +12,13 @@ pub fn stand_in(part: &str) -> &str {
 }
 
 /// What a part gives, by the bytes that it took and by what the Rust gave for the one in its place.
-pub fn given(part: &str, taken: &str, now: i32, by_the_rust: ParsedPart) -> ParsedPart {
+pub fn given(part: &str, taken: &str, now: i32, by_the_rust: Carried) -> Carried {
     match part {
-        "M" => ParsedPart {
-            unit: ParseUnit::Month,
+        "M" => Carried {
+            unit: MONTH,
             ..by_the_rust
         },
-        "yy" => ParsedPart {
+        "yy" => Carried {
             value: year_around(now, taken).unwrap_or(by_the_rust.value),
             ..by_the_rust
         },

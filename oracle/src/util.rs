@@ -1,5 +1,5 @@
 //! The Rust's own modules from the source folder, each under its own name. Where a pattern is written the calendar is ours, which
-//! answers given fields; the Rust's own stands beside it.
+//! answers given fields; the Rust's own stands beside it. Writing and reading stand here a second time, for names of a book.
 #![allow(dead_code, clippy::all)]
 
 pub(crate) mod constants {
@@ -12,6 +12,27 @@ pub(crate) mod format {
 
 pub(crate) mod parse {
     include!(concat!(env!("ASTROLABE_SRC"), "/src/util/parse.rs"));
+}
+
+/// The same files once more. The constants that they find are the Rust's own, but that the names of months and weekdays are given.
+pub(crate) mod by_book {
+    pub(crate) use super::{date, time};
+
+    pub(crate) mod constants {
+        pub(crate) use crate::names::{
+            MONTH_ABBREVIATED, MONTH_NARROW, MONTH_WIDE, WDAY_ABBREVIATED, WDAY_NARROW, WDAY_SHORT,
+            WDAY_WIDE,
+        };
+        pub(crate) use crate::util::constants::*;
+    }
+
+    pub(crate) mod format {
+        include!(concat!(env!("ASTROLABE_SRC"), "/src/util/format.rs"));
+    }
+
+    pub(crate) mod parse {
+        include!(concat!(env!("ASTROLABE_SRC"), "/src/util/parse.rs"));
+    }
 }
 
 pub(crate) mod date {

@@ -6,9 +6,9 @@ use crate::choices::{Choices, Edition};
 use crate::errors::AstrolabeError;
 use crate::guard::guarded;
 pub use crate::guard::Cause;
+use crate::part::{self, Carried};
 use crate::second;
-use crate::util::format::{format_date_part, format_part};
-use crate::util::parse::{self, parse_date_part, parse_format_string, parse_part, ParsedPart};
+use crate::util::parse::{self, parse_format_string};
 use std::ops::Range;
 
 /// Which of the Rust's pairs of part functions the walk goes through.
@@ -194,16 +194,15 @@ impl Parts {
         let carried = guarded(|| read_part_in(edition, Pair::Full, part, &mut rest, now))?;
         Ok(PartRead {
             taken: text.len() - rest.len(),
-            carried: carried.map(|carried| (carried.unit as usize, carried.value)),
+            carried: carried.map(|carried| (carried.unit, carried.value)),
         })
     }
 }
 
 impl Reading {
-    fn keep(&mut self, carried: ParsedPart, span: Range<usize>) {
-        let unit = carried.unit as usize;
+    fn keep(&mut self, Carried { unit, value }: Carried, span: Range<usize>) {
         self.mask |= 1 << unit;
-        self.values[unit] = carried.value;
+        self.values[unit] = value;
         self.spans[unit] = span;
     }
 }
@@ -221,13 +220,10 @@ fn kind_of(part: &str) -> Kind {
 }
 
 fn write_part(pair: Pair, part: &str, fields: &Fields) -> String {
-    match (kind_of(part), pair) {
-        (Kind::Quotes, _) => with_quotes(part),
-        (Kind::Quoted | Kind::Open, _) => inside(&with_quotes(part)).to_string(),
-        (Kind::Run, Pair::Full) => {
-            format_part(part, fields.days(), fields.nanoseconds, fields.offset)
-        }
-        (Kind::Run, Pair::Date) => format_date_part(part, fields.days()),
+    match kind_of(part) {
+        Kind::Quotes => with_quotes(part),
+        Kind::Quoted | Kind::Open => inside(&with_quotes(part)).to_string(),
+        Kind::Run => part::write(pair, part, fields),
     }
 }
 
@@ -247,7 +243,7 @@ fn read_part_in(
     part: &str,
     rest: &mut String,
     now: i32,
-) -> Result<Option<ParsedPart>, AstrolabeError> {
+) -> Result<Option<Carried>, AstrolabeError> {
     if edition == Edition::First {
         return read_part(pair, part, rest);
     }
@@ -257,16 +253,11 @@ fn read_part_in(
     Ok(carried.map(|carried| second::given(part, taken, now, carried)))
 }
 
-fn read_part(
-    pair: Pair,
-    part: &str,
-    rest: &mut String,
-) -> Result<Option<ParsedPart>, AstrolabeError> {
-    match (kind_of(part), pair) {
-        (Kind::Quotes, _) => skip(part.len(), rest),
-        (Kind::Quoted | Kind::Open, _) => skip(bytes_inside(part), rest),
-        (Kind::Run, Pair::Full) => return parse_part(part, rest),
-        (Kind::Run, Pair::Date) => return parse_date_part(part, rest),
+fn read_part(pair: Pair, part: &str, rest: &mut String) -> Result<Option<Carried>, AstrolabeError> {
+    match kind_of(part) {
+        Kind::Quotes => skip(part.len(), rest),
+        Kind::Quoted | Kind::Open => skip(bytes_inside(part), rest),
+        Kind::Run => return part::read(pair, part, rest),
     }
     Ok(None)
 }

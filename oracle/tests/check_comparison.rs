@@ -15,6 +15,7 @@ fn fault(edition: Edition, pattern: &str, answer: &str) -> Option<String> {
         edition,
         pattern: pattern.into(),
         now: 2025,
+        book: None,
     };
     request.fault(&verdict(&request, &mut Random::new(1)), answer)
 }

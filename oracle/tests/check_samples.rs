@@ -9,6 +9,7 @@ fn check(edition: Edition, pattern: impl AsRef<[u8]>, now: i32) -> Verdict {
         edition,
         pattern: pattern.as_ref().to_vec(),
         now,
+        book: None,
     };
     verdict(&request, &mut Random::new(1))
 }

@@ -1,7 +1,7 @@
 //! Which lines are requests, and what the generated ones are like.
 
 use harness::answer::answer;
-use harness::choices::{Choices, Edition};
+use harness::choices::{Books, Choices, Edition};
 use harness::expected::{expected, Expected};
 use harness::generator::Generator;
 use harness::gregorian::number_of;
@@ -56,6 +56,24 @@ fn other_lines_are_bad_requests() {
         "day_number 2025 12 3 3".to_string(),
         "day_number 2025 -1 3".to_string(),
         "day_number 2025 12 4294967296".to_string(),
+        "read 79 39 2025 book:".to_string(),
+        "read 79 39 2025 book:4".to_string(),
+        "read 79 39 2025 book".to_string(),
+        "read 79 39 2025 book: 4c".to_string(),
+        "read 79 39 2025 book:4c book:4c".to_string(),
+        "read 79 39 2025 book:4c second".to_string(),
+        "read 79 39 2025 second book:4c strict".to_string(),
+        format!("write 79 {FIELDS} book:4c 9"),
+        format!("write 79 {FIELDS} 9 second book:4c"),
+        "split 79 book:4c".to_string(),
+        "parse_offset 5a book:4c".to_string(),
+        "book".to_string(),
+        "book 4c 4e".to_string(),
+        "book_write 9".to_string(),
+        format!("book_write 9{}", " 4142".repeat(63)),
+        format!("book_write 9{}", " 4142".repeat(65)),
+        format!("book_write 4097{}", " 4142".repeat(64)),
+        format!("book_write 9{} {}", " 4142".repeat(63), "41".repeat(256)),
     ];
     for line in lines {
         assert_eq!(answer(&line), "bad request", "{line}");
@@ -66,6 +84,24 @@ fn other_lines_are_bad_requests() {
 fn generated_requests_read_back_from_their_lines() {
     for request in Generator::new(1, Op::ALL.to_vec()).take(10_000) {
         assert_eq!(Request::from_line(&request.to_string()), Some(request));
+    }
+}
+
+#[test]
+fn requests_with_books_read_back_from_their_lines() {
+    for books in [Books::English, Books::Random] {
+        for request in Generator::with(Some(books), 1, Op::usual(Some(books))).take(10_000) {
+            assert_eq!(Request::from_line(&request.to_string()), Some(request));
+        }
+    }
+}
+
+/// A line of `ask` may have no more.
+#[test]
+fn no_line_has_more_than_20000_bytes() {
+    let requests = Generator::with(Some(Books::Random), 1, Op::usual(Some(Books::Random)));
+    for request in requests.take(20_000) {
+        assert!(request.to_string().len() <= 20_000);
     }
 }
 
@@ -146,11 +182,9 @@ fn a_spread_out_sample_has_every_symbol_at_every_usual_count() {
 /// Each as often as the others, of the ops with definitions and of all.
 #[test]
 fn a_spread_out_sample_has_every_op() {
-    let of_all = each_fifth(8400, &Op::ALL);
-    for (sample, ops) in [
-        (spread_out_sample(), with_definitions()),
-        (of_all, Op::ALL.to_vec()),
-    ] {
+    let all = Op::usual(None);
+    let of_all = each_fifth(8400, &all);
+    for (sample, ops) in [(spread_out_sample(), with_definitions()), (of_all, all)] {
         for op in &ops {
             let count = sample.iter().filter(|request| request.op() == *op).count();
             assert_eq!(count, sample.len() / ops.len(), "{op:?}");
@@ -161,7 +195,7 @@ fn a_spread_out_sample_has_every_op() {
 /// Each boundary of a month, and each day around 0 and at both ends of the numbers.
 #[test]
 fn a_default_run_goes_through_all_that_is_enumerated_of_days() {
-    let a_default_run = 2_100_000 / Op::ALL.len();
+    let a_default_run = 2_100_000 / Op::usual(None).len();
     let numbers: HashSet<i32> = Generator::new(1, vec![Op::DayOf])
         .take(a_default_run)
         .map(|request| match request {
@@ -237,10 +271,11 @@ fn spread_out_sample() -> Vec<Request> {
     each_fifth(9216, &with_definitions())
 }
 
-/// All but those of days.
+/// All but those of days and of books.
 fn with_definitions() -> Vec<Op> {
     let of_days = [Op::DayOf, Op::DayNumber];
-    let others = Op::ALL.into_iter().filter(|op| !of_days.contains(op));
+    let usual = Op::usual(None).into_iter();
+    let others = usual.filter(|op| !of_days.contains(op));
     others.collect()
 }
 
@@ -257,6 +292,6 @@ fn pattern(request: &Request) -> Option<&Vec<u8>> {
         Request::Split { pattern }
         | Request::Write { pattern, .. }
         | Request::Read { pattern, .. } => Some(pattern),
-        Request::ParseOffset { .. } | Request::DayOf { .. } | Request::DayNumber { .. } => None,
+        _ => None,
     }
 }

@@ -38,6 +38,7 @@ fn write(pattern: &str, fields: Fields) -> Request {
         pattern: pattern.into(),
         fields,
         room: 4096,
+        book: None,
     }
 }
 
@@ -47,6 +48,7 @@ fn read(pattern: &str, text: &str, now: i32) -> Request {
         pattern: pattern.into(),
         text: text.into(),
         now,
+        book: None,
     }
 }
 
@@ -56,6 +58,7 @@ fn read_strictly(pair: Pair, pattern: &str, text: &str) -> Request {
         pattern: pattern.into(),
         text: text.into(),
         now: 2025,
+        book: None,
     }
 }
 
@@ -65,6 +68,7 @@ fn read_in_the_second(pair: Pair, pattern: &str, text: &str, now: i32) -> Reques
         pattern: pattern.into(),
         text: text.into(),
         now,
+        book: None,
     }
 }
 
@@ -200,6 +204,7 @@ fn a_span_is_all_that_the_part_took() {
         pattern: "HH d".into(),
         text: "07 3".into(),
         now: 2025,
+        book: None,
     };
     reads(&by_date, "4 4 1", &[(DAY, 3, 3..4)]);
 }
@@ -339,6 +344,7 @@ fn minus_nothing_is_written_with_a_plus() {
         pattern: "X".into(),
         fields: with_offset(-30),
         room: 4096,
+        book: None,
     };
     accepted(&by_date, "wrote 1 58");
 }
@@ -387,6 +393,7 @@ fn a_month_is_refused_as_a_day_in_the_second_edition() {
             pattern: pattern.into(),
             text: text.into(),
             now: 2025,
+            book: None,
         })
     };
     let line = |number: &str| format!("refused {number}");

@@ -1,135 +1,45 @@
 //! Both comparers on programs that answer: right answers pass, and one wrong, missing or needless answer among them is found.
 
+mod comparing;
+
+use comparing::{
+    checks, compare_check_with, compare_with, is_found_out_with, one_wrong_answer_is_found, right,
+    verdicts, Comparer, COUNT,
+};
 use harness::answer::{answer, as_pattern};
-use harness::check::{verdict, CheckRequest};
+use harness::check::CheckRequest;
 use harness::choices::Edition;
-use harness::expected::expected;
-use harness::generator::{CheckGenerator, Generator, Random};
 use harness::request::{Op, Request};
 use harness::walk::{self, Part};
-use std::fs;
-use std::path::Path;
-use std::process::Command;
 
-const COUNT: usize = 300;
 const ALWAYS_YES: &str = "while read -r line; do echo yes; done";
 
 /// How many words of an accepted read stand before its spans, and the span of a unit that was not read.
 const BEFORE_SPANS: usize = 19;
 const NO_SPAN: &str = "0:0";
 
-/// A comparer, and the requests of its seed 1 with their right answers.
-struct Comparer {
-    path: &'static str,
-    requests: Vec<String>,
-    answers: Vec<String>,
-}
-
-struct Outcome {
-    status: Option<i32>,
-    printed: String,
-}
-
 fn compare() -> Comparer {
-    let requests = || Generator::new(1, Op::ALL.to_vec()).take(COUNT);
-    Comparer {
-        path: env!("CARGO_BIN_EXE_compare"),
-        requests: requests().map(|request| request.to_string()).collect(),
-        answers: requests().map(|request| right(&request)).collect(),
-    }
-}
-
-fn right(request: &Request) -> String {
-    expected(request).line().to_string()
+    compare_with(None, COUNT)
 }
 
 fn compare_check() -> Comparer {
-    Comparer {
-        path: env!("CARGO_BIN_EXE_compare_check"),
-        requests: checks().map(|request| request.to_string()).collect(),
-        answers: verdicts(checks()),
-    }
-}
-
-fn checks() -> impl Iterator<Item = CheckRequest> {
-    CheckGenerator::new(1, Edition::ALL.to_vec()).take(COUNT)
-}
-
-/// With the random records of the comparer's own, so that a no shows the same record.
-fn verdicts(requests: impl Iterator<Item = CheckRequest>) -> Vec<String> {
-    let mut random = Random::new(1);
-    requests
-        .map(|request| verdict(&request, &mut random).to_string())
-        .collect()
-}
-
-impl Comparer {
-    /// How the comparison with a shell's script ends.
-    fn with(&self, words: &[&str]) -> Outcome {
-        let run = Command::new(self.path)
-            .args(["--seed", "1", "--count", &COUNT.to_string()])
-            .args(["--", "sh", "-c"])
-            .args(words)
-            .output()
-            .expect("the comparer runs");
-        Outcome {
-            status: run.status.code(),
-            printed: String::from_utf8(run.stdout).expect("it prints text"),
-        }
-    }
-
-    /// With a program that gives these answers, whatever is asked.
-    fn with_answers(&self, name: &str, answers: &[String], last: &str) -> Outcome {
-        let comparer = Path::new(self.path)
-            .file_name()
-            .expect("a program has a name");
-        let file = Path::new(env!("CARGO_TARGET_TMPDIR"))
-            .join(format!("{}-{name}", comparer.to_string_lossy()));
-        let lines: String = answers.iter().map(|answer| format!("{answer}\n")).collect();
-        fs::write(&file, lines).expect("the file can be written");
-        let script = format!("cat >/dev/null; cat \"$0\"; {last}");
-        self.with(&[&script, &file.to_string_lossy()])
-    }
-}
-
-impl Outcome {
-    /// The last number of the table's last row.
-    fn differences(&self) -> usize {
-        let all = self.printed.lines().find(|line| line.starts_with("all "));
-        let last = all.and_then(|line| line.split_whitespace().last());
-        last.and_then(|word| word.parse().ok())
-            .expect("the table has a last row")
-    }
-
-    #[track_caller]
-    fn is_a_failure(&self, differences: usize) {
-        assert_eq!(self.status, Some(1), "{}", self.printed);
-        assert_eq!(self.differences(), differences, "{}", self.printed);
-    }
+    compare_check_with(None)
 }
 
 #[test]
 fn right_answers_pass() {
     for comparer in [compare(), compare_check()] {
-        let outcome = comparer.with_answers("right", &comparer.answers, "");
-        assert_eq!(outcome.status, Some(0), "{}", outcome.printed);
-        assert_eq!(outcome.differences(), 0);
+        comparing::right_answers_pass(&comparer);
     }
 }
 
 #[test]
 fn one_wrong_answer_is_found_and_shown() {
     for comparer in [compare(), compare_check()] {
-        for place in (0..Op::ALL.len()).chain([COUNT / 2, COUNT - 1]) {
+        for place in (0..Op::usual(None).len()).chain([COUNT / 2, COUNT - 1]) {
             let right = &comparer.answers[place];
             for wrong in [format!("{right} 0"), right[1..].to_string(), String::new()] {
-                let mut answers = comparer.answers.clone();
-                answers[place] = wrong.clone();
-                let outcome = comparer.with_answers("one_wrong", &answers, "");
-                outcome.is_a_failure(1);
-                let request = &comparer.requests[place];
-                let shown = format!("request  {request}\nexpected {right}\nanswered {wrong}\n");
-                assert!(outcome.printed.starts_with(&shown), "{}", outcome.printed);
+                one_wrong_answer_is_found(&comparer, place, &wrong);
             }
         }
     }
@@ -138,17 +48,7 @@ fn one_wrong_answer_is_found_and_shown() {
 /// A program that answers so is found out at each request where that is wrong, of which there are some.
 #[track_caller]
 fn is_found_out(name: &str, answer: impl Fn(&Request) -> String) {
-    let comparer = compare();
-    let answers: Vec<String> = Generator::new(1, Op::ALL.to_vec())
-        .take(COUNT)
-        .map(|request| answer(&request))
-        .collect();
-    let both = answers.iter().zip(&comparer.answers);
-    let wrong = both.filter(|(answer, right)| answer != right).count();
-    assert!(wrong > 0, "it is always right");
-    comparer
-        .with_answers(name, &answers, "")
-        .is_a_failure(wrong);
+    is_found_out_with(None, COUNT, name, answer);
 }
 
 /// The same request, not strict.
@@ -201,7 +101,7 @@ fn a_program_that_reads_a_single_month_or_a_short_year_as_before_is_found_out() 
 
 #[test]
 fn a_program_that_checks_in_the_first_edition_alone_is_found_out() {
-    let first = checks().map(|request| CheckRequest {
+    let first = checks(None).map(|request| CheckRequest {
         edition: Edition::First,
         ..request
     });

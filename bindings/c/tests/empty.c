@@ -7,16 +7,22 @@
 
 #define MARK (-77)
 
+/* How many bytes the book of the English names has. */
+#define ENGLISH 283
+
 typedef uint32_t writer(const uint8_t *, size_t, int32_t, uint32_t, uint32_t, uint32_t, uint32_t, uint32_t, uint64_t, int32_t,
                         uint8_t *, size_t, int64_t *, size_t);
 typedef uint32_t reader(const uint8_t *, size_t, const uint8_t *, size_t, int32_t, int64_t *, size_t);
 
 static const uint8_t PATTERN[] = {'d', 'd'};
 static const uint8_t TEXT[] = {'0', '3'};
+static const uint8_t MONTH[] = {'M', 'M', 'M', 'M'};
 static uint8_t out[4];
 static int64_t answer[SHEET_READ_ANSWER];
 static int64_t parts[SHEET_SPLIT_PARTS];
 static int64_t units[SHEET_UNITS_ROW];
+static uint8_t book[SHEET_BOOK_ROW];
+static uint8_t written[SHEET_LONGEST_BOOK];
 static bool all = true;
 
 /* What a call has to return, and the first two entries of its row. */
@@ -71,6 +77,46 @@ static void by_choices(void) {
     GIVES(read_with(8, NULL, 0, NULL, 0, NULL, 0), SHEET_NO_SUCH_CHOICE, MARK, MARK);
 }
 
+static uint32_t write_with_book(uint32_t choices, const uint8_t *pattern, size_t pattern_len, uint8_t *to, size_t to_len,
+                                int64_t *row, size_t row_len) {
+    return sheet_write_by(choices, NULL, 0, pattern, pattern_len, 2025, 12, 3, 337, 49, 3, 0, 0, to, to_len, row, row_len);
+}
+
+static uint32_t read_with_book(uint32_t choices, const uint8_t *pattern, size_t pattern_len, const uint8_t *text,
+                               size_t text_len, int64_t *row, size_t row_len) {
+    return sheet_read_by(choices, NULL, 0, pattern, pattern_len, text, text_len, 2025, row, row_len);
+}
+
+/* An empty book stands for the English names. */
+static void with_an_empty_book(uint32_t choices) {
+    GIVES(write_with_book(choices, NULL, 0, NULL, 0, answer, 2), SHEET_ACCEPTED, 0, 0);
+    GIVES(write_with_book(choices, PATTERN, 2, NULL, 0, answer, 2), SHEET_NO_ROOM, 2, 0);
+    GIVES(write_with_book(choices, MONTH, 4, NULL, 0, answer, 2), SHEET_NO_ROOM, 8, 0);
+    GIVES(write_with_book(choices, PATTERN, 2, out, 4, NULL, 0), SHEET_ROW_TOO_SMALL, MARK, MARK);
+    GIVES(read_with_book(choices, NULL, 0, NULL, 0, answer, SHEET_READ_ANSWER), SHEET_ACCEPTED, 0, 0);
+    GIVES(read_with_book(choices, PATTERN, 2, NULL, 0, answer, SHEET_READ_ANSWER), SHEET_TOO_FEW, 0, 0);
+    GIVES(read_with_book(choices, PATTERN, 2, TEXT, 2, NULL, 0), SHEET_ROW_TOO_SMALL, MARK, MARK);
+}
+
+static void by_books(void) {
+    for (uint32_t choices = 0; choices <= SHEET_DATE_PAIR + SHEET_STRICT + SHEET_SECOND_EDITION; choices++)
+        with_an_empty_book(choices);
+    GIVES(write_with_book(8, NULL, 0, NULL, 0, NULL, 0), SHEET_NO_SUCH_CHOICE, MARK, MARK);
+    GIVES(read_with_book(8, NULL, 0, NULL, 0, NULL, 0), SHEET_NO_SUCH_CHOICE, MARK, MARK);
+    GIVES(sheet_write_by(0, book, 1, NULL, 0, 2025, 12, 3, 337, 49, 3, 0, 0, NULL, 0, NULL, 0), SHEET_NO_BOOK, MARK, MARK);
+    GIVES(sheet_read_by(0, book, 1, NULL, 0, NULL, 0, 2025, NULL, 0), SHEET_NO_BOOK, MARK, MARK);
+    GIVES(sheet_book_read(NULL, 0, book, SHEET_BOOK_ROW, answer, 2), SHEET_BOOK_MARK, 0, 0);
+    GIVES(sheet_book_read(NULL, 0, NULL, 0, answer, 2), SHEET_BOOK_MARK, 0, 0);
+    GIVES(sheet_book_read(NULL, 0, NULL, 0, NULL, 0), SHEET_ROW_TOO_SMALL, MARK, MARK);
+    GIVES(sheet_book_write(NULL, 0, NULL, 0, NULL, 0), SHEET_ROW_TOO_SMALL, MARK, MARK);
+    GIVES(sheet_book_write(book, 1, NULL, 0, NULL, 0), SHEET_NO_BOOK, MARK, MARK);
+    GIVES(sheet_book_write(NULL, 0, NULL, 0, answer, 2), SHEET_NO_ROOM, ENGLISH, 0);
+    GIVES(sheet_book_write(NULL, 0, written, SHEET_LONGEST_BOOK, answer, 2), SHEET_ACCEPTED, ENGLISH, 0);
+    GIVES(sheet_book_read(written, ENGLISH, NULL, 0, answer, 2), SHEET_NO_ROOM, SHEET_BOOK_ROW, 0);
+    GIVES(sheet_book_read(written, ENGLISH, book, SHEET_BOOK_ROW, answer, 2), SHEET_ACCEPTED, SHEET_BOOK_ROW, 0);
+    GIVES(sheet_book_write(book, SHEET_BOOK_ROW, NULL, 0, answer, 2), SHEET_NO_ROOM, ENGLISH, 0);
+}
+
 static void by_others(void) {
     GIVES(sheet_parse_offset(NULL, 0, answer, 2), SHEET_OFFSET_LENGTH, 0, 0);
     GIVES(sheet_parse_offset(TEXT, 2, NULL, 0), SHEET_ROW_TOO_SMALL, MARK, MARK);
@@ -99,6 +145,7 @@ int main(void) {
     by_reader(sheet_read);
     by_reader(sheet_read_date);
     by_choices();
+    by_books();
     by_others();
     return all ? 0 : 1;
 }

@@ -20,6 +20,8 @@ static uint8_t text[SHEET_LONGEST_TEXT];
 static int64_t answer[SHEET_READ_ANSWER];
 static int64_t parts[SHEET_SPLIT_PARTS];
 static int64_t units[SHEET_UNITS_ROW];
+static uint8_t book[SHEET_BOOK_ROW];
+static uint8_t file[SHEET_LONGEST_BOOK];
 
 /* Calls a function by the first bytes of the pattern. */
 typedef void function(size_t length);
@@ -51,6 +53,49 @@ static void write_and_read_with(size_t length) {
     size_t written = (size_t)answer[0];
     for (uint32_t choices = 0; choices <= SHEET_DATE_PAIR + SHEET_STRICT + SHEET_SECOND_EDITION; choices++)
         sheet_read_with(choices, pattern, length, text, written, 2025, answer, SHEET_READ_ANSWER);
+}
+
+/* Names of as many letters as they may have, which differ in the last alone where they must. */
+static void lay_longest_names(void) {
+    const size_t firsts[] = {SHEET_WIDE_MONTHS,         SHEET_SHORT_MONTHS,    SHEET_WIDE_WEEKDAYS, SHEET_SHORT_WEEKDAYS,
+                             SHEET_TWO_LETTER_WEEKDAYS, SHEET_NARROW_WEEKDAYS, SHEET_NARROW_MONTHS, SHEET_BOOK_ROOMS};
+    const uint8_t lengths[] = {20, 20, 20, 3, 2, 1, 1};
+    for (size_t list = 0; list < sizeof lengths; list++) {
+        for (size_t name = firsts[list]; name < firsts[list + 1]; name++) {
+            uint8_t *room = book + SHEET_NAME_ROOM * name;
+            memset(room, 'a', SHEET_NAME_ROOM);
+            room[0] = lengths[list];
+            room[lengths[list]] = (uint8_t)('a' + name - firsts[list]);
+        }
+    }
+}
+
+static uint32_t write_with_book(uint32_t choices, size_t length, size_t room) {
+    return sheet_write_by(choices, book, sizeof book, pattern, length, -5879611, 12, 30, 366, 53, 6, UINT64_C(43200000000000),
+                          -86399, text, room, answer, SHEET_WRITE_ANSWER);
+}
+
+/* With all choices, the last names, with room and without. */
+static void write_and_read_by(size_t length) {
+    for (uint32_t choices = 0; choices <= SHEET_DATE_PAIR + SHEET_STRICT + SHEET_SECOND_EDITION; choices++) {
+        if (write_with_book(choices, length, 0) == SHEET_NO_ROOM)
+            write_with_book(choices, length, (size_t)answer[0] - 1);
+        if (write_with_book(choices, length, SHEET_LONGEST_TEXT) != SHEET_ACCEPTED)
+            continue;
+        size_t written = (size_t)answer[0];
+        sheet_read_by(choices, book, sizeof book, pattern, length, text, written, 2025, answer, SHEET_READ_ANSWER);
+    }
+}
+
+/* Whatever the pattern is: the longest book, one byte short of it, and English. */
+static void books(size_t length) {
+    static uint8_t opened[SHEET_BOOK_ROW];
+    (void)length;
+    sheet_book_write(NULL, 0, file, sizeof file, answer, SHEET_BOOK_ANSWER);
+    sheet_book_write(book, sizeof book, file, SHEET_LONGEST_BOOK - 1, answer, SHEET_BOOK_ANSWER);
+    sheet_book_write(book, sizeof book, file, SHEET_LONGEST_BOOK, answer, SHEET_BOOK_ANSWER);
+    sheet_book_read(file, SHEET_LONGEST_BOOK - 1, opened, sizeof opened, answer, SHEET_BOOK_ANSWER);
+    sheet_book_read(file, SHEET_LONGEST_BOOK, opened, sizeof opened, answer, SHEET_BOOK_ANSWER);
 }
 
 static void split(size_t length) {
@@ -128,10 +173,13 @@ static bool holds(const char *name, function *function) {
 }
 
 int main(void) {
+    lay_longest_names();
     bool all = holds("write, enough room", write_with_room);
     all &= holds("write, too little room", write_without_room);
     all &= holds("write and read", write_and_read);
     all &= holds("write and read with", write_and_read_with);
+    all &= holds("write and read by", write_and_read_by);
+    all &= holds("book_read, book_write", books);
     all &= holds("split", split);
     all &= holds("units", tell_units);
     all &= holds("check", check);

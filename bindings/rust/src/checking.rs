@@ -15,6 +15,9 @@ pub enum Verdict {
 
 /// Says whether a pattern can be trusted, in the given current year. Refuses with 1, 2, 3 or 14, the first in this order.
 ///
+/// It takes no [book](crate::Book): its answer is proved to be the same with every one, and the record that is shown fails with every
+/// one. A name is read back by the list that it was written from, in which none begins another, and no name begins with a digit.
+///
 /// ```
 /// use sheet::Verdict;
 ///

@@ -21,7 +21,7 @@ impl Edition {
     }
 }
 
-/// How a text is to be read, for [`read_with`](crate::read_with).
+/// How a text is to be read, for [`read_with`](crate::read_with) and [`read_by`](crate::read_by).
 ///
 /// ```
 /// use sheet::Choices;
@@ -78,7 +78,7 @@ impl Choices {
         Choices { edition, ..self }
     }
 
-    /// The number that [`raw::sheet_read_with`] takes for them.
+    /// The number that [`raw::sheet_read_with`] and the functions with a book take for them.
     pub const fn number(self) -> u32 {
         self.date as u32 * raw::DATE_PAIR + self.strict as u32 * raw::STRICT + self.edition.number()
     }

@@ -1,5 +1,5 @@
 use crate::refusal::current_years;
-use crate::{raw, read_with, split, Choices, Edition, Kind, Part, Refusal};
+use crate::{raw, read_by, split, Book, Choices, Edition, Kind, Part, Refusal};
 
 const DATE_SYMBOLS: &[u8] = b"GyqMwdDe";
 const SYMBOLS: &[u8] = b"GyqMwdDeabhKHkmsnXx";
@@ -32,7 +32,7 @@ pub fn explain_date(pattern: impl AsRef<[u8]>, text: impl AsRef<[u8]>, refusal: 
     explain_with(Choices::new().date(), pattern, text, refusal)
 }
 
-/// Says the same of a text that [`read_with`] refused with the same choices, of what it left over, and of a current year that is
+/// Says the same of a text that [`read_with`](crate::read_with) refused with the same choices, of what it left over, and of a current year that is
 /// not one of the edition.
 ///
 /// ```
@@ -44,13 +44,44 @@ pub fn explain_date(pattern: impl AsRef<[u8]>, text: impl AsRef<[u8]>, refusal: 
 /// assert_eq!(explained("3/12, berth 4"), "the text goes on where the pattern ends, with `, berth 4`");
 /// ```
 pub fn explain_with(choices: Choices, pattern: impl AsRef<[u8]>, text: impl AsRef<[u8]>, refusal: &Refusal) -> String {
+    explain_by(choices, Book::english(), pattern, text, refusal)
+}
+
+/// Says the same of a text that [`read_by`] refused with the same choices and the same [book](Book).
+///
+/// ```
+/// use sheet::{explain_by, read_by, Book, Choices};
+///
+/// # fn main() -> Result<(), sheet::Refusal> {
+/// let mut names = Book::english().names();
+/// names.short_months = ["jan", "feb", "mrt", "apr", "mei", "jun", "jul", "aug", "sep", "okt", "nov", "dec"];
+/// let book = Book::from_names(names)?;
+///
+/// let refusal = read_by(Choices::new(), &book, "d MMM", "3 Oct", 2025).unwrap_err();
+/// assert_eq!(
+///     explain_by(Choices::new(), &book, "d MMM", "3 Oct", &refusal),
+///     "`MMM` needs a month such as `dec`, found `Oct`"
+/// );
+/// # Ok(())
+/// # }
+/// ```
+pub fn explain_by(
+    choices: Choices,
+    book: &Book,
+    pattern: impl AsRef<[u8]>,
+    text: impl AsRef<[u8]>,
+    refusal: &Refusal,
+) -> String {
     let sentence = match (refusal.number(), refusal.details()) {
         (raw::LITERAL_DIFFERS | raw::TEXT_LEFT, _) if !choices.strict => None,
         (raw::TEXT_LEFT, &[place]) => of_a_rest(text.as_ref(), place as usize),
         (raw::CURRENT_YEAR, &[year]) if choices.edition == Edition::Second => {
             Some(format!("{}: it is {year}", current_years(choices.edition)))
         }
-        (_, &[part, place]) => of_a_part(choices, pattern.as_ref(), text.as_ref(), part as usize, place as usize),
+        (_, &[part, place]) => {
+            let (pattern, text) = (pattern.as_ref(), text.as_ref());
+            of_a_part(choices, book, pattern, text, part as usize, place as usize)
+        }
         _ => None,
     };
     sentence.unwrap_or_else(|| refusal.to_string())
@@ -68,18 +99,25 @@ fn of_a_rest(text: &[u8], place: usize) -> Option<String> {
 
 /// The sentence, where the pattern has that part. What is found is shown from where the part begins, which is behind what the
 /// parts before it read; of a literal that is too long for that, from where it differs.
-fn of_a_part(choices: Choices, pattern: &[u8], text: &[u8], number: usize, place: usize) -> Option<String> {
+fn of_a_part(
+    choices: Choices,
+    book: &Book,
+    pattern: &[u8],
+    text: &[u8],
+    number: usize,
+    place: usize,
+) -> Option<String> {
     let part = *split(pattern).ok()?.get(number)?;
     let before = Choices {
         strict: false,
         ..choices
     };
-    let start = read_with(before, &pattern[..part.start], text, ANY_YEAR).map_or(place, |reading| reading.taken);
+    let start = read_by(before, book, &pattern[..part.start], text, ANY_YEAR).map_or(place, |reading| reading.taken);
     let from = match place.saturating_sub(start) {
         far @ MOST_SHOWN.. => far,
         _ => 0,
     };
-    let want = wanted(choices, &part, pattern, from);
+    let want = wanted(choices, book, &part, pattern, from);
     let rest = text.get(start..).unwrap_or_default();
     let found = match rest {
         [] => "the end of the text".to_string(),
@@ -99,10 +137,10 @@ struct Want {
 }
 
 /// A literal wants the bytes that it stands for, of which those from a place on are shown, or as many of any.
-fn wanted(choices: Choices, part: &Part, pattern: &[u8], from: usize) -> Want {
+fn wanted(choices: Choices, book: &Book, part: &Part, pattern: &[u8], from: usize) -> Want {
     let symbols = if choices.date { DATE_SYMBOLS } else { SYMBOLS };
     match (part.kind, pattern[part.start]) {
-        (Kind::Run, symbol) if symbols.contains(&symbol) => wanted_by(choices.edition, symbol, part.length),
+        (Kind::Run, symbol) if symbols.contains(&symbol) => wanted_by(choices.edition, book, symbol, part.length),
         _ => {
             let literal = stands_for(part.kind, &pattern[part.range()]);
             if choices.strict {
@@ -115,7 +153,7 @@ fn wanted(choices: Choices, part: &Part, pattern: &[u8], from: usize) -> Want {
 }
 
 /// What each symbol wants at each count, as the specification's table says; in the second edition a single M as much as d.
-fn wanted_by(edition: Edition, symbol: u8, count: usize) -> Want {
+fn wanted_by(edition: Edition, book: &Book, symbol: u8, count: usize) -> Want {
     match (symbol, count) {
         (b'M', 1) if edition == Edition::Second => digits(1, 2),
         (b'G', 1..=3) => bytes(2, 2),
@@ -127,16 +165,16 @@ fn wanted_by(edition: Edition, symbol: u8, count: usize) -> Want {
         (b'q', 4) => words("a quarter such as `4th quarter`", 11),
         (b'q', _) => bytes(1, 1),
         (b'M' | b'n', 1 | 2) => digits(count, count),
-        (b'M', 3) => words("a month such as `Dec`", 3),
+        (b'M', 3) => name("month", &book.names().short_months, 11),
         (b'M', 5) => bytes(1, 1),
-        (b'M', _) => words("a month such as `December`", 9),
+        (b'M', _) => name("month", &book.names().wide_months, 11),
         (b'w', 1) => bytes(1, 2),
         (b'w', _) => bytes(2, 2),
         (b'D', 2 | 3) => digits(count, 3),
         (b'D', _) => digits(1, 3),
         (b'e', 2 | 6 | 8) => bytes(2, 2),
         (b'e', 3) => bytes(3, 3),
-        (b'e', 4) => words("a weekday such as `Wednesday`", 9),
+        (b'e', 4) => name("weekday", &book.names().wide_weekdays, 3),
         (b'e', _) => bytes(1, 1),
         (b'a', 4) => words("`a.m.` or `p.m.`", 4),
         (b'a', 5) => words("`a` or `p`", 1),
@@ -163,6 +201,12 @@ fn words(words: &str, most: usize) -> Want {
         words: words.to_string(),
         most,
     }
+}
+
+/// A name of a list, of which one is shown.
+fn name(what: &str, names: &[&str], shown: usize) -> Want {
+    let longest = names.iter().map(|name| name.len()).max().unwrap_or_default();
+    words(&format!("a {what} such as `{}`", names[shown]), longest)
 }
 
 fn bytes(least: usize, most: usize) -> Want {
@@ -235,7 +279,7 @@ pub(crate) fn shown(bytes: &[u8], from: usize) -> String {
 #[cfg(test)]
 mod tests {
     use super::{stands_for, wanted_by, SYMBOLS};
-    use crate::{read, read_with, split, write, Choices, Edition, Fields};
+    use crate::{read, read_with, split, write, Book, Choices, Edition, Fields};
 
     const R: Fields = Fields {
         year: -2025,
@@ -275,7 +319,7 @@ mod tests {
 
     #[track_caller]
     fn is_shown_as_it_is_taken(edition: Edition, symbol: u8, count: usize) {
-        let most = wanted_by(edition, symbol, count).most;
+        let most = wanted_by(edition, Book::english(), symbol, count).most;
         let taken = match (symbol, count) {
             (b'y', 1 | 3 | 4) => i32::MIN.to_string().len(),
             _ => taken_at_most(Choices::new().edition(edition), &vec![symbol; count]),

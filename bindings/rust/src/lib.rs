@@ -1,10 +1,12 @@
 #![doc = include_str!("../README.md")]
 
+mod book;
 mod checking;
 mod choices;
 mod days;
 mod explaining;
 mod fields;
+mod names;
 mod reading;
 mod refusal;
 mod splitting;
@@ -13,13 +15,15 @@ mod writing;
 
 pub mod raw;
 
+pub use book::Book;
 pub use checking::{check, check_with, explain_check, explain_check_with, Verdict};
 pub use choices::{Choices, Edition};
 pub use days::{day_number, day_of, Day};
-pub use explaining::{explain, explain_date, explain_with};
+pub use explaining::{explain, explain_by, explain_date, explain_with};
 pub use fields::Fields;
-pub use reading::{parse_offset, read, read_date, read_with, ParseUnit, Reading};
+pub use names::Names;
+pub use reading::{parse_offset, read, read_by, read_date, read_with, ParseUnit, Reading};
 pub use refusal::Refusal;
 pub use splitting::{split, Kind, Part};
 pub use units::{units, PartUnit};
-pub use writing::{write, write_date, write_date_into, write_into};
+pub use writing::{write, write_by, write_by_into, write_date, write_date_into, write_into};

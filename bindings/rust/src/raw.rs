@@ -9,6 +9,17 @@ pub const BYTES_A_PATTERN_BYTE: usize = 8;
 /// The most bytes of the stack that a call takes.
 pub const MOST_STACK: usize = 2048;
 
+/// How many bytes an opened book has.
+pub const BOOK_ROW: usize = BOOK_ROOMS * NAME_ROOM;
+/// How many names a book has, each of which has its room in an opened book.
+pub const BOOK_ROOMS: usize = 64;
+/// How many bytes such a room has: one for the length of the name, then those for the name.
+pub const NAME_ROOM: usize = 1 + LONGEST_NAME;
+/// The longest name, in letters.
+pub const LONGEST_NAME: usize = 20;
+/// The longest book of version 1, in bytes.
+pub const LONGEST_BOOK: usize = 743;
+
 /// How many entries of `answer` a writer asks for.
 pub const WRITE_ANSWER: usize = 2;
 /// How many entries of `answer` a reader asks for.
@@ -35,6 +46,8 @@ pub const CHECK_ANSWER: usize = 10;
 pub const DAY_ANSWER: usize = 6;
 /// How many entries of `answer` [`sheet_day_number`] asks for.
 pub const DAY_NUMBER_ANSWER: usize = 2;
+/// How many entries of `answer` [`sheet_book_read`] and [`sheet_book_write`] ask for.
+pub const BOOK_ANSWER: usize = 2;
 
 /// What is returned where an answer is accepted.
 pub const ACCEPTED: u32 = 0;
@@ -59,11 +72,17 @@ pub const TEXT_LEFT: u32 = 16;
 pub const NO_SUCH_DAY: u32 = 17;
 pub const NO_DAY_NUMBER: u32 = 18;
 pub const PLUS_SIGN: u32 = 19;
+pub const BOOK_MARK: u32 = 20;
+pub const BOOK_VERSION: u32 = 21;
+pub const BOOK_LENGTH: u32 = 22;
+pub const BOOK_NAME: u32 = 23;
 
 /// What is returned where a lent row is too small; then nothing is altered.
 pub const ROW_TOO_SMALL: u32 = 100;
 /// What is returned where a number stands for no choices; then nothing is altered.
 pub const NO_SUCH_CHOICE: u32 = 101;
+/// What is returned where bytes are lent as an opened book that are none; then nothing is altered.
+pub const NO_BOOK: u32 = 102;
 
 /// Among the choices of [`sheet_read_with`], which are added: dates alone.
 pub const DATE_PAIR: u32 = 1;
@@ -77,7 +96,16 @@ pub const LITERAL: i64 = -1;
 /// In the place of a unit: a symbol that carries nothing.
 pub const CARRIES_NOTHING: i64 = 15;
 
-/// Either writer.
+// The lists of a book: which room of it has each one's first name.
+pub const WIDE_MONTHS: usize = 0;
+pub const SHORT_MONTHS: usize = 12;
+pub const WIDE_WEEKDAYS: usize = 24;
+pub const SHORT_WEEKDAYS: usize = 31;
+pub const TWO_LETTER_WEEKDAYS: usize = 38;
+pub const NARROW_WEEKDAYS: usize = 45;
+pub const NARROW_MONTHS: usize = 52;
+
+/// Either writer without a book.
 pub type Writer = unsafe extern "C" fn(
     *const u8,
     usize,
@@ -177,6 +205,53 @@ extern "C" {
         units: *mut i64,
         units_len: usize,
     ) -> u32;
+    pub fn sheet_book_read(
+        bytes: *const u8,
+        bytes_len: usize,
+        book: *mut u8,
+        book_len: usize,
+        answer: *mut i64,
+        answer_len: usize,
+    ) -> u32;
+    pub fn sheet_book_write(
+        book: *const u8,
+        book_len: usize,
+        out: *mut u8,
+        out_len: usize,
+        answer: *mut i64,
+        answer_len: usize,
+    ) -> u32;
+    pub fn sheet_write_by(
+        choices: u32,
+        book: *const u8,
+        book_len: usize,
+        pattern: *const u8,
+        pattern_len: usize,
+        year: i32,
+        month: u32,
+        day: u32,
+        doy: u32,
+        week: u32,
+        wday: u32,
+        nanos: u64,
+        offset: i32,
+        out: *mut u8,
+        out_len: usize,
+        answer: *mut i64,
+        answer_len: usize,
+    ) -> u32;
+    pub fn sheet_read_by(
+        choices: u32,
+        book: *const u8,
+        book_len: usize,
+        pattern: *const u8,
+        pattern_len: usize,
+        text: *const u8,
+        text_len: usize,
+        year: i32,
+        answer: *mut i64,
+        answer_len: usize,
+    ) -> u32;
     pub fn sheet_check(pattern: *const u8, pattern_len: usize, year: i32, answer: *mut i64, answer_len: usize) -> u32;
     pub fn sheet_check_with(
         choices: u32,
@@ -213,8 +288,13 @@ pub fn refusal_text(number: u32) -> &'static str {
         NO_SUCH_DAY => "there is no such day",
         NO_DAY_NUMBER => "the day's number doesn't fit 32 signed bits",
         PLUS_SIGN => "the text has a plus in front of a number",
+        BOOK_MARK => "the book does not begin with the mark LNB",
+        BOOK_VERSION => "the book is of another version than 1 and 2",
+        BOOK_LENGTH => "the book is cut short, or goes on behind its names",
+        BOOK_NAME => "the book has a bad name",
         ROW_TOO_SMALL => "a row for the answer is too small",
         NO_SUCH_CHOICE => "there is no such choice",
+        NO_BOOK => "the bytes are no opened book",
         _ => "no such number",
     }
 }

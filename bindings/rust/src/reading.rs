@@ -1,5 +1,5 @@
 use crate::raw::{self, Reader};
-use crate::{Choices, Refusal};
+use crate::{Book, Choices, Refusal};
 use std::array;
 use std::ops::Range;
 
@@ -126,7 +126,7 @@ impl Reading {
 /// # }
 /// ```
 pub fn read(pattern: impl AsRef<[u8]>, text: impl AsRef<[u8]>, current_year: i32) -> Result<Reading, Refusal> {
-    read_by(raw::sheet_read, pattern.as_ref(), text.as_ref(), current_year)
+    reading_by(raw::sheet_read, pattern.as_ref(), text.as_ref(), current_year)
 }
 
 /// Reads a date by a pattern: as [`read`], but time symbols stand for themselves, and are passed over.
@@ -140,7 +140,7 @@ pub fn read(pattern: impl AsRef<[u8]>, text: impl AsRef<[u8]>, current_year: i32
 /// # }
 /// ```
 pub fn read_date(pattern: impl AsRef<[u8]>, text: impl AsRef<[u8]>, current_year: i32) -> Result<Reading, Refusal> {
-    read_by(raw::sheet_read_date, pattern.as_ref(), text.as_ref(), current_year)
+    reading_by(raw::sheet_read_date, pattern.as_ref(), text.as_ref(), current_year)
 }
 
 /// Reads a text by a pattern, with [choices](Choices). Refuses as [`read`] does; where it is strict also with 15 at a literal that
@@ -186,6 +186,54 @@ pub fn read_with(
     Ok(Reading::of_row(&answer))
 }
 
+/// Reads a text by a pattern with the names of a [book](Book), and with [choices](Choices). A name is matched byte for byte, case
+/// included; eras, quarters and periods are the same with every book. Refuses as [`read_with`] does.
+///
+/// ```
+/// use sheet::{read_by, Book, Choices, ParseUnit};
+///
+/// # fn main() -> Result<(), sheet::Refusal> {
+/// let mut names = Book::english().names();
+/// names.short_months = ["jan", "feb", "mrt", "apr", "mei", "jun", "jul", "aug", "sep", "okt", "nov", "dec"];
+/// let book = Book::from_names(names)?;
+///
+/// let strict = Choices::new().strict();
+/// let reading = read_by(strict, &book, "d MMM", "3 okt", 2025)?;
+/// assert_eq!(reading.value(ParseUnit::Month), Some(10));
+///
+/// let refusal = read_by(strict, &book, "d MMM", "3 Oct", 2025).unwrap_err();
+/// assert_eq!((refusal.number(), refusal.details()), (10, &[2, 2][..]));
+/// # Ok(())
+/// # }
+/// ```
+pub fn read_by(
+    choices: Choices,
+    book: &Book,
+    pattern: impl AsRef<[u8]>,
+    text: impl AsRef<[u8]>,
+    current_year: i32,
+) -> Result<Reading, Refusal> {
+    let (book, pattern, text) = (book.row(), pattern.as_ref(), text.as_ref());
+    let mut answer = [0; raw::READ_ANSWER];
+    // SAFETY: each pointer goes with the length of the slice that it comes from, and what is altered is borrowed alone.
+    let number = unsafe {
+        raw::sheet_read_by(
+            choices.number(),
+            book.as_ptr(),
+            book.len(),
+            pattern.as_ptr(),
+            pattern.len(),
+            text.as_ptr(),
+            text.len(),
+            current_year,
+            answer.as_mut_ptr(),
+            answer.len(),
+        )
+    };
+    Refusal::unless_accepted(number, &answer)?;
+    Ok(Reading::of_row(&answer))
+}
+
 /// Reads an offset by itself, such as `+05:30`, or `Z` with anything behind it, and answers its seconds. Refuses with 6, 7, 12,
 /// 9 or 13, the first in this order.
 ///
@@ -202,7 +250,7 @@ pub fn parse_offset(text: impl AsRef<[u8]>) -> Result<i32, Refusal> {
     Ok(answer[0] as i32)
 }
 
-fn read_by(reader: Reader, pattern: &[u8], text: &[u8], current_year: i32) -> Result<Reading, Refusal> {
+fn reading_by(reader: Reader, pattern: &[u8], text: &[u8], current_year: i32) -> Result<Reading, Refusal> {
     let mut answer = [0; raw::READ_ANSWER];
     // SAFETY: each pointer goes with the length of the slice that it comes from, and what is altered is borrowed alone.
     let number = unsafe {

@@ -25,6 +25,10 @@ use std::fmt;
 /// | 17 | there is no such day | 0 |
 /// | 18 | the number of a day doesn't fit 32 signed bits | 0 |
 /// | 19 | a number begins with a plus | part, place |
+/// | 20 | a book does not begin with the mark LNB | 0 |
+/// | 21 | a book is of another version than 1 and 2 | 0 |
+/// | 22 | a book is cut short, or one of version 1 goes on behind its names | 0 |
+/// | 23 | a name of a book breaks a rule | the number of the first, 1 to 64 |
 ///
 /// ```
 /// let refusal = sheet::read("dd/MM", "3/12", 2025).unwrap_err();
@@ -53,6 +57,17 @@ const FIELDS: [(&str, &str); 8] = [
     ("offset", "-86,399 to 86,399 seconds"),
 ];
 
+/// The lists of a book in its order: how many names each has, what one is called, and the rule for all of them.
+const LISTS: [(i64, &str, &str); 7] = [
+    (12, "wide month", "2 to 20 ASCII letters, and none begins another"),
+    (12, "short month", "2 to 20 ASCII letters, and none begins another"),
+    (7, "wide weekday", "2 to 20 ASCII letters, and none begins another"),
+    (7, "short weekday", "3 ASCII letters"),
+    (7, "two-letter weekday", "2 ASCII letters"),
+    (7, "narrow weekday", "1 ASCII letter"),
+    (12, "narrow month", "1 ASCII letter"),
+];
+
 /// Refusal 14 in words. The years 1 to 80 are refused in the second edition alone, all others that are refused in both.
 pub(crate) fn current_years(edition: Edition) -> &'static str {
     match edition {
@@ -62,7 +77,7 @@ pub(crate) fn current_years(edition: Edition) -> &'static str {
 }
 
 impl Refusal {
-    /// The number, 1 to 19.
+    /// The number, 1 to 23.
     pub fn number(&self) -> u32 {
         self.number
     }
@@ -94,8 +109,11 @@ impl Refusal {
     }
 
     /// Its detail is then 0, and says no more.
-    fn is_of_a_day(&self) -> bool {
-        matches!(self.number, raw::NO_SUCH_DAY | raw::NO_DAY_NUMBER)
+    fn says_all(&self) -> bool {
+        matches!(
+            self.number,
+            raw::NO_SUCH_DAY | raw::NO_DAY_NUMBER | raw::BOOK_MARK..=raw::BOOK_LENGTH
+        )
     }
 
     /// A refusal where the number returned is one; its details are the first entries of the row.
@@ -110,9 +128,33 @@ impl Refusal {
     }
 }
 
+/// Which name of a book a number from 1 on is, by its list and its place there, and the rule of the list.
+fn name_of_a_book(number: i64) -> String {
+    let mut place = number;
+    for (count, name, rule) in LISTS {
+        if place <= count {
+            let place = ordinal(place);
+            let from = if name.ends_with("weekday") { " from Sunday" } else { "" };
+            return format!("name {number}, the {place} {name}{from}; {name}s have {rule}");
+        }
+        place -= count;
+    }
+    format!("name {number}")
+}
+
+/// Of 1 to 12.
+fn ordinal(place: i64) -> String {
+    match place {
+        1 => "1st".to_string(),
+        2 => "2nd".to_string(),
+        3 => "3rd".to_string(),
+        _ => format!("{place}th"),
+    }
+}
+
 impl fmt::Display for Refusal {
     fn fmt(&self, f: &mut fmt::Formatter<'_>) -> fmt::Result {
-        if self.is_of_a_day() {
+        if self.says_all() {
             return f.write_str(self.text());
         }
         let [detail, place] = self.details;
@@ -129,6 +171,7 @@ impl fmt::Display for Refusal {
             _ if self.is_of_a_part() => format!("at place {place}, for part {detail}, both counted from 0"),
             raw::OFFSET_RANGE if detail == 1 => "the hour is over 23".to_string(),
             raw::OFFSET_RANGE => "the minute is over 59".to_string(),
+            raw::BOOK_NAME => name_of_a_book(detail),
             _ => format!("it is {detail}"),
         };
         write!(f, "{}: {details}", self.text())

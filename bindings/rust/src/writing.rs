@@ -1,5 +1,5 @@
 use crate::raw::{self, Writer};
-use crate::{Fields, Refusal};
+use crate::{Book, Choices, Fields, Refusal};
 
 /// Writes a record by a pattern. Refuses with 1, 2, 3 or 4, the first in this order.
 ///
@@ -24,7 +24,7 @@ use crate::{Fields, Refusal};
 /// # }
 /// ```
 pub fn write(pattern: impl AsRef<[u8]>, fields: &Fields) -> Result<String, Refusal> {
-    text_by(raw::sheet_write, pattern.as_ref(), fields)
+    text(pattern.as_ref(), |pattern, out| write_into(pattern, fields, out))
 }
 
 /// Writes a record by a pattern into lent bytes, and answers how many it wrote; those behind them are not altered. Refuses with
@@ -45,7 +45,7 @@ pub fn write(pattern: impl AsRef<[u8]>, fields: &Fields) -> Result<String, Refus
 /// # }
 /// ```
 pub fn write_into(pattern: impl AsRef<[u8]>, fields: &Fields, out: &mut [u8]) -> Result<usize, Refusal> {
-    write_by(raw::sheet_write, pattern.as_ref(), fields, out)
+    written(raw::sheet_write, pattern.as_ref(), fields, out)
 }
 
 /// Writes a date by a pattern: as [`write()`], but time symbols stand for themselves.
@@ -60,23 +60,84 @@ pub fn write_into(pattern: impl AsRef<[u8]>, fields: &Fields, out: &mut [u8]) ->
 /// # }
 /// ```
 pub fn write_date(pattern: impl AsRef<[u8]>, fields: &Fields) -> Result<String, Refusal> {
-    text_by(raw::sheet_write_date, pattern.as_ref(), fields)
+    text(pattern.as_ref(), |pattern, out| write_date_into(pattern, fields, out))
 }
 
 /// Writes a date by a pattern into lent bytes: as [`write_into`], but time symbols stand for themselves.
 pub fn write_date_into(pattern: impl AsRef<[u8]>, fields: &Fields, out: &mut [u8]) -> Result<usize, Refusal> {
-    write_by(raw::sheet_write_date, pattern.as_ref(), fields, out)
+    written(raw::sheet_write_date, pattern.as_ref(), fields, out)
 }
 
-/// A longer pattern than any is refused, so no more room is made for it.
-fn text_by(writer: Writer, pattern: &[u8], fields: &Fields) -> Result<String, Refusal> {
+/// Writes a record by a pattern with the names of a [book](Book), and with [choices](Choices): as [`write()`], or for dates as
+/// [`write_date`]. The other choices, which are for reading, make no difference, so that the same can be given to both. Refuses as
+/// [`write()`] does.
+///
+/// ```
+/// use sheet::{Book, Choices, Fields};
+///
+/// # fn main() -> Result<(), sheet::Refusal> {
+/// let mut names = Book::english().names();
+/// names.wide_weekdays = ["zondag", "maandag", "dinsdag", "woensdag", "donderdag", "vrijdag", "zaterdag"];
+/// let book = Book::from_names(names)?;
+///
+/// let day: Fields = sheet::day_of(sheet::day_number(2025, 12, 3)?).into();
+/// assert_eq!(sheet::write_by(Choices::new(), &book, "eeee HH:mm", &day)?, "woensdag 00:00");
+/// assert_eq!(sheet::write_by(Choices::new().date(), &book, "eeee HH:mm", &day)?, "woensdag HH:mm");
+/// assert_eq!(sheet::write_by(Choices::new(), Book::english(), "eeee", &day)?, sheet::write("eeee", &day)?);
+/// # Ok(())
+/// # }
+/// ```
+pub fn write_by(choices: Choices, book: &Book, pattern: impl AsRef<[u8]>, fields: &Fields) -> Result<String, Refusal> {
+    text(pattern.as_ref(), |pattern, out| {
+        write_by_into(choices, book, pattern, fields, out)
+    })
+}
+
+/// Writes a record by a pattern with the names of a [book](Book) into lent bytes: as [`write_into`], otherwise as [`write_by`].
+pub fn write_by_into(
+    choices: Choices,
+    book: &Book,
+    pattern: impl AsRef<[u8]>,
+    fields: &Fields,
+    out: &mut [u8],
+) -> Result<usize, Refusal> {
+    let (book, pattern) = (book.row(), pattern.as_ref());
+    let mut answer = [0; raw::WRITE_ANSWER];
+    // SAFETY: each pointer goes with the length of the slice that it comes from, and what is altered is borrowed alone.
+    let number = unsafe {
+        raw::sheet_write_by(
+            choices.number(),
+            book.as_ptr(),
+            book.len(),
+            pattern.as_ptr(),
+            pattern.len(),
+            fields.year,
+            fields.month,
+            fields.day,
+            fields.day_of_year,
+            fields.week,
+            fields.weekday,
+            fields.nanoseconds,
+            fields.offset,
+            out.as_mut_ptr(),
+            out.len(),
+            answer.as_mut_ptr(),
+            answer.len(),
+        )
+    };
+    Refusal::unless_accepted(number, &answer)?;
+    Ok(answer[0] as usize)
+}
+
+/// What a writer lays into an output that has room for it. A longer pattern than any is refused, so no more room is made for it.
+fn text(pattern: &[u8], write: impl FnOnce(&[u8], &mut [u8]) -> Result<usize, Refusal>) -> Result<String, Refusal> {
     let mut out = vec![0; raw::BYTES_A_PATTERN_BYTE * pattern.len().min(raw::LONGEST_PATTERN)];
-    let length = write_by(writer, pattern, fields, &mut out)?;
+    let length = write(pattern, &mut out)?;
     out.truncate(length);
     Ok(String::from_utf8(out).expect("a written text is ASCII"))
 }
 
-fn write_by(writer: Writer, pattern: &[u8], fields: &Fields, out: &mut [u8]) -> Result<usize, Refusal> {
+fn written(writer: Writer, pattern: &[u8], fields: &Fields, out: &mut [u8]) -> Result<usize, Refusal> {
     let mut answer = [0; raw::WRITE_ANSWER];
     // SAFETY: each pointer goes with the length of the slice that it comes from, and what is altered is borrowed alone.
     let number = unsafe {

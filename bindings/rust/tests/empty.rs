@@ -134,6 +134,73 @@ fn of_the_reader_with_choices() {
     assert_eq!(read_with(8, b"", b"", &mut []), raw::NO_SUCH_CHOICE);
 }
 
+fn book_read(bytes: &[u8], room: usize, answer: &mut [i64]) -> u32 {
+    let mut book = [0; raw::BOOK_ROW];
+    let to = if room == 0 { null_mut() } else { book.as_mut_ptr() };
+    let ((bytes, length), (answer, entries)) = (lent(bytes), row(answer));
+    // SAFETY: as for a write.
+    unsafe { raw::sheet_book_read(bytes, length, to, room, answer, entries) }
+}
+
+/// Of English, by an empty book.
+fn book_write(room: usize, answer: &mut [i64]) -> u32 {
+    let mut out = [0; raw::LONGEST_BOOK];
+    let to = if room == 0 { null_mut() } else { out.as_mut_ptr() };
+    let (answer, entries) = row(answer);
+    // SAFETY: as for a write.
+    unsafe { raw::sheet_book_write(null(), 0, to, room, answer, entries) }
+}
+
+fn write_by(choices: u32, pattern: &[u8], answer: &mut [i64]) -> u32 {
+    let ((pattern, length), (answer, entries)) = (lent(pattern), row(answer));
+    let (book, out) = (null(), null_mut());
+    // SAFETY: as for a write.
+    unsafe {
+        raw::sheet_write_by(
+            choices, book, 0, pattern, length, YEAR, 12, 3, 337, 49, 3, 0, 0, out, 0, answer, entries,
+        )
+    }
+}
+
+fn read_by(choices: u32, pattern: &[u8], text: &[u8], answer: &mut [i64]) -> u32 {
+    let ((pattern, length), (text, text_length), (answer, entries)) = (lent(pattern), lent(text), row(answer));
+    // SAFETY: as for a write.
+    unsafe {
+        raw::sheet_read_by(
+            choices,
+            null(),
+            0,
+            pattern,
+            length,
+            text,
+            text_length,
+            YEAR,
+            answer,
+            entries,
+        )
+    }
+}
+
+/// No bytes are no book file; as an opened book they stand for English.
+#[test]
+fn of_books() {
+    gives(|row| book_read(b"", 0, row), raw::BOOK_MARK, 0, 0);
+    gives(|row| book_read(b"", raw::BOOK_ROW, row), raw::BOOK_MARK, 0, 0);
+    let english = sheet::Book::english().write();
+    let length = english.len() as i64;
+    gives(|row| book_read(&english, 0, row), raw::NO_ROOM, 1344, 0);
+    gives(|row| book_read(&english, raw::BOOK_ROW, row), raw::ACCEPTED, 1344, 0);
+    gives(|row| book_write(0, row), raw::NO_ROOM, length, 0);
+    gives(|row| book_write(raw::LONGEST_BOOK, row), raw::ACCEPTED, length, 0);
+    for choices in 0..=raw::DATE_PAIR + raw::STRICT + raw::SECOND_EDITION {
+        gives(|row| write_by(choices, b"", row), raw::ACCEPTED, 0, 0);
+        gives(|row| write_by(choices, b"MMMM", row), raw::NO_ROOM, 8, 0);
+        reads_nothing(|row| read_by(choices, b"", b"", row), raw::ACCEPTED);
+        reads_nothing(|row| read_by(choices, b"MMM", b"", row), raw::NO_NAME);
+        gives(|row| read_by(choices, b"MMM", b"Dec", row), raw::ACCEPTED, 3, 2);
+    }
+}
+
 fn day(number: i32, answer: &mut [i64]) -> u32 {
     let (answer, entries) = row(answer);
     // SAFETY: as for a write.

@@ -1,8 +1,8 @@
 //! Each refusal, by a call that gives it: its number, its details and its sentence.
 
 use sheet::{
-    check, check_with, day_number, parse_offset, read, read_with, split, write, write_into, Choices, Edition, Fields,
-    Refusal,
+    check, check_with, day_number, parse_offset, read, read_with, split, write, write_into, Book, Choices, Edition,
+    Fields, Refusal,
 };
 use std::error::Error;
 use std::fmt::Debug;
@@ -253,6 +253,54 @@ fn of_a_day() {
         &[0],
         "the day's number doesn't fit 32 signed bits",
     );
+}
+
+/// The details of the first three are 0, and the sentences have none.
+#[test]
+fn of_a_book() {
+    refused(Book::read("LNC"), 20, &[0], "the book does not begin with the mark LNB");
+    refused(
+        Book::read("LNB\0\x03"),
+        21,
+        &[0],
+        "the book is of another version than 1 and 2",
+    );
+    refused(
+        Book::read("LNB"),
+        22,
+        &[0],
+        "the book is cut short, or goes on behind its names",
+    );
+}
+
+/// The list and the place of each name, and the rule that it breaks.
+#[test]
+fn of_a_name_of_a_book() {
+    let apart = "2 to 20 ASCII letters, and none begins another";
+    let lists = [
+        (12, "wide month", "", apart),
+        (12, "short month", "", apart),
+        (7, "wide weekday", " from Sunday", apart),
+        (7, "short weekday", " from Sunday", "3 ASCII letters"),
+        (7, "two-letter weekday", " from Sunday", "2 ASCII letters"),
+        (7, "narrow weekday", " from Sunday", "1 ASCII letter"),
+        (12, "narrow month", "", "1 ASCII letter"),
+    ];
+    let ordinals = [
+        "1st", "2nd", "3rd", "4th", "5th", "6th", "7th", "8th", "9th", "10th", "11th", "12th",
+    ];
+    let places = lists
+        .iter()
+        .flat_map(|list| ordinals[..list.0].iter().map(move |place| (list, place)));
+    let mut tried = 0;
+    for (number, ((_, name, from, rule), place)) in (1..).zip(places) {
+        let mut names: [&str; 64] = Book::english().names().into();
+        names[number - 1] = "";
+        let sentence = format!("the book has a bad name: name {number}, the {place} {name}{from}; {name}s have {rule}");
+        refused(Book::from_names(names), 23, &[number as i64], &sentence);
+        tried += 1;
+    }
+    assert_eq!(tried, 64);
 }
 
 #[test]

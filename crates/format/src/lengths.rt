@@ -5,7 +5,7 @@ ghost use lib.IntN.{natAbs};
 ghost use lib.ListN.{length};
 ghost use Rattle.format.specs.Literals.{openText};
 ghost use Rattle.meaning.specs.Answers.{fieldsCheck};
-ghost use Rattle.meaning.specs.Names.{english};
+ghost use Rattle.meaning.specs.OpenedBooks.{bookIn};
 ghost use Rattle.meaning.specs.Writing.{signedText, twoDigitText, groupText, zoneText, nameText, ruleText, stepText};
 ghost use Rattle.meaning.specs.declared.Checked.the-variants.{Fine};
 ghost use Rattle.pattern.specs.Next.{Lost};
@@ -25,7 +25,7 @@ use meaning::Role;
 use meaning::Rule;
 use meaning::unit_sizes::SECS_PER_HOUR;
 use meaning::unit_sizes::SECS_PER_MINUTE;
-use names::writing::name_length;
+use names::lengths::name_length;
 use pattern::quoted::ends_in_quote;
 use pattern::quoted::unescaped_length;
 use rules::step::Step;
@@ -85,17 +85,17 @@ fn zone_length(z: i32, utc: bool, colon: bool, minutes: Group, seconds: Group) -
 }
 
 // The name that a record gives.
-fn length_of_name(names: NameList, f: Fields) -> usize
+fn length_of_name(book: &[u8], names: NameList, f: Fields) -> usize
     requires { ⌜ fieldsCheck f ≡ Fine ⌝ }
-    ensures { λ r. ⌜ r ≡ length (nameText english names f) ⌝ }
+    ensures { λ r. ⌜ r ≡ length (nameText (bookIn (now (book .entry))) names f) ⌝ }
 {
-    name_length(names, place_of(names, f))
+    name_length(book, names, place_of(names, f))
 }
 
-fn rule_length(rule: Rule, f: Fields) -> usize
+fn rule_length(book: &[u8], rule: Rule, f: Fields) -> usize
     requires { ⌜ fieldsCheck f ≡ Fine ⌝ }
-    requires { ⌜ length (ruleText english rule f) ≤ 2048 ⌝ }
-    ensures { λ r. ⌜ r ≡ length (ruleText english rule f) ⌝ }
+    requires { ⌜ length (ruleText (bookIn (now book)) rule f) ≤ 2048 ⌝ }
+    ensures { λ r. ⌜ r ≡ length (ruleText (bookIn (now (book .entry))) rule f) ⌝ }
 {
     match rule {
         Rule::Number {
@@ -111,9 +111,9 @@ fn rule_length(rule: Rule, f: Fields) -> usize
             most: _,
         } => padded_length(quantity_of(quantity, f), least as usize),
         Rule::LetterQuarter => 2,
-        Rule::SkippedName { names, length: _ } => length_of_name(names, f),
-        Rule::MatchedName(names) => length_of_name(names, f),
-        Rule::Letters { names, length: _ } => length_of_name(names, f),
+        Rule::SkippedName { names, length: _ } => length_of_name(book, names, f),
+        Rule::MatchedName(names) => length_of_name(book, names, f),
+        Rule::Letters { names, length: _ } => length_of_name(book, names, f),
         Rule::Years(k) => year_length(f.year, k),
         Rule::FixedYear(k) => year_length(f.year, k),
         Rule::TwoDigitYear => two_digit_length(f.year),
@@ -128,28 +128,32 @@ fn rule_length(rule: Rule, f: Fields) -> usize
 
 // What has a rule is measured by it. Called at five places, rule_length stays a call of its own, so that writing takes none of its
 // stack.
-pub fn step_length(step: Step, pattern: &[u8], f: Fields) -> usize
+pub fn step_length(book: &[u8], step: Step, pattern: &[u8], f: Fields) -> usize
     requires { ⌜ fieldsCheck f ≡ Fine ⌝ }
     requires { ⌜ Held (now pattern) step ⌝ }
-    requires { ⌜ length (stepText english f (means (now pattern) step)) ≤ 2048 ⌝ }
-    ensures { λ r. ⌜ r ≡ length (stepText english f (means (now (pattern .entry)) step)) ⌝ }
+    requires { ⌜ length (stepText (bookIn (now book)) f (means (now pattern) step)) ≤ 2048 ⌝ }
+    ensures { λ r. ⌜ r ≡ length (stepText (bookIn (now (book .entry))) f (means (now (pattern .entry)) step)) ⌝ }
 {
     match step {
         Step::Times { byte: _, count } => count,
         Step::Quoted { from, to } => unescaped_length(&pattern[from..to]),
         Step::Open { from } => open_length(&pattern[from..]),
         Step::Short { number, count } => padded_length(short_number(number, f), count as usize),
-        Step::Year(k) => rule_length(Rule::Years(k), f),
-        Step::MonthAbbreviated => rule_length(Rule::MatchedName(NameList::MonthAbbreviated), f),
-        Step::MonthWide => rule_length(Rule::MatchedName(NameList::MonthWide), f),
-        Step::WdayWide => rule_length(Rule::MatchedName(NameList::WdayWide), f),
+        Step::Year(k) => rule_length(book, Rule::Years(k), f),
+        Step::MonthAbbreviated => rule_length(
+            book,
+            Rule::MatchedName(NameList::MonthAbbreviated),
+            f,
+        ),
+        Step::MonthWide => rule_length(book, Rule::MatchedName(NameList::MonthWide), f),
+        Step::WdayWide => rule_length(book, Rule::MatchedName(NameList::WdayWide), f),
         Step::Run {
             role,
             byte: _,
             count,
         } => match role {
             Role::Literal => count,
-            Role::Symbol(rule) => rule_length(rule, f),
+            Role::Symbol(rule) => rule_length(book, rule, f),
         },
     }
 }

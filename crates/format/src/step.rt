@@ -4,7 +4,7 @@ ghost use Prim.Native.Nat.{_+_, _≤_};
 ghost use lib.ListN.{length};
 ghost use Rattle.laws.specs.Laid.{Laid};
 ghost use Rattle.meaning.specs.Answers.{fieldsCheck};
-ghost use Rattle.meaning.specs.Names.{english};
+ghost use Rattle.meaning.specs.OpenedBooks.{bookIn};
 ghost use Rattle.meaning.specs.Writing.{runStep, stepText, quantityOf};
 ghost use Rattle.meaning.specs.declared.Checked.the-variants.{Fine};
 ghost use Rattle.rules.specs.ShortRules.{shortQuantity};
@@ -41,22 +41,37 @@ pub fn short_number(short: Short, f: Fields) -> u32
 }
 
 // By the table.
-fn put_run(role: Role, b: u8, count: usize, f: Fields, out: &mut [u8], at: usize) -> usize
+fn put_run(
+    book: &[u8],
+    role: Role,
+    b: u8,
+    count: usize,
+    f: Fields,
+    out: &mut [u8],
+    at: usize,
+) -> usize
     requires { ⌜ fieldsCheck f ≡ Fine ⌝ }
-    requires { ⌜ at + length (stepText english f (runStep role b count)) ≤ length (now out) ⌝ }
-    ensures { λ r. ⌜ Laid (now (out .entry)) (now (out .exit)) at r (stepText english f (runStep role b count)) ⌝ }
+    requires { ⌜ at + length (stepText (bookIn (now book)) f (runStep role b count)) ≤ length (now out) ⌝ }
+    ensures { λ r. ⌜ Laid (now (out .entry)) (now (out .exit)) at r (stepText (bookIn (now (book .entry))) f (runStep role b count)) ⌝ }
 {
     match role {
         Role::Literal => put_times(b, count, out, at),
-        Role::Symbol(rule) => format_rule(rule, f, out, at),
+        Role::Symbol(rule) => format_rule(book, rule, f, out, at),
     }
 }
 
-pub fn format_step(step: Step, pattern: &[u8], f: Fields, out: &mut [u8], at: usize) -> usize
+pub fn format_step(
+    book: &[u8],
+    step: Step,
+    pattern: &[u8],
+    f: Fields,
+    out: &mut [u8],
+    at: usize,
+) -> usize
     requires { ⌜ fieldsCheck f ≡ Fine ⌝ }
     requires { ⌜ Held (now pattern) step ⌝ }
-    requires { ⌜ at + length (stepText english f (means (now pattern) step)) ≤ length (now out) ⌝ }
-    ensures { λ r. ⌜ Laid (now (out .entry)) (now (out .exit)) at r (stepText english f (means (now (pattern .entry)) step)) ⌝ }
+    requires { ⌜ at + length (stepText (bookIn (now book)) f (means (now pattern) step)) ≤ length (now out) ⌝ }
+    ensures { λ r. ⌜ Laid (now (out .entry)) (now (out .exit)) at r (stepText (bookIn (now (book .entry))) f (means (now (pattern .entry)) step)) ⌝ }
 {
     match step {
         Step::Times { byte, count } => put_times(byte, count, out, at),
@@ -67,10 +82,16 @@ pub fn format_step(step: Step, pattern: &[u8], f: Fields, out: &mut [u8], at: us
         }
         Step::Year(k) => zero_padded_i(f.year, k, out, at),
         Step::MonthAbbreviated => {
-            format_name(NameList::MonthAbbreviated, (f.month - 1) as usize, out, at)
+            format_name(
+                book,
+                NameList::MonthAbbreviated,
+                (f.month - 1) as usize,
+                out,
+                at,
+            )
         }
-        Step::MonthWide => format_name(NameList::MonthWide, (f.month - 1) as usize, out, at),
-        Step::WdayWide => format_name(NameList::WdayWide, f.wday as usize, out, at),
-        Step::Run { role, byte, count } => put_run(role, byte, count, f, out, at),
+        Step::MonthWide => format_name(book, NameList::MonthWide, (f.month - 1) as usize, out, at),
+        Step::WdayWide => format_name(book, NameList::WdayWide, f.wday as usize, out, at),
+        Step::Run { role, byte, count } => put_run(book, role, byte, count, f, out, at),
     }
 }

@@ -5,7 +5,7 @@ ghost use lib.ListN.{length};
 ghost use Rattle.laws.specs.Laid.{Laid};
 ghost use Rattle.meaning.specs.Answers.{fieldsCheck};
 ghost use Rattle.meaning.specs.Bytes.{num};
-ghost use Rattle.meaning.specs.Names.{english};
+ghost use Rattle.meaning.specs.OpenedBooks.{bookIn};
 ghost use Rattle.meaning.specs.Writing.{quantityOf, nameText};
 ghost use Rattle.meaning.specs.declared.Checked.the-variants.{Fine};
 use digits::numbers::zero_padded;
@@ -25,11 +25,11 @@ pub fn put_quantity(quantity: Quantity, k: u8, f: Fields, out: &mut [u8], at: us
     zero_padded(n, k as usize, out, at)
 }
 
-pub fn put_name_of(names: NameList, f: Fields, out: &mut [u8], at: usize) -> usize
+pub fn put_name_of(book: &[u8], names: NameList, f: Fields, out: &mut [u8], at: usize) -> usize
     requires { ⌜ fieldsCheck f ≡ Fine ⌝ }
-    requires { ⌜ at + length (nameText english names f) ≤ length (now out) ⌝ }
-    ensures { λ r. ⌜ Laid (now (out .entry)) (now (out .exit)) at r (nameText english names f) ⌝ }
+    requires { ⌜ at + length (nameText (bookIn (now book)) names f) ≤ length (now out) ⌝ }
+    ensures { λ r. ⌜ Laid (now (out .entry)) (now (out .exit)) at r (nameText (bookIn (now (book .entry))) names f) ⌝ }
 {
     let place = place_of(names, f);
-    format_name(names, place, out, at)
+    format_name(book, names, place, out, at)
 }

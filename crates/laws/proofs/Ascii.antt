@@ -32,7 +32,7 @@ use Rattle.meaning.specs.declared.Rule.{Rule}
 use Rattle.meaning.specs.declared.Rule.the-variants.{Number, SkippedNumber, LetterQuarter, SkippedName, MatchedName, Letters, Years, FixedYear, TwoDigitYear, Zone}
 use Rattle.laws.proofs.Checks.{within-bytes, pattern-fine}
 use Rattle.laws.proofs.Digits.{digit-bounds, all-digits}
-use Rattle.laws.proofs.Sizes.{text-fits}
+use Rattle.laws.proofs.Sizes.{Short, text-fits}
 use Rattle.laws.proofs.Splitting.{elements-step, elements-escaped}
 use Rattle.laws.proofs.Tests.{by-test, both-true, both-are, every, every-append, every-take, every-again, every-weaker, when-is}
 
@@ -258,8 +258,9 @@ pattern-ascii : (p : List ℕ) → patternCheck p ≡ Fine → Ascii p
 pattern-ascii p h =
     every-weaker (within 1 127) isAscii (λ b k. ascii-yes b (leb-true b 127 (both-true (leb 1 b) (leb b 127) k .1))) p (pattern-fine p h .bytes)
 
-pub written-checks : (pair : Pair) (p : List ℕ) (f : Fields) → patternCheck p ≡ Fine → fieldsCheck f ≡ Fine → textCheck (text pair english p f) ≡ Fine
+pub written-checks : (book : Book) → AsciiNames book → Short book → (pair : Pair) (p : List ℕ) (f : Fields) → patternCheck p ≡ Fine → fieldsCheck f ≡ Fine
+    → textCheck (text pair book p f) ≡ Fine
 unfolding textCheck
-written-checks pair p f h k =
-    let s = text pair english p f in
-    rw (le-leb (length s) 2048 (text-fits pair p f h k)) (within-bytes TextByte 0 127 0 s (text-ascii english english-ascii f pair p (pattern-ascii p h)))
+written-checks book known short pair p f h k =
+    let s = text pair book p f in
+    rw (le-leb (length s) 2048 (text-fits book short f pair p h k)) (within-bytes TextByte 0 127 0 s (text-ascii book known f pair p (pattern-ascii p h)))

@@ -8,7 +8,7 @@ use Prim.Native.Nat.{ℕ}
 use lib.IntN.{ℤ}
 use Rattle.meaning.specs.Answers.{Answer}
 use Rattle.meaning.specs.Names.{Book}
-use Rattle.meaning.specs.Promises.{SameAnswer, Splits, Writes, Reads, ParsesOffset, TellsRead, NumbersDay}
+use Rattle.meaning.specs.Promises.{SameAnswer, Splits, Writes, Reads, ParsesOffset, TellsRead, NumbersDay, OpensBook, WritesBook}
 use Rattle.meaning.specs.declared.Choices.{Choices}
 use Rattle.meaning.specs.declared.DayNumber.{DayNumber}
 use Rattle.meaning.specs.declared.Fields.{Fields}
@@ -49,3 +49,10 @@ told-coincide mask unit = determined
 -- calendar::day_number
 pub day-numbers-coincide : (year : ℤ) (month day : ℕ) {r s : DayNumber} → NumbersDay year month day r → NumbersDay year month day s → r ≡ s
 day-numbers-coincide year month day = same-determined
+
+-- books::read_book and books::write_book
+pub opened-coincide : (s out : List ℕ) {r t : Wrote} {after after′ : List ℕ} → OpensBook s out r after → OpensBook s out t after′ → (r ≡ t) × (after ≡ after′)
+opened-coincide s out w v = (same-determined (w .0) (v .0), determined (w .1) (v .1))
+
+pub books-coincide : (row out : List ℕ) {r t : Wrote} {after after′ : List ℕ} → WritesBook row out r after → WritesBook row out t after′ → (r ≡ t) × (after ≡ after′)
+books-coincide row out w v = (same-determined (w .0) (v .0), determined (w .1) (v .1))

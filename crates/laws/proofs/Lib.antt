@@ -1,4 +1,8 @@
 pub mod Ascii
+pub mod BookCopies
+pub mod BookNames
+pub mod BookRules
+pub mod Books
 pub mod CalendarCycles
 pub mod CalendarDates
 pub mod CalendarLine
@@ -22,6 +26,8 @@ pub mod Names
 pub mod Needed
 pub mod NextDays
 pub mod Numbers
+pub mod OpenedBooks
+pub mod OpenedNames
 pub mod OwnReaders
 pub mod OwnText
 pub mod Places

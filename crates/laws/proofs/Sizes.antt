@@ -1,5 +1,5 @@
--- At most eight bytes are written for each pattern byte, so a written text always fits the text limit. The table of rules
--- is tested as a whole by computation; the test is lifted to each symbol and count.
+-- At most eight bytes are written for each pattern byte, with any book whose names are no longer than they may be, so a written
+-- text always fits the text limit. The table of rules is tested as a whole by computation; the test is lifted to each symbol and count.
 use mathlib.Core.Bool.{Bool, true, false}
 use mathlib.Core.List.{List, [], _∷_, _++_, map}
 use mathlib.Core.Path.{_≡_, refl}
@@ -27,7 +27,8 @@ use Rattle.meaning.specs.declared.Role.{Role}
 use Rattle.meaning.specs.declared.Role.the-variants as role
 use Rattle.meaning.specs.declared.Rule.{Rule}
 use Rattle.meaning.specs.declared.Rule.the-variants.{Number, SkippedNumber, LetterQuarter, SkippedName, MatchedName, Letters, Years, FixedYear, TwoDigitYear, Zone}
-use Rattle.laws.specs.Widths.{mostDigits, longest, groupMost, mostBytes}
+use Rattle.meaning.specs.declared.NameList.{NameList}
+use Rattle.laws.specs.Widths.{mostDigits, longest, groupMost, mostLetters, mostBytes}
 use Rattle.laws.proofs.Checks.{pattern-fine}
 use Rattle.laws.proofs.Digits.{length-num, width-at-most}
 use Rattle.laws.proofs.Fields.{Allowed, allowed, quantity-below}
@@ -92,18 +93,22 @@ zone-length utc c minutes seconds z h =
     when-is (λ (t : List ℕ). length t ≤ 3 + groupMost c minutes + groupMost c seconds) (both utc (eqb (natAbs z) 0))
     (λ e. omega arith) (λ e. offset-length c minutes seconds z h)
 
-pub rule-length : (book : Book) (rule : Rule) (f : Fields) → Allowed f → length (ruleText book rule f) ≤ mostBytes book rule
+-- a book none of whose names is longer than it may be
+abbrev pub Short : Book → Type 0
+Short book = (l : NameList) → longest (names book l) ≤ mostLetters l
+
+pub rule-length : (book : Book) → Short book → (rule : Rule) (f : Fields) → Allowed f → length (ruleText book rule f) ≤ mostBytes rule
 unfolding ruleText mostBytes nameText mostDigits
-rule-length book (Number q least most u z) f h = num-length least (mostDigits q) (quantityOf q f) (quantity-below q f h)
-rule-length book (SkippedNumber q least most) f h = num-length least (mostDigits q) (quantityOf q f) (quantity-below q f h)
-rule-length book LetterQuarter f h = omega (arith, num-length 1 1 (quantityOf Quarter f) (quantity-below Quarter f h))
-rule-length book (SkippedName l n) f h = name-length (names book l) (placeOf l f)
-rule-length book (MatchedName l) f h = name-length (names book l) (placeOf l f)
-rule-length book (Letters l n) f h = name-length (names book l) (placeOf l f)
-rule-length book (Years k) f h = year-length k (f .year) (h .year .1)
-rule-length book (FixedYear k) f h = year-length k (f .year) (h .year .1)
-rule-length book TwoDigitYear f h = two-digit-length (f .year)
-rule-length book (Zone utc c minutes seconds) f h = zone-length utc c minutes seconds (f .offset) (h .offset)
+rule-length book short (Number q least most u z) f h = num-length least (mostDigits q) (quantityOf q f) (quantity-below q f h)
+rule-length book short (SkippedNumber q least most) f h = num-length least (mostDigits q) (quantityOf q f) (quantity-below q f h)
+rule-length book short LetterQuarter f h = omega (arith, num-length 1 1 (quantityOf Quarter f) (quantity-below Quarter f h))
+rule-length book short (SkippedName l n) f h = omega (arith, name-length (names book l) (placeOf l f), short l)
+rule-length book short (MatchedName l) f h = omega (arith, name-length (names book l) (placeOf l f), short l)
+rule-length book short (Letters l n) f h = omega (arith, name-length (names book l) (placeOf l f), short l)
+rule-length book short (Years k) f h = year-length k (f .year) (h .year .1)
+rule-length book short (FixedYear k) f h = year-length k (f .year) (h .year .1)
+rule-length book short TwoDigitYear f h = two-digit-length (f .year)
+rule-length book short (Zone utc c minutes seconds) f h = zone-length utc c minutes seconds (f .offset) (h .offset)
 
 -- the table: each row, and the rule of all other counts, at the least count that it is for
 
@@ -116,14 +121,14 @@ abbrev leastBehind : ℕ → Counts → ℕ
 leastBehind low (just k) = when (eqb low k) (suc low) low
 leastBehind low (upTo k) = when (leb low k) (suc low) low
 
-abbrev otherFits : Book → ℕ → Otherwise → Bool
-otherFits book low (always rule) = leb (mostBytes book rule) (8 * low)
-otherFits book low fixedYear = leb 1 low
+abbrev otherFits : ℕ → Otherwise → Bool
+otherFits low (always rule) = leb (mostBytes rule) (8 * low)
+otherFits low fixedYear = leb 1 low
 
-unfoldable rowsFit : Book → ℕ → List Row → Otherwise → Bool
-rowsFit book low [] o = otherFits book low o
-rowsFit book low (counts is rule ∷ rows) o =
-    both (leb (mostBytes book rule) (8 * leastOf low counts)) (rowsFit book (leastBehind low counts) rows o)
+unfoldable rowsFit : ℕ → List Row → Otherwise → Bool
+rowsFit low [] o = otherFits low o
+rowsFit low (counts is rule ∷ rows) o =
+    both (leb (mostBytes rule) (8 * leastOf low counts)) (rowsFit (leastBehind low counts) rows o)
 
 least-of : (c low : ℕ) (counts : Counts) → low ≤ c → among c counts ≡ true → leastOf low counts ≤ c
 least-of c low (just k) h e = omega (arith, eqb-true c k e)
@@ -135,86 +140,77 @@ least-behind c low (just k) h e =
 least-behind c low (upTo k) h e =
     when-is (λ (n : ℕ). n ≤ c) (leb low k) (λ t. omega (arith, leb-false c k e, leb-true low k t)) (λ t. h)
 
-other-fits : (book : Book) (c low : ℕ) (o : Otherwise) → low ≤ c → otherFits book low o ≡ true → mostBytes book (otherwiseRule c o) ≤ 8 * c
+other-fits : (c low : ℕ) (o : Otherwise) → low ≤ c → otherFits low o ≡ true → mostBytes (otherwiseRule c o) ≤ 8 * c
 unfolding otherwiseRule mostBytes
-other-fits book c low (always rule) h e = omega (arith, leb-true (mostBytes book rule) (8 * low) e)
-other-fits book c low fixedYear h e = omega (arith, leb-true 1 low e)
+other-fits c low (always rule) h e = omega (arith, leb-true (mostBytes rule) (8 * low) e)
+other-fits c low fixedYear h e = omega (arith, leb-true 1 low e)
 
-rows-fit : (book : Book) (c low : ℕ) (rows : List Row) (o : Otherwise) → low ≤ c → rowsFit book low rows o ≡ true
-    → mostBytes book (pick c rows o) ≤ 8 * c
+rows-fit : (c low : ℕ) (rows : List Row) (o : Otherwise) → low ≤ c → rowsFit low rows o ≡ true
+    → mostBytes (pick c rows o) ≤ 8 * c
 unfolding rowsFit pick
-rows-fit book c low [] o h e = other-fits book c low o h e
-rows-fit book c low (counts is rule ∷ rows) o h e =
-    let t = both-true (leb (mostBytes book rule) (8 * leastOf low counts)) (rowsFit book (leastBehind low counts) rows o) e in
-    when-is (λ (r : Rule). mostBytes book r ≤ 8 * c) (among c counts)
-    (λ k. omega (arith, leb-true (mostBytes book rule) (8 * leastOf low counts) (t .0), least-of c low counts h k))
-    (λ k. rows-fit book c (leastBehind low counts) rows o (least-behind c low counts h k) (t .1))
+rows-fit c low [] o h e = other-fits c low o h e
+rows-fit c low (counts is rule ∷ rows) o h e =
+    let t = both-true (leb (mostBytes rule) (8 * leastOf low counts)) (rowsFit (leastBehind low counts) rows o) e in
+    when-is (λ (r : Rule). mostBytes r ≤ 8 * c) (among c counts)
+    (λ k. omega (arith, leb-true (mostBytes rule) (8 * leastOf low counts) (t .0), least-of c low counts h k))
+    (λ k. rows-fit c (leastBehind low counts) rows o (least-behind c low counts h k) (t .1))
 
-symbolFits : Book → Symbol → Bool
+symbolFits : Symbol → Bool
 unfolding rowsFit
-symbolFits book symbol = rowsFit book 1 (symbol .rows) (symbol .otherwise)
+symbolFits symbol = rowsFit 1 (symbol .rows) (symbol .otherwise)
 
 -- all of the table, in one test
-unfoldable pub tableFits : Book → Bool
-unfolding symbolFits every
-tableFits book = tablePasses (symbolFits book)
-
-pub english-fits : tableFits english ≡ true
-unfolding tableFits symbolFits every rowsFit mostBytes mostDigits longest names english bytes
-english-fits = refl
+table-fits : tablePasses symbolFits ≡ true
+unfolding symbolFits every rowsFit mostBytes mostDigits mostLetters longest names english bytes
+table-fits = refl
 
 -- what a role writes is at most eight times its count
-abbrev RoleFits : Book → ℕ → Role → Type 0
-RoleFits book c = RoleHas (λ rule. mostBytes book rule ≤ 8 * c)
+abbrev RoleFits : ℕ → Role → Type 0
+RoleFits c = RoleHas (λ rule. mostBytes rule ≤ 8 * c)
 
-role-fits : (book : Book) → tableFits book ≡ true → (pair : Pair) (b c : ℕ) → 1 ≤ c → RoleFits book c (roleOf pair b c)
-unfolding tableFits symbolFits ruleOf
-role-fits book e pair b c h =
-    role-has (λ rule. mostBytes book rule ≤ 8 * c) c (symbolFits book)
-    (λ symbol. rows-fit book c 1 (symbol .rows) (symbol .otherwise) h) e pair b
+role-fits : (pair : Pair) (b c : ℕ) → 1 ≤ c → RoleFits c (roleOf pair b c)
+unfolding symbolFits ruleOf
+role-fits pair b c h =
+    role-has (λ rule. mostBytes rule ≤ 8 * c) c symbolFits
+    (λ symbol. rows-fit c 1 (symbol .rows) (symbol .otherwise) h) table-fits pair b
 
 -- what a part writes
-
-literal-length : (book : Book) (f : Fields) (s : List ℕ) (lost : Bool) → length (stepText book f (literal s lost)) ≤ length s
-unfolding stepText
-literal-length book f s false = omega arith
-literal-length book f s true = rw length-take (omega arith)
-
-run-length : (book : Book) (f : Fields) → Allowed f → (r : Role) (b n : ℕ) → RoleFits book n r → length (stepText book f (runStep r b n)) ≤ 8 * n
-unfolding stepText
-run-length book f h role.Literal b n k = rw length-replicate (omega arith)
-run-length book f h (role.Symbol rule) b n k = omega (arith, rule-length book rule f h)
 
 inside-length : (s : List ℕ) → length s ≤ insideLength s
 inside-length [] = omega arith
 inside-length (b ∷ s) =
     omega (arith, inside-length s, when-is (λ (n : ℕ). 1 ≤ n) (eqb b quote) (λ _. let t : 1 ≤ 2 = omega arith in t) (λ _. let t : 1 ≤ 1 = omega arith in t))
 
-step-length : (book : Book) → tableFits book ≡ true → (pair : Pair) (f : Fields) → Allowed f → (c : Content) → isSome c ≡ true
-    → length (stepText book f (stepOf pair c)) ≤ 8 * lengthOf c
-unfolding stepOf lengthOf
-step-length book e pair f h (run b n) k =
-    run-length book f h (roleOf pair b n) b n (role-fits book e pair b n (leb-true 1 n k))
-step-length book e pair f h (quotes n) k =
-    omega (arith, literal-length book f (replicate n quote) false, length-replicate n quote)
-step-length book e pair f h (quoted s) k = omega (arith, literal-length book f s false, inside-length s)
-step-length book e pair f h (unclosed s) k = omega (arith, literal-length book f s (endsInQuote s), inside-length s)
+module _ (book : Book) (short : Short book) (f : Fields) where
+  literal-length : (s : List ℕ) (lost : Bool) → length (stepText book f (literal s lost)) ≤ length s
+  unfolding stepText
+  literal-length s false = omega arith
+  literal-length s true = rw length-take (omega arith)
 
-texts-length : (book : Book) → tableFits book ≡ true → (pair : Pair) (f : Fields) → Allowed f → (cs : List Content)
-    → every isSome cs ≡ true → length (texts book f (map (stepOf pair) cs)) ≤ 8 * total cs
-unfolding texts total every
-texts-length book e pair f h [] k = omega arith
-texts-length book e pair f h (c ∷ cs) k =
-    let t = both-true (isSome c) (every isSome cs) k in
-    rw length-append
-    (omega (arith, step-length book e pair f h c (t .0), texts-length book e pair f h cs (t .1)))
+  run-length : Allowed f → (r : Role) (b n : ℕ) → RoleFits n r → length (stepText book f (runStep r b n)) ≤ 8 * n
+  unfolding stepText
+  run-length h role.Literal b n k = rw length-replicate (omega arith)
+  run-length h (role.Symbol rule) b n k = omega (arith, rule-length book short rule f h)
 
--- demand 1: "at most eight per pattern byte"
-pub eight-bytes : (pair : Pair) (p : List ℕ) (f : Fields) → fieldsCheck f ≡ Fine → length (text pair english p f) ≤ 8 * length p
-unfolding text steps
-eight-bytes pair p f h =
-    omega (arith, texts-length english english-fits pair f (allowed f h) (contents p) (runs-are-some p), parts-fill p)
+  step-length : (pair : Pair) → Allowed f → (c : Content) → isSome c ≡ true → length (stepText book f (stepOf pair c)) ≤ 8 * lengthOf c
+  unfolding stepOf lengthOf
+  step-length pair h (run b n) k = run-length h (roleOf pair b n) b n (role-fits pair b n (leb-true 1 n k))
+  step-length pair h (quotes n) k = omega (arith, literal-length (replicate n quote) false, length-replicate n quote)
+  step-length pair h (quoted s) k = omega (arith, literal-length s false, inside-length s)
+  step-length pair h (unclosed s) k = omega (arith, literal-length s (endsInQuote s), inside-length s)
 
--- "Written text is at most 8 bytes per pattern byte, so it always fits the text limit."
-pub text-fits : (pair : Pair) (p : List ℕ) (f : Fields) → patternCheck p ≡ Fine → fieldsCheck f ≡ Fine → length (text pair english p f) ≤ 2048
-text-fits pair p f h k = omega (arith, eight-bytes pair p f k, pattern-fine p h .short)
+  texts-length : (pair : Pair) → Allowed f → (cs : List Content) → every isSome cs ≡ true → length (texts book f (map (stepOf pair) cs)) ≤ 8 * total cs
+  unfolding texts total every
+  texts-length pair h [] k = omega arith
+  texts-length pair h (c ∷ cs) k =
+      let t = both-true (isSome c) (every isSome cs) k in
+      rw length-append (omega (arith, step-length pair h c (t .0), texts-length pair h cs (t .1)))
+
+  -- demand 1: "at most eight per pattern byte"
+  pub eight-bytes : (pair : Pair) (p : List ℕ) → fieldsCheck f ≡ Fine → length (text pair book p f) ≤ 8 * length p
+  unfolding text steps
+  eight-bytes pair p h = omega (arith, texts-length pair (allowed f h) (contents p) (runs-are-some p), parts-fill p)
+
+  -- "Written text is at most 8 bytes per pattern byte, so it always fits the text limit."
+  pub text-fits : (pair : Pair) (p : List ℕ) → patternCheck p ≡ Fine → fieldsCheck f ≡ Fine → length (text pair book p f) ≤ 2048
+  text-fits pair p h k = omega (arith, eight-bytes pair p k, pattern-fine p h .short)

@@ -60,7 +60,7 @@ some-count k s = some-on (takeNumber Count k s) _ s (some-number Count k s)
 some-year : (k : ℕ) (s : List ℕ) → TakesSome (takeYear k s)
 some-year k s = some-on (takeNumber Year k s) _ s (some-number Year k s)
 
-abbrev isName : List ℕ → Bool
+abbrev pub isName : List ℕ → Bool
 isName name = leb 1 (length name)
 
 some-name : (i : ℕ) (names : List (List ℕ)) (s : List ℕ) → every isName names ≡ true → TakesSome (firstName i names s)

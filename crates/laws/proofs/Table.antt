@@ -16,7 +16,7 @@ use Rattle.meaning.specs.declared.Role.{Role}
 use Rattle.meaning.specs.declared.Role.the-variants as role
 use Rattle.meaning.specs.declared.Rule.{Rule}
 use Rattle.meaning.specs.declared.Rule.the-variants.{Number, SkippedNumber, LetterQuarter, SkippedName, MatchedName, Letters, Years, FixedYear, TwoDigitYear, Zone}
-use Rattle.laws.proofs.Tests.{both-true, both-are, every, when-is}
+use Rattle.laws.proofs.Tests.{both-true, both-are, every, every-weaker, when-is}
 
 abbrev pub RoleHas : (Rule → Type 0) → Role → Type 0
 RoleHas P role.Literal = Unit
@@ -115,3 +115,25 @@ module _ (test : Rule → Bool) (fixed : (c : ℕ) → test (FixedYear c) ≡ tr
   pub steps-pass : tablePasses (symbolPasses test) ≡ true → (pair : Pair) (p : List ℕ) → every (stepPasses test) (steps pair p) ≡ true
   unfolding steps
   steps-pass e pair p = all-pass e pair (contents p)
+
+-- where a rule that passes one test passes another, so does the table
+module _ (test weaker : Rule → Bool) (implies : (rule : Rule) → test rule ≡ true → weaker rule ≡ true) where
+  row-weaker : (row : Row) → rowPasses test row ≡ true → rowPasses weaker row ≡ true
+  row-weaker (counts is rule) h = implies rule h
+
+  otherwise-weaker : (o : Otherwise) → otherwisePasses test o ≡ true → otherwisePasses weaker o ≡ true
+  otherwise-weaker (always rule) h = implies rule h
+  otherwise-weaker fixedYear h = refl
+
+  symbol-weaker : (symbol : Symbol) → symbolPasses test symbol ≡ true → symbolPasses weaker symbol ≡ true
+  symbol-weaker symbol h =
+      let t = both-true (every (rowPasses test) (symbol .rows)) (otherwisePasses test (symbol .otherwise)) h in
+      both-are (every (rowPasses weaker) (symbol .rows)) (otherwisePasses weaker (symbol .otherwise))
+      (every-weaker (rowPasses test) (rowPasses weaker) row-weaker (symbol .rows) (t .0)) (otherwise-weaker (symbol .otherwise) (t .1))
+
+  pub table-weaker : tablePasses (symbolPasses test) ≡ true → tablePasses (symbolPasses weaker) ≡ true
+  table-weaker h =
+      let t = both-true (every (symbolPasses test) dateSymbols) (every (symbolPasses test) timeSymbols) h in
+      both-are (every (symbolPasses weaker) dateSymbols) (every (symbolPasses weaker) timeSymbols)
+      (every-weaker (symbolPasses test) (symbolPasses weaker) symbol-weaker dateSymbols (t .0))
+      (every-weaker (symbolPasses test) (symbolPasses weaker) symbol-weaker timeSymbols (t .1))

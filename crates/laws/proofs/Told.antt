@@ -8,9 +8,10 @@ use Prim.Native.Nat.{ℕ}
 use lib.Dec.{eqb}
 use lib.IntN.{ℤ, pos, natAbs}
 use lib.ListN.{getD}
+use Rattle.meaning.proofs.Books.{english-valid}
 use Rattle.meaning.specs.Answers.{number, details, Answer, refused, answerBy, wroteAnswer, offsetAnswer, dayNumberAnswer, verdictAnswer}
 use Rattle.meaning.specs.Bytes.{when}
-use Rattle.meaning.specs.Names.{Book}
+use Rattle.meaning.specs.Names.{english}
 use Rattle.meaning.specs.Promises.{SameAnswer}
 use Rattle.meaning.specs.Trust.{SaysOf, Says, trustCheck}
 use Rattle.meaning.specs.declared.Checked.{Checked}
@@ -22,7 +23,7 @@ use Rattle.meaning.specs.declared.Fields.{Fields}
 use Rattle.meaning.specs.declared.Offset.{Offset}
 use Rattle.meaning.specs.declared.Offset.the-variants as offset
 use Rattle.meaning.specs.declared.Refusal.{Refusal}
-use Rattle.meaning.specs.declared.Refusal.the-variants.{PatternTooLong, PatternByte, LoneQuote, FieldRange, NoRoom, TextTooLong, TextByte, InPart, OffsetLength, OffsetRange, CurrentYear, TextLeft, NoSuchDay, NoDayNumber}
+use Rattle.meaning.specs.declared.Refusal.the-variants.{PatternTooLong, PatternByte, LoneQuote, FieldRange, NoRoom, TextTooLong, TextByte, InPart, OffsetLength, OffsetRange, CurrentYear, TextLeft, NoSuchDay, NoDayNumber, BookMark, BookVersion, BookCut, BookName}
 use Rattle.meaning.specs.declared.Trouble.{Trouble}
 use Rattle.meaning.specs.declared.Trouble.the-variants.{TooFew, NoNumber, NoName, NoSign, LiteralDiffers, PlusSign}
 use Rattle.meaning.specs.declared.Verdict.{Verdict}
@@ -68,6 +69,10 @@ table =
     ∷ (λ ds. NoSuchDay)
     ∷ (λ ds. NoDayNumber)
     ∷ (λ ds. InPart PlusSign (one ds) (two ds))
+    ∷ (λ ds. BookMark)
+    ∷ (λ ds. BookVersion)
+    ∷ (λ ds. BookCut)
+    ∷ (λ ds. BookName (one ds))
     ∷ []
 
 abbrev refusalOf : ℕ → List ℤ → Refusal
@@ -103,6 +108,10 @@ found (CurrentYear year) = record { again = refl; not-0 = refl }
 found (TextLeft place) = record { again = refl; not-0 = refl }
 found NoSuchDay = record { again = refl; not-0 = refl }
 found NoDayNumber = record { again = refl; not-0 = refl }
+found BookMark = record { again = refl; not-0 = refl }
+found BookVersion = record { again = refl; not-0 = refl }
+found BookCut = record { again = refl; not-0 = refl }
+found (BookName which) = record { again = refl; not-0 = refl }
 
 pub refusal-number : (why : Refusal) → eqb (number why) 0 ≡ false
 refusal-number why = found why .not-0
@@ -203,9 +212,9 @@ pub day-number-by-told : (r d : DayNumber) → dayNumberAnswer r ≡ dayNumberAn
 day-number-by-told r d e = record { told = e; whole = day-numbers-told-apart r d e }
 
 -- the check: the first of its checks that refuses, or what its yes or no returns
-pub says-told : (edition : Edition) (book : Book) (p : List ℕ) (current : ℤ) (v : Verdict) → Says edition book p current v
+pub says-told : (edition : Edition) (p : List ℕ) (current : ℤ) (v : Verdict) → Says edition p current v
     → verdictAnswer v ≡ answerBy (trustCheck edition p current) (verdictAnswer v .values)
 unfolding SaysOf
-says-told edition book p current verdict.Yes s = rw (s false .0)
-says-told edition book p current (verdict.No part f) s = rw (s false .0)
-says-told edition book p current (verdict.Refused why) s = rw (s false)
+says-told edition p current verdict.Yes s = rw (s english english-valid false .0)
+says-told edition p current (verdict.No part f) s = rw (s english english-valid false .0)
+says-told edition p current (verdict.Refused why) s = rw (s english english-valid false)

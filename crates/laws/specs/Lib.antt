@@ -2,5 +2,6 @@ pub mod CalendarLine
 pub mod Halves
 pub mod Laid
 pub mod NextDays
+pub mod Shelves
 pub mod Spans
 pub mod Widths

@@ -1,3 +1,4 @@
+pub mod Books
 pub mod Calendar
 pub mod Editions
 pub mod Minus

@@ -15,4 +15,6 @@ pub mod Trust
 pub mod Calendar
 pub mod Weeks
 pub mod Days
+pub mod Books
+pub mod OpenedBooks
 pub mod Promises

@@ -8,6 +8,7 @@ use lib.IntN.{ℤ}
 use Rattle.meaning.specs.Answers.{Answer, splitAnswer, wroteAnswer, readAnswer, offsetAnswer, dayNumberAnswer}
 use Rattle.meaning.specs.Days.{dayNumber}
 use Rattle.meaning.specs.Names.{Book}
+use Rattle.meaning.specs.OpenedBooks.{openBook, openOutput, writeBook, bookOutput}
 use Rattle.meaning.specs.Whole.{split, write, output, read, parseOffset, unitNumber, marked}
 use Rattle.meaning.specs.declared.Choices.{Choices}
 use Rattle.meaning.specs.declared.DayNumber.{DayNumber}
@@ -42,3 +43,10 @@ TellsRead mask unit r = r ≡ marked mask (unitNumber unit)
 
 abbrev pub NumbersDay : ℤ → ℕ → ℕ → DayNumber → Type 0
 NumbersDay year month day r = SameAnswer dayNumberAnswer r (dayNumber year month day)
+
+-- a book's bytes into a lent row, and a lent row's book as bytes of version 1
+abbrev pub OpensBook : List ℕ → List ℕ → Wrote → List ℕ → Type 0
+OpensBook s out r after = SameAnswer wroteAnswer r (openBook s out) × (after ≡ openOutput s out)
+
+abbrev pub WritesBook : List ℕ → List ℕ → Wrote → List ℕ → Type 0
+WritesBook row out r after = SameAnswer wroteAnswer r (writeBook row out) × (after ≡ bookOutput row out)

@@ -7,6 +7,7 @@ use Prim.Native.Nat.{ℕ, _<_}
 use lib.IntN.{ℤ, natAbs}
 use lib.ListN.{length, getD, take, drop}
 use Rattle.meaning.specs.Answers.{_else_, patternCheck, fieldsCheck, currentYearCheck}
+use Rattle.meaning.specs.Books.{Valid}
 use Rattle.meaning.specs.Days.{DayOf, dayNumber}
 use Rattle.meaning.specs.Names.{Book}
 use Rattle.meaning.specs.Readers.{got}
@@ -90,6 +91,11 @@ SaysOf Counts choices book p current (verdict.No part f) =
     (trustCheck (choices .edition) p current ≡ Fine) × FailsFirst Counts choices book (natAbs current) (steps (choices .pair) p) part f
 SaysOf Counts choices book p current (verdict.Refused why) = trustCheck (choices .edition) p current ≡ Refused why
 
--- the answer of the check in an edition, of real days: the same, whether a reading is strict or not
-abbrev pub Says : Edition → Book → List ℕ → ℤ → Verdict → Type 0
-Says edition book p current answer = (strict : Bool) → SaysOf RealDay (fullPair edition strict) book p current answer
+-- the answer of the check in an edition with a book, of real days: the same, whether a reading is strict or not
+abbrev pub SaysWith : Book → Edition → List ℕ → ℤ → Verdict → Type 0
+SaysWith book edition p current answer = (strict : Bool) → SaysOf RealDay (fullPair edition strict) book p current answer
+
+-- What the check promises: it is the answer with every valid book. So the verdict is no matter of the names, and the record that a no
+-- shows fails with each of them.
+abbrev pub Says : Edition → List ℕ → ℤ → Verdict → Type 0
+Says edition p current answer = (book : Book) → Valid book → SaysWith book edition p current answer

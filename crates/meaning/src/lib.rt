@@ -221,6 +221,10 @@ pub enum Refusal {
     TextLeft(usize),
     NoSuchDay,
     NoDayNumber,
+    BookMark,
+    BookVersion,
+    BookCut,
+    BookName(u32),
 }
 
 // What checks find.

@@ -1,19 +1,14 @@
 // The English names of the specification as constant rows. Their tables have numbers, so that matcher and writer find the rows of
-// a list by one function for each size: first the tables of two names, then those of four, six, seven and twelve.
-ghost use mathlib.Core.Path.{_≡_};
+// a list by one function for each size: first the tables of two names, then those of four and six, which are the same in every
+// book, then the weekdays and the months.
 ghost use Prim.Native.Nat.{_≤_, _<_};
 ghost use Rattle.meaning.specs.Names.{names, english};
 ghost use Rattle.names.specs.Lists.{listAt};
-ghost use Rattle.names.specs.Table.{IsTable};
-use crate::rows::Four;
-use crate::rows::Seven;
-use crate::rows::Six;
-use crate::rows::Twelve;
-use crate::rows::Two;
+ghost use Rattle.names.specs.Table.{Numbered, IsTable, Weekdays, Months, IsEnglish};
 use meaning::NameList;
 
 pub fn table_of(list: NameList) -> usize
-    ensures { λ r. ⌜ (r < 17) × (names english (listAt r) ≡ names english list) ⌝ }
+    ensures { λ r. ⌜ Numbered r list ⌝ }
 {
     match list {
         NameList::EraAbbreviated => 0,
@@ -38,9 +33,24 @@ pub fn table_of(list: NameList) -> usize
     }
 }
 
-pub fn two(n: usize) -> Two
+// How many letters the English weekdays and months of a table have at most.
+pub fn most_of(table: usize) -> usize
+    requires { ⌜ (10 ≤ table) × (table < 17) ⌝ }
+    ensures { λ r. ⌜ IsEnglish table r ⌝ }
+{
+    match table {
+        11 => 3,
+        12 => 2,
+        13 => 1,
+        15 => 3,
+        16 => 1,
+        _ => 20,
+    }
+}
+
+pub fn two(n: usize) -> [u8; 42]
     requires { ⌜ n < 5 ⌝ }
-    ensures { λ r. ⌜ IsTable (r .rows) (r .lens) (names english (listAt n)) ⌝ }
+    ensures { λ r. ⌜ IsTable 20 2 r (names english (listAt n)) ⌝ }
 {
     match n {
         0 => crate::rows::ERA_ABBREVIATED,
@@ -51,9 +61,9 @@ pub fn two(n: usize) -> Two
     }
 }
 
-pub fn four(n: usize) -> Four
+pub fn four(n: usize) -> [u8; 84]
     requires { ⌜ (5 ≤ n) × (n < 9) ⌝ }
-    ensures { λ r. ⌜ IsTable (r .rows) (r .lens) (names english (listAt n)) ⌝ }
+    ensures { λ r. ⌜ IsTable 20 4 r (names english (listAt n)) ⌝ }
 {
     match n {
         5 => crate::rows::QUARTER_WIDE,
@@ -63,31 +73,20 @@ pub fn four(n: usize) -> Four
     }
 }
 
-pub fn six() -> Six
-    ensures { λ r. ⌜ IsTable (r .rows) (r .lens) (names english (listAt 9)) ⌝ }
+pub fn six() -> [u8; 126]
+    ensures { λ r. ⌜ IsTable 20 6 r (names english (listAt 9)) ⌝ }
 {
     crate::rows::NOON_WORDS
 }
 
-pub fn seven(n: usize) -> Seven
-    requires { ⌜ (10 ≤ n) × (n < 14) ⌝ }
-    ensures { λ r. ⌜ IsTable (r .rows) (r .lens) (names english (listAt n)) ⌝ }
+pub fn seven() -> [u8; 147]
+    ensures { λ r. ⌜ Weekdays r ⌝ }
 {
-    match n {
-        10 => crate::rows::WDAY_WIDE,
-        11 => crate::rows::WDAY_ABBREVIATED,
-        12 => crate::rows::WDAY_SHORT,
-        _ => crate::rows::WDAY_NARROW,
-    }
+    crate::rows::WDAYS
 }
 
-pub fn twelve(n: usize) -> Twelve
-    requires { ⌜ (14 ≤ n) × (n < 17) ⌝ }
-    ensures { λ r. ⌜ IsTable (r .rows) (r .lens) (names english (listAt n)) ⌝ }
+pub fn twelve() -> [u8; 252]
+    ensures { λ r. ⌜ Months r ⌝ }
 {
-    match n {
-        14 => crate::rows::MONTH_WIDE,
-        15 => crate::rows::MONTH_ABBREVIATED,
-        _ => crate::rows::MONTH_NARROW,
-    }
+    crate::rows::MONTHS
 }

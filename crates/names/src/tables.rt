@@ -1,14 +1,15 @@
-// Tables of names, rows of one width with their lengths beside them: the one matcher and the one name writer.
+// Rooms of names, the English ones as those of an opened book: the one matcher, the one writer and the one measurer. Where a list
+// has a most of letters, a longer name is cut to it.
 ghost use mathlib.Core.Path.{_≡_};
-ghost use Prim.Native.Nat.{_+_, _<_, _≤_};
-ghost use lib.Dec.{T};
-ghost use lib.ListN.{length, getD};
+ghost use Prim.Native.Nat.{_+_, _*_, _≤_};
+ghost use lib.ListN.{length};
 ghost use Rattle.laws.specs.Laid.{Laid};
+ghost use Rattle.meaning.specs.OpenedBooks.{namesAt};
 ghost use Rattle.meaning.specs.Readers.{matchName};
-ghost use Rattle.names.specs.Table.{table, nameAt, tableOk, foundIn};
+ghost use Rattle.names.specs.Table.{nameIn, foundIn};
 
-// The longest name that a table can hold.
-const ROW_WIDTH: usize = 13;
+// The room of a name: a byte that is its length, and 20 for its letters.
+const ROOM: usize = 21;
 
 // The name that begins a text, or none.
 pub enum Found {
@@ -16,16 +17,25 @@ pub enum Found {
     Nothing,
 }
 
-// "takes the first name in the table order that begins the text"
-pub fn first_name(rows: &[u8], lens: &[u8], text: &[u8]) -> Found
-    requires { ⌜ T (tableOk (now rows) (now lens)) ⌝ }
-    ensures { λ r. ⌜ r ≡ foundIn (matchName (table (now (rows .entry)) (now (lens .entry))) (now (text .entry))) ⌝ }
+// How many bytes a name has.
+pub fn length_at(rows: &[u8], index: usize, most: usize) -> usize
+    requires { ⌜ (most ≤ 20) × (index * 21 + 21 ≤ length (now rows)) ⌝ }
+    ensures { λ r. ⌜ r ≡ length (nameIn most (now (rows .entry)) index) ⌝ }
 {
-    'names: for index in 0..lens.len() {
-        let length = lens[index] as usize;
+    let size = rows[index * ROOM] as usize;
+    if size < most { size } else { most }
+}
+
+// "takes the first name in the table order that begins the text"
+pub fn first_name(rows: &[u8], count: usize, most: usize, text: &[u8]) -> Found
+    requires { ⌜ (most ≤ 20) × (count * 21 ≤ length (now rows)) ⌝ }
+    ensures { λ r. ⌜ r ≡ foundIn (matchName (namesAt most count (now (rows .entry))) (now (text .entry))) ⌝ }
+{
+    'names: for index in 0..count {
+        let length = length_at(rows, index, most);
         if length <= text.len() {
             for j in 0..length {
-                if rows[index * ROW_WIDTH + j] != text[j] {
+                if rows[index * ROOM + 1 + j] != text[j] {
                     continue 'names;
                 }
             }
@@ -35,24 +45,15 @@ pub fn first_name(rows: &[u8], lens: &[u8], text: &[u8]) -> Found
     Found::Nothing
 }
 
-// How many bytes a name has.
-pub fn length_at(lens: &[u8], index: usize) -> usize
-    requires { ⌜ index < length (now lens) ⌝ }
-    ensures { λ r. ⌜ r ≡ getD (now (lens .entry)) index 0 ⌝ }
-{
-    lens[index] as usize
-}
-
 // Writes a name at a place and gives the next place.
-pub fn put_name(rows: &[u8], lens: &[u8], index: usize, out: &mut [u8], at: usize) -> usize
-    requires { ⌜ T (tableOk (now rows) (now lens)) ⌝ }
-    requires { ⌜ index < length (now lens) ⌝ }
-    requires { ⌜ at + length (nameAt (now rows) (now lens) index) ≤ length (now out) ⌝ }
-    ensures { λ r. ⌜ Laid (now (out .entry)) (now (out .exit)) at r (nameAt (now (rows .entry)) (now (lens .entry)) index) ⌝ }
+pub fn put_name(rows: &[u8], index: usize, most: usize, out: &mut [u8], at: usize) -> usize
+    requires { ⌜ (most ≤ 20) × (index * 21 + 21 ≤ length (now rows)) ⌝ }
+    requires { ⌜ at + length (nameIn most (now rows) index) ≤ length (now out) ⌝ }
+    ensures { λ r. ⌜ Laid (now (out .entry)) (now (out .exit)) at r (nameIn most (now (rows .entry)) index) ⌝ }
 {
-    let size = lens[index] as usize;
+    let size = length_at(rows, index, most);
     for j in 0..size {
-        out[at + j] = rows[index * ROW_WIDTH + j];
+        out[at + j] = rows[index * ROOM + 1 + j];
     }
     at + size
 }

@@ -2,7 +2,7 @@
 -- step that goes on answers the moved cursor.
 use mathlib.Core.Bool.{false}
 use Prim.Native.Nat.{ℕ, _+_}
-use Rattle.meaning.specs.Names.{english}
+use Rattle.meaning.specs.Names.{Book}
 use Rattle.meaning.specs.Numerals.{Signed}
 use Rattle.meaning.specs.Readers.{Got, got, stopped, Reader}
 use Rattle.meaning.specs.Reading.{readStep}
@@ -44,5 +44,5 @@ partAt at (stopped why i) = part.Stopped why (at + i)
 abbrev pub unseen : Edition → Choices
 unseen edition = record { pair = Full; strict = false; edition = edition }
 
-abbrev pub plainRead : Edition → ℕ → Step → Reader Carried
-plainRead edition current = readStep (unseen edition) english current
+abbrev pub plainRead : Edition → Book → ℕ → Step → Reader Carried
+plainRead edition = readStep (unseen edition)

@@ -3,7 +3,8 @@
 ghost use mathlib.Core.Path.{_≡_};
 ghost use Prim.Native.Nat.{_≤_};
 ghost use lib.ListN.{length, drop};
-ghost use Rattle.meaning.specs.Names.{names, english};
+ghost use Rattle.meaning.specs.Names.{names};
+ghost use Rattle.meaning.specs.OpenedBooks.{bookIn};
 ghost use Rattle.meaning.specs.Readers as reads;
 ghost use Rattle.parse.specs.Steps as steps;
 use meaning::Carried;
@@ -90,12 +91,12 @@ impl Cursor {
     }
 
     // The first name of a list that begins the remaining text; `match` is a keyword.
-    pub fn match_name(self, list: NameList, text: &[u8]) -> Matched
+    pub fn match_name(self, book: &[u8], list: NameList, text: &[u8]) -> Matched
         requires { ⌜ self .at ≤ length (now text) ⌝ }
-        ensures { λ r. ⌜ r ≡ steps.matchedAt (self .at) (reads.matchName (names english list) (drop (self .at) (now (text .entry)))) ⌝ }
+        ensures { λ r. ⌜ r ≡ steps.matchedAt (self .at) (reads.matchName (names (bookIn (now (book .entry))) list) (drop (self .at) (now (text .entry)))) ⌝ }
     {
         let at = self.at;
-        match names::matching::match_name(list, &text[at..]) {
+        match names::matching::match_name(book, list, &text[at..]) {
             Found::Name { index, length } => Matched::Name {
                 index,
                 next: Cursor { at: at + length },
@@ -108,9 +109,9 @@ impl Cursor {
     }
 
     // So many bytes that are a name of a list.
-    pub fn match_letters(self, list: NameList, k: usize, text: &[u8]) -> Matched
+    pub fn match_letters(self, book: &[u8], list: NameList, k: usize, text: &[u8]) -> Matched
         requires { ⌜ self .at ≤ length (now text) ⌝ }
-        ensures { λ r. ⌜ r ≡ steps.matchedAt (self .at) (reads.letters k (names english list) (drop (self .at) (now (text .entry)))) ⌝ }
+        ensures { λ r. ⌜ r ≡ steps.matchedAt (self .at) (reads.letters k (names (bookIn (now (book .entry))) list) (drop (self .at) (now (text .entry)))) ⌝ }
     {
         let at = self.at;
         if text.len() - at < k {
@@ -120,7 +121,7 @@ impl Cursor {
             };
         }
         let end = at + k;
-        match names::matching::match_name(list, &text[at..end]) {
+        match names::matching::match_name(book, list, &text[at..end]) {
             Found::Name { index, length } => Matched::Name {
                 index,
                 next: Cursor { at: at + length },

@@ -3,6 +3,7 @@ ghost use mathlib.Core.Path.{_≡_};
 ghost use Prim.Native.Nat.{_≤_, _<_};
 ghost use lib.ListN.{length, drop};
 ghost use Rattle.meaning.specs.Names.{names, english};
+ghost use Rattle.meaning.specs.OpenedBooks.{bookIn};
 ghost use Rattle.meaning.specs.Reading as reading;
 ghost use Rattle.parse.specs.Matches.{namedBy, indexBelow};
 ghost use Rattle.parse.specs.Steps.{partAt};
@@ -72,9 +73,9 @@ pub fn named(list: NameList, matched: Matched) -> PartRead
     }
 }
 
-pub fn parse_name(list: NameList, text: &[u8], cursor: Cursor) -> PartRead
+pub fn parse_name(book: &[u8], list: NameList, text: &[u8], cursor: Cursor) -> PartRead
     requires { ⌜ cursor .at ≤ length (now text) ⌝ }
-    ensures { λ r. ⌜ r ≡ partAt (cursor .at) (reading.matchedName english list (drop (cursor .at) (now (text .entry)))) ⌝ }
+    ensures { λ r. ⌜ r ≡ partAt (cursor .at) (reading.matchedName (bookIn (now (book .entry))) list (drop (cursor .at) (now (text .entry)))) ⌝ }
 {
-    named(list, cursor.match_name(list, text))
+    named(list, cursor.match_name(book, list, text))
 }

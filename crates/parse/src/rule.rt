@@ -2,7 +2,7 @@
 ghost use mathlib.Core.Path.{_≡_};
 ghost use Prim.Native.Nat.{_≤_};
 ghost use lib.ListN.{length, drop};
-ghost use Rattle.meaning.specs.Names.{english};
+ghost use Rattle.meaning.specs.OpenedBooks.{bookIn};
 ghost use Rattle.meaning.specs.Reading.{readRule};
 ghost use Rattle.parse.specs.Steps.{partAt};
 use crate::cursor::Cursor;
@@ -22,13 +22,14 @@ use rules::numbers::most_read;
 
 pub fn parse_rule(
     edition: Edition,
+    book: &[u8],
     rule: Rule,
     current_year: u32,
     text: &[u8],
     cursor: Cursor,
 ) -> PartRead
     requires { ⌜ cursor .at ≤ length (now text) ⌝ }
-    ensures { λ r. ⌜ r ≡ partAt (cursor .at) (readRule edition english «current_year» rule (drop (cursor .at) (now (text .entry)))) ⌝ }
+    ensures { λ r. ⌜ r ≡ partAt (cursor .at) (readRule edition (bookIn (now (book .entry))) «current_year» rule (drop (cursor .at) (now (text .entry)))) ⌝ }
 {
     match rule {
         Rule::Number {
@@ -51,8 +52,11 @@ pub fn parse_rule(
         }
         Rule::LetterQuarter => pass(2, text, cursor),
         Rule::SkippedName { names: _, length } => pass(length, text, cursor),
-        Rule::MatchedName(names) => parse_name(names, text, cursor),
-        Rule::Letters { names, length } => named(names, cursor.match_letters(names, length, text)),
+        Rule::MatchedName(names) => parse_name(book, names, text, cursor),
+        Rule::Letters { names, length } => named(
+            names,
+            cursor.match_letters(book, names, length, text),
+        ),
         Rule::Years(_) => parse_years(text, cursor),
         Rule::FixedYear(count) => parse_fixed_year(count, text, cursor),
         Rule::TwoDigitYear => parse_two_digit_year(edition, current_year, text, cursor),

@@ -2,6 +2,7 @@
 ghost use mathlib.Core.Path.{_≡_};
 ghost use Prim.Native.Nat.{_≤_};
 ghost use lib.ListN.{length, drop};
+ghost use Rattle.meaning.specs.OpenedBooks.{bookIn};
 ghost use Rattle.parse.specs.ShortReads.{quickDigits, quickUnit};
 ghost use Rattle.parse.specs.Steps.{partAt, plainRead};
 ghost use Rattle.parse.specs.Years.{longYearRead};
@@ -40,6 +41,7 @@ fn parse_year(count: usize, text: &[u8], cursor: Cursor) -> PartRead
 // "Literals are skipped unseen": one byte of text for each that the part stands for.
 fn parse_other(
     edition: Edition,
+    book: &[u8],
     step: Step,
     pattern: &[u8],
     current_year: u32,
@@ -48,7 +50,7 @@ fn parse_other(
 ) -> PartRead
     requires { ⌜ Held (now pattern) step ⌝ }
     requires { ⌜ cursor .at ≤ length (now text) ⌝ }
-    ensures { λ r. ⌜ r ≡ partAt (cursor .at) (plainRead edition «current_year» (means (now (pattern .entry)) step) (drop (cursor .at) (now (text .entry)))) ⌝ }
+    ensures { λ r. ⌜ r ≡ partAt (cursor .at) (plainRead edition (bookIn (now (book .entry))) «current_year» (means (now (pattern .entry)) step) (drop (cursor .at) (now (text .entry)))) ⌝ }
 {
     match step {
         Step::Times { byte: _, count } => pass(count, text, cursor),
@@ -63,6 +65,7 @@ fn parse_other(
         Step::Short { number, count } => {
             parse_rule(
                 edition,
+                book,
                 short_rule(number, count),
                 current_year,
                 text,
@@ -70,16 +73,16 @@ fn parse_other(
             )
         }
         Step::Year(count) => parse_year(count, text, cursor),
-        Step::MonthAbbreviated => parse_name(NameList::MonthAbbreviated, text, cursor),
-        Step::MonthWide => parse_name(NameList::MonthWide, text, cursor),
-        Step::WdayWide => parse_name(NameList::WdayWide, text, cursor),
+        Step::MonthAbbreviated => parse_name(book, NameList::MonthAbbreviated, text, cursor),
+        Step::MonthWide => parse_name(book, NameList::MonthWide, text, cursor),
+        Step::WdayWide => parse_name(book, NameList::WdayWide, text, cursor),
         Step::Run {
             role,
             byte: _,
             count,
         } => match role {
             Role::Literal => pass(count, text, cursor),
-            Role::Symbol(rule) => parse_rule(edition, rule, current_year, text, cursor),
+            Role::Symbol(rule) => parse_rule(edition, book, rule, current_year, text, cursor),
         },
     }
 }
@@ -116,6 +119,7 @@ fn quick_unit(step: Step) -> ParseUnit
 // What patterns have most is read at once: a byte that stands for itself, and short numbers where their digits are there.
 pub fn parse_step(
     edition: Edition,
+    book: &[u8],
     step: Step,
     pattern: &[u8],
     current_year: u32,
@@ -124,7 +128,7 @@ pub fn parse_step(
 ) -> PartRead
     requires { ⌜ Held (now pattern) step ⌝ }
     requires { ⌜ cursor .at ≤ length (now text) ⌝ }
-    ensures { λ r. ⌜ r ≡ partAt (cursor .at) (plainRead edition «current_year» (means (now (pattern .entry)) step) (drop (cursor .at) (now (text .entry)))) ⌝ }
+    ensures { λ r. ⌜ r ≡ partAt (cursor .at) (plainRead edition (bookIn (now (book .entry))) «current_year» (means (now (pattern .entry)) step) (drop (cursor .at) (now (text .entry)))) ⌝ }
 {
     if let Step::Times { byte: _, count } = step {
         return pass(count, text, cursor);
@@ -139,5 +143,5 @@ pub fn parse_step(
             },
         };
     }
-    moved_on(parse_other(edition, step, pattern, current_year, text, cursor))
+    moved_on(parse_other(edition, book, step, pattern, current_year, text, cursor))
 }

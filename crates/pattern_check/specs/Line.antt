@@ -5,7 +5,6 @@ use lib.IntN.{pos}
 use Rattle.laws.specs.Laid.{Laid}
 use Rattle.meaning.specs.Answers.{number}
 use Rattle.meaning.specs.Bytes.{bytes, num}
-use Rattle.meaning.specs.Names.{english}
 use Rattle.meaning.specs.Trust.{Says}
 use Rattle.meaning.specs.declared.Edition.the-variants.{First}
 use Rattle.meaning.specs.declared.Verdict.{Verdict}
@@ -30,5 +29,5 @@ lineOf v = verdictText v ++ (10 ∷ [])
 -- the line of a verdict that the check can give on the pattern, in the first edition and the "current year 2025", lies at the start of the output
 pub record Printed (p old new : List ℕ) (r : ℕ) : Type 0 where
   pub verdict : Verdict
-  pub says : Says First english p (pos 2025) verdict
+  pub says : Says First p (pos 2025) verdict
   pub laid : Laid old new 0 r (lineOf verdict)

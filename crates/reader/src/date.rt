@@ -10,5 +10,6 @@ use meaning::Reading;
 pub fn parse(pattern: &[u8], text: &[u8], year: i32) -> Reading
     ensures { λ r. ⌜ Reads (plain Pair.Date) english (now (pattern .entry)) (now (text .entry)) year r ⌝ }
 {
-    parse_with(plain(Pair::Date), pattern, text, year)
+    let none: [u8; 0] = [];
+    parse_with(plain(Pair::Date), &none, pattern, text, year)
 }

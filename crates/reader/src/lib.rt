@@ -8,6 +8,7 @@ pub mod walk;
 
 ghost use mathlib.Core.Path.{_≡_};
 ghost use Rattle.meaning.specs.Names.{english};
+ghost use Rattle.meaning.specs.OpenedBooks.{bookIn};
 ghost use Rattle.meaning.specs.Promises.{Reads};
 ghost use Rattle.meaning.specs.Whole as whole;
 use crate::checks::read_check;
@@ -21,13 +22,13 @@ use meaning::Pair;
 use meaning::Reading;
 
 // Reads a text by a pattern, with these choices. A refused read gives only the refusal and its detail.
-pub fn parse_with(choices: Choices, pattern: &[u8], text: &[u8], year: i32) -> Reading
-    ensures { λ r. ⌜ Reads choices english (now (pattern .entry)) (now (text .entry)) year r ⌝ }
+pub fn parse_with(choices: Choices, book: &[u8], pattern: &[u8], text: &[u8], year: i32) -> Reading
+    ensures { λ r. ⌜ Reads choices (bookIn (now (book .entry))) (now (pattern .entry)) (now (text .entry)) year r ⌝ }
 {
     let edition = choices.edition;
     let checked = read_check(edition, pattern, text, year);
     match checked {
-        Checked::Fine => parse_parts(choices, pattern, text, size(year)),
+        Checked::Fine => parse_parts(choices, book, pattern, text, size(year)),
         Checked::Refused(_) => no_reading(checked),
     }
 }
@@ -47,5 +48,6 @@ pub fn plain(pair: Pair) -> Choices
 pub fn parse(pattern: &[u8], text: &[u8], year: i32) -> Reading
     ensures { λ r. ⌜ Reads (whole.plain Pair.Full) english (now (pattern .entry)) (now (text .entry)) year r ⌝ }
 {
-    parse_with(plain(Pair::Full), pattern, text, year)
+    let none: [u8; 0] = [];
+    parse_with(plain(Pair::Full), &none, pattern, text, year)
 }

@@ -4,7 +4,7 @@ ghost use mathlib.Core.List.{[]};
 ghost use mathlib.Core.Path.{_≡_};
 ghost use Prim.Native.Nat.{_≤_, _<_};
 ghost use lib.ListN.{length};
-ghost use Rattle.meaning.specs.Names.{english};
+ghost use Rattle.meaning.specs.OpenedBooks.{bookIn};
 ghost use Rattle.meaning.specs.Whole.{readingOf, walk, walkReading};
 ghost use Rattle.meaning.specs.Writing.{steps};
 ghost use Rattle.parse.specs.Literals.{Ended, compared};
@@ -48,9 +48,15 @@ fn compare_part(pair: Pair, pattern: &[u8], place: usize, text: &[u8], end: usiz
 
 // All parts in order; the first that can't be read refuses the whole, and so does what a strict reading leaves. A place in a text
 // that passed the checks has 16 bits.
-pub fn parse_parts(choices: Choices, pattern: &[u8], text: &[u8], current_year: u32) -> Reading
+pub fn parse_parts(
+    choices: Choices,
+    book: &[u8],
+    pattern: &[u8],
+    text: &[u8],
+    current_year: u32,
+) -> Reading
     requires { ⌜ length (now text) ≤ 2048 ⌝ }
-    ensures { λ r. ⌜ r ≡ walkReading (walk choices english «current_year» 0 0 (steps (choices .pair) (now (pattern .entry))) (now (text .entry)) []) ⌝ }
+    ensures { λ r. ⌜ r ≡ walkReading (walk choices (bookIn (now (book .entry))) «current_year» 0 0 (steps (choices .pair) (now (pattern .entry))) (now (text .entry)) []) ⌝ }
 {
     let pair = choices.pair;
     let edition = choices.edition;
@@ -64,7 +70,8 @@ pub fn parse_parts(choices: Choices, pattern: &[u8], text: &[u8], current_year: 
     while place < pattern.len() {
         let part = next_part(pattern, place);
         let step = step_of(pair, pattern, part);
-        match parse_step(edition, step, pattern, current_year, text, Cursor { at }) {
+        let cursor = Cursor { at };
+        match parse_step(edition, book, step, pattern, current_year, text, cursor) {
             PartRead::Stopped { trouble, place: to } => return refused_in(i, trouble, to),
             PartRead::Got { carried, next } => {
                 let start = at;

@@ -88,5 +88,9 @@ pub fn tell(why: Refusal) -> Told
         Refusal::TextLeft(place) => with_one(16, place),
         Refusal::NoSuchDay => with_one(17, 0),
         Refusal::NoDayNumber => with_one(18, 0),
+        Refusal::BookMark => with_one(20, 0),
+        Refusal::BookVersion => with_one(21, 0),
+        Refusal::BookCut => with_one(22, 0),
+        Refusal::BookName(which) => with_one(23, which as usize),
     }
 }

@@ -14,7 +14,7 @@ use Rattle.laws.proofs.DayNumbers.{days-coincide}
 use Rattle.laws.proofs.Determined.{determined}
 use Rattle.laws.specs.CalendarLine.{Short}
 use Rattle.meaning.specs.Answers.{Answer, fieldNumbers, verdictAnswer}
-use Rattle.meaning.specs.Names.{english}
+use Rattle.meaning.specs.Names.{Book}
 use Rattle.meaning.specs.declared.Choices.{Choices}
 use Rattle.meaning.specs.declared.Edition.{Edition}
 use Rattle.meaning.specs.declared.Fields.{Fields}
@@ -22,7 +22,7 @@ use Rattle.meaning.specs.declared.Pair.{Pair}
 use Rattle.meaning.specs.declared.Verdict.{Verdict}
 use Rattle.meaning.specs.declared.Verdict.the-variants.{Yes, No, Refused}
 use Rattle.sheet.specs.Rows.{inRow, Given, editionOf, ofCheck}
-use Rattle.sheet.specs.Sheet.{has, ifRoom, ifChoices, verdictIn, SheetWrites, SheetReads, SheetReadsWith, SheetTellsRead, SheetParsesOffset, SheetSplits, SheetUnits, SheetChecks, SheetChecksWith, SheetDay, SheetDayNumber}
+use Rattle.sheet.specs.Sheet.{has, ifRoom, ifChoices, verdictIn, SheetWrites, SheetReads, SheetReadsWith, SheetWritesBy, SheetReadsBy, SheetOpensBook, SheetWritesBook, SheetTellsRead, SheetParsesOffset, SheetSplits, SheetUnits, SheetChecks, SheetChecksWith, SheetDay, SheetDayNumber}
 use Rattle.trust.proofs.Agreement.{SameButRecord, answers-coincide}
 
 given-coincide : {answer : Answer} {old new new′ : List ℤ} {r r′ : ℕ} → Given answer old new r → Given answer old new′ r′ → (r ≡ r′) × (new ≡ new′)
@@ -34,18 +34,37 @@ both-coincide : {answer : Answer} {old new new′ : List ℤ} {r r′ : ℕ} {A 
 both-coincide w v =
     let g = given-coincide (w .0) (v .0) in (g .0, g .1, determined (w .1) (v .1))
 
-pub writes-coincide : (pair : Pair) (p : List ℕ) (f : Fields) (out : List ℕ) (row : List ℤ) {r r′ : ℕ} {outAfter outAfter′ : List ℕ} {rowAfter rowAfter′ : List ℤ}
-    → SheetWrites pair p f out row r outAfter rowAfter → SheetWrites pair p f out row r′ outAfter′ rowAfter′
+pub writes-coincide : (pair : Pair) (book : Book) (p : List ℕ) (f : Fields) (out : List ℕ) (row : List ℤ) {r r′ : ℕ} {outAfter outAfter′ : List ℕ} {rowAfter rowAfter′ : List ℤ}
+    → SheetWrites pair book p f out row r outAfter rowAfter → SheetWrites pair book p f out row r′ outAfter′ rowAfter′
     → (r ≡ r′) × (rowAfter ≡ rowAfter′) × (outAfter ≡ outAfter′)
-writes-coincide pair p f out row = both-coincide
+writes-coincide pair book p f out row = both-coincide
 
-pub reads-coincide : (choices : Choices) (p s : List ℕ) (current : ℤ) (row : List ℤ) {r r′ : ℕ} {rowAfter rowAfter′ : List ℤ}
-    → SheetReads choices p s current row r rowAfter → SheetReads choices p s current row r′ rowAfter′ → (r ≡ r′) × (rowAfter ≡ rowAfter′)
-reads-coincide choices p s current row = given-coincide
+pub reads-coincide : (choices : Choices) (book : Book) (p s : List ℕ) (current : ℤ) (row : List ℤ) {r r′ : ℕ} {rowAfter rowAfter′ : List ℤ}
+    → SheetReads choices book p s current row r rowAfter → SheetReads choices book p s current row r′ rowAfter′ → (r ≡ r′) × (rowAfter ≡ rowAfter′)
+reads-coincide choices book p s current row = given-coincide
 
 pub reads-with-coincide : (n : ℕ) (p s : List ℕ) (current : ℤ) (row : List ℤ) {r r′ : ℕ} {rowAfter rowAfter′ : List ℤ}
     → SheetReadsWith n p s current row r rowAfter → SheetReadsWith n p s current row r′ rowAfter′ → (r ≡ r′) × (rowAfter ≡ rowAfter′)
 reads-with-coincide n p s current row = given-coincide
+
+pub writes-by-coincide : (n : ℕ) (book p : List ℕ) (f : Fields) (out : List ℕ) (row : List ℤ) {r r′ : ℕ} {outAfter outAfter′ : List ℕ} {rowAfter rowAfter′ : List ℤ}
+    → SheetWritesBy n book p f out row r outAfter rowAfter → SheetWritesBy n book p f out row r′ outAfter′ rowAfter′
+    → (r ≡ r′) × (rowAfter ≡ rowAfter′) × (outAfter ≡ outAfter′)
+writes-by-coincide n book p f out row = both-coincide
+
+pub reads-by-coincide : (n : ℕ) (book p s : List ℕ) (current : ℤ) (row : List ℤ) {r r′ : ℕ} {rowAfter rowAfter′ : List ℤ}
+    → SheetReadsBy n book p s current row r rowAfter → SheetReadsBy n book p s current row r′ rowAfter′ → (r ≡ r′) × (rowAfter ≡ rowAfter′)
+reads-by-coincide n book p s current row = given-coincide
+
+pub opened-coincide : (s book : List ℕ) (row : List ℤ) {r r′ : ℕ} {bookAfter bookAfter′ : List ℕ} {rowAfter rowAfter′ : List ℤ}
+    → SheetOpensBook s book row r bookAfter rowAfter → SheetOpensBook s book row r′ bookAfter′ rowAfter′
+    → (r ≡ r′) × (rowAfter ≡ rowAfter′) × (bookAfter ≡ bookAfter′)
+opened-coincide s book row = both-coincide
+
+pub books-coincide : (book out : List ℕ) (row : List ℤ) {r r′ : ℕ} {outAfter outAfter′ : List ℕ} {rowAfter rowAfter′ : List ℤ}
+    → SheetWritesBook book out row r outAfter rowAfter → SheetWritesBook book out row r′ outAfter′ rowAfter′
+    → (r ≡ r′) × (rowAfter ≡ rowAfter′) × (outAfter ≡ outAfter′)
+books-coincide book out row = both-coincide
 
 pub told-coincide : (mask : ℤ) (unit : ℕ) {r r′ : ℕ} → SheetTellsRead mask unit r → SheetTellsRead mask unit r′ → r ≡ r′
 told-coincide mask unit = determined
@@ -130,7 +149,7 @@ pub checks-coincide : (edition : Edition) (p : List ℕ) (current : ℤ) (row : 
     → SheetChecks edition p current row r rowAfter → SheetChecks edition p current row r′ rowAfter′ → SameCheck r r′ rowAfter rowAfter′
 checks-coincide edition p current row a b =
     checks-by (has 10 row) (a .verdict) (b .verdict) (leb-true 10 (length row))
-    (answers-coincide edition english p current (a .verdict) (b .verdict) (a .says) (b .says)) (a .given) (b .given)
+    (answers-coincide edition p current (a .verdict) (b .verdict) (a .says) (b .says)) (a .given) (b .given)
 
 pub checks-with-coincide : (n : ℕ) (p : List ℕ) (current : ℤ) (row : List ℤ) {r r′ : ℕ} {rowAfter rowAfter′ : List ℤ}
     → SheetChecksWith n p current row r rowAfter → SheetChecksWith n p current row r′ rowAfter′ → SameCheck r r′ rowAfter rowAfter′
@@ -140,5 +159,5 @@ checks-with-coincide n p current row {r} {r′} {rowAfter} {rowAfter′} a b = g
         → Given (ifChoices stands (verdictIn row (b .verdict))) row rowAfter′ r′ → SameCheck r r′ rowAfter rowAfter′
     go true x y =
         checks-by (has 10 row) (a .verdict) (b .verdict) (leb-true 10 (length row))
-        (answers-coincide (editionOf n) english p current (a .verdict) (b .verdict) (a .says) (b .says)) x y
+        (answers-coincide (editionOf n) p current (a .verdict) (b .verdict) (a .says) (b .says)) x y
     go false x y = same-check (given-coincide x y)

@@ -14,13 +14,15 @@ use mir.Val.{SFits}
 use Rattle.laws.proofs.Checks.{write-fine}
 use Rattle.laws.proofs.Fields.{allowed}
 use Rattle.laws.proofs.Pluses.{behindPart}
-use Rattle.laws.proofs.Sizes as sizes
+use Rattle.laws.proofs.OpenedBooks.{opened-text-fits}
 use Rattle.laws.proofs.Tests.{when-is}
+use Rattle.meaning.proofs.Books.{english-valid}
 use Rattle.meaning.specs.Answers.{_else_, refuseUnless, within, byteCheck, bytesCheck, endsInLoneQuote, patternCheck, fieldsCheck, roomCheck, textCheck, firstCurrentYear, currentYearCheck, restCheck, details}
 use Rattle.meaning.specs.Bytes.{when, both, plus}
 use Rattle.meaning.specs.Calendar.{isDate, dateNumber}
 use Rattle.meaning.specs.Days.{isShort, dayCheck, dayNumberBy, dayNumber}
 use Rattle.meaning.specs.Names.{Book, english}
+use Rattle.meaning.specs.OpenedBooks.{bookIn}
 use Rattle.meaning.specs.Numerals.{Signed}
 use Rattle.meaning.specs.Readers.{Got, got, stopped}
 use Rattle.meaning.specs.Reading.{readStep}
@@ -100,24 +102,24 @@ text-fits s h =
 
 -- writing
 
-write-check-fits : (pair : Pair) (p : List ℕ) (f : Fields) (room : ℕ) → NumberFits (length p) → CheckedFits (writeCheck pair english p f room)
+write-check-fits : (pair : Pair) (book p : List ℕ) (f : Fields) (room : ℕ) → NumberFits (length p) → CheckedFits (writeCheck pair (bookIn book) p f room)
 unfolding writeCheck details
-write-check-fits pair p f room h =
-    let n = length (text pair english p f) in
+write-check-fits pair book p f room h =
+    let n = length (text pair (bookIn book) p f) in
     else-fits (patternCheck p) (fieldsCheck f else roomCheck room n) (pattern-fits p h)
     (λ fine. else-fits (fieldsCheck f) (roomCheck room n) (fields-fit f)
-    (λ fields. unless-fits (leb n room) (NoRoom n) (omega (arith, sizes.text-fits pair p f fine fields), tt)))
+    (λ fields. unless-fits (leb n room) (NoRoom n) (omega (arith, opened-text-fits book pair p f fine fields), tt)))
 
-wrote-fits : (checked : Checked) (t : List ℕ) → CheckedFits checked → (checked ≡ Fine → NumberFits (length t)) → WroteFits (wroteBy checked t)
+pub wrote-fits : (checked : Checked) (t : List ℕ) → CheckedFits checked → (checked ≡ Fine → NumberFits (length t)) → WroteFits (wroteBy checked t)
 wrote-fits Fine t h k = k refl
 wrote-fits (Refused why) t h k = h
 
-pub write-fits : (pair : Pair) (p : List ℕ) (f : Fields) (out : List ℕ) → NumberFits (length p) → NumberFits (length out)
-    → WroteFits (write pair english p f out)
+pub write-fits : (pair : Pair) (book p : List ℕ) (f : Fields) (out : List ℕ) → NumberFits (length p) → NumberFits (length out)
+    → WroteFits (write pair (bookIn book) p f out)
 unfolding write
-write-fits pair p f out h k =
-    wrote-fits (writeCheck pair english p f (length out)) (text pair english p f) (write-check-fits pair p f (length out) h)
-    (λ e. omega (arith, write-fine pair english p f (length out) e .fits))
+write-fits pair book p f out h k =
+    wrote-fits (writeCheck pair (bookIn book) p f (length out)) (text pair (bookIn book) p f) (write-check-fits pair book p f (length out) h)
+    (λ e. omega (arith, write-fine pair (bookIn book) p f (length out) e .fits))
 
 -- reading
 
@@ -152,14 +154,14 @@ read-by-fits Fine (walked taken gave) h k = (k, tt)
 read-by-fits Fine (refusedAt checked) h k = (omega arith, k)
 read-by-fits (Refused why) w h k = (omega arith, h)
 
-pub read-fits : (choices : Choices) (p s : List ℕ) (current : ℤ) → NumberFits (length p) → NumberFits (length s) → SFits w32 current
-    → ReadFits (read choices english p s current)
+pub read-fits : (choices : Choices) (book : Book) (p s : List ℕ) (current : ℤ) → NumberFits (length p) → NumberFits (length s) → SFits w32 current
+    → ReadFits (read choices book p s current)
 unfolding read readCheck
-read-fits choices p s current h k y =
+read-fits choices book p s current h k y =
     let checks = else-fits (patternCheck p) (currentYearCheck (choices .edition) current else textCheck s) (pattern-fits p h)
     (λ _. else-fits (currentYearCheck (choices .edition) current) (textCheck s) (year-fits (choices .edition) current y) (λ _. text-fits s k)) in
-    read-by-fits (readCheck (choices .edition) p s current) (walk choices english (natAbs current) 0 0 (steps (choices .pair) p) s []) checks
-    (walk-fits choices english (natAbs current) 0 0 (steps (choices .pair) p) s [] (omega (arith, few-steps (choices .pair) p)) (omega arith))
+    read-by-fits (readCheck (choices .edition) p s current) (walk choices book (natAbs current) 0 0 (steps (choices .pair) p) s []) checks
+    (walk-fits choices book (natAbs current) 0 0 (steps (choices .pair) p) s [] (omega (arith, few-steps (choices .pair) p)) (omega arith))
 
 -- parse_offset
 
@@ -211,11 +213,11 @@ day-number-fits y m d =
 
 -- the check
 
-pub verdict-fits : (edition : Edition) (p : List ℕ) (current : ℤ) (v : Verdict) → NumberFits (length p) → SFits w32 current → Says edition english p current v → VerdictFits v
+pub verdict-fits : (edition : Edition) (p : List ℕ) (current : ℤ) (v : Verdict) → NumberFits (length p) → SFits w32 current → Says edition p current v → VerdictFits v
 unfolding SaysOf trustCheck
 verdict-fits edition p current verdict.Yes h y s = tt
 verdict-fits edition p current (verdict.No part f) h y s =
-    (omega (arith, s false .1 .there, few-steps Full p), omega (arith, allowed f (s false .1 .counts .allowed) .nanos))
+    (omega (arith, s english english-valid false .1 .there, few-steps Full p), omega (arith, allowed f (s english english-valid false .1 .counts .allowed) .nanos))
 verdict-fits edition p current (verdict.Refused why) h y s =
     let checks = else-fits (patternCheck p) (currentYearCheck edition current) (pattern-fits p h) (λ _. year-fits edition current y) in
-    rw (s false) at checks
+    rw (s english english-valid false) at checks

@@ -14,7 +14,7 @@ use Rattle.laws.proofs.Tests.{when-true}
 use Rattle.laws.proofs.Told.{refusal-number}
 use Rattle.laws.specs.Halves.{Beside, moved}
 use Rattle.meaning.specs.Answers.{number, wroteAnswer, bytesCheck}
-use Rattle.meaning.specs.Names.{english}
+use Rattle.meaning.specs.Names.{Book}
 use Rattle.meaning.specs.Splitting.{parts, noPart}
 use Rattle.meaning.specs.Whole.{write, output}
 use Rattle.meaning.specs.declared.Checked.the-variants.{Fine}
@@ -43,24 +43,24 @@ wrote-told true (wrote.Length k) row {after} {n} h given e =
     (refl, cc)
 wrote-told true (wrote.Refused why) row h given e = absurd (eqb-false (number why) 0 (refusal-number why) (sym (given .number)))
 
-module _ (pair : Pair) (f : Fields) where
+module _ (pair : Pair) (book : Book) (f : Fields) where
   write-told : (p out : List ℕ) (row : List ℤ) {n : ℕ} {outAfter : List ℕ} {rowAfter : List ℤ}
-      → SheetWrites pair p f out row 0 outAfter rowAfter → getD rowAfter 0 (pos 0) ≡ pos n
-      → (write pair english p f out ≡ wrote.Length n) × (outAfter ≡ output pair english p f out)
+      → SheetWrites pair book p f out row 0 outAfter rowAfter → getD rowAfter 0 (pos 0) ≡ pos n
+      → (write pair book p f out ≡ wrote.Length n) × (outAfter ≡ output pair book p f out)
   write-told p out row w e =
-      let t = wrote-told (has 2 row) (write pair english p f out) row (leb-true 2 (length row)) (w .0) e in
-      (t .1, w .1 ∙ when-true (output pair english p f out) out (t .0))
+      let t = wrote-told (has 2 row) (write pair book p f out) row (leb-true 2 (length row)) (w .0) e in
+      (t .1, w .1 ∙ when-true (output pair book p f out) out (t .0))
 
   pub writes-join : {p q : List ℕ} → Beside p q → (out : List ℕ) {n m : ℕ} (row row′ row″ : List ℤ) → 2 ≤ length row″
       → {r : ℕ} {outAfter outAfter′ outAfter″ : List ℕ} {rowAfter rowAfter′ rowAfter″ : List ℤ}
-      → SheetWrites pair p f out row 0 outAfter rowAfter → getD rowAfter 0 (pos 0) ≡ pos n
-      → SheetWrites pair q f (drop n out) row′ 0 outAfter′ rowAfter′ → getD rowAfter′ 0 (pos 0) ≡ pos m
-      → SheetWrites pair (p ++ q) f out row″ r outAfter″ rowAfter″
+      → SheetWrites pair book p f out row 0 outAfter rowAfter → getD rowAfter 0 (pos 0) ≡ pos n
+      → SheetWrites pair book q f (drop n out) row′ 0 outAfter′ rowAfter′ → getD rowAfter′ 0 (pos 0) ≡ pos m
+      → SheetWrites pair book (p ++ q) f out row″ r outAfter″ rowAfter″
       → (r ≡ 0) × (rowAfter″ ≡ laid (counts (n + m)) row″) × (outAfter″ ≡ take n outAfter ++ outAfter′)
   writes-join {p} {q} beside out {n} row row′ row″ room a k b l c =
       let x = write-told p out row a k in
       let y = write-told q (drop n out) row′ b l in
-      let join = write-join beside pair english f out (x .0) (y .0) in
+      let join = write-join beside pair book f out (x .0) (y .0) in
       let given = rw (le-leb 2 (length row″) room, join .0) at c in
       (given .0 .number, given .0 .row, given .1 ∙ join .1 ∙ rw (x .1, y .1))
 

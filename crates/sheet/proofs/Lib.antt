@@ -1,3 +1,4 @@
+mod BookFits
 mod Determined
 pub mod Fits
 mod Halves

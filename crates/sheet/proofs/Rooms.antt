@@ -1,5 +1,5 @@
 -- An answer that fills its row with no zeros, as a reading does; one where the lent row has room for it, and where it has none; one by
--- choices.
+-- choices and one by a book.
 use mathlib.Core.Bool.{Bool, true, false}
 use mathlib.Core.List.{List, _∷_, _++_, map, append-nil}
 use mathlib.Core.Path.{_≡_, refl}
@@ -11,7 +11,7 @@ use lib.ListN.{length, length-append, length-map}
 use Rattle.meaning.specs.Answers.{Answer, accepted}
 use Rattle.meaning.specs.declared.Reading.{Reading}
 use Rattle.sheet.specs.Rows.{inRow, Given, laid}
-use Rattle.sheet.specs.Sheet.{has, ifRoom, ifChoices, InTwoRows}
+use Rattle.sheet.specs.Sheet.{has, ifRoom, ifChoices, ifBook, InTwoRows}
 
 pub full : {old new vs : List ℤ} {r : ℕ} (n : ℕ) → length vs ≡ n → Given (accepted vs) old new r → Given (inRow n (accepted vs)) old new r
 full {vs = vs} n long given = rw (long, sub-self n, append-nil vs) given
@@ -36,6 +36,14 @@ module _ (stands : Bool) (row : List ℤ) (answer : Answer) where
 
   pub no-choices : stands ≡ false → Given (ifChoices stands answer) row row 101
   no-choices h = rw h (record { number = refl; row = refl })
+
+-- an answer where a row is a book, and where it is not
+module _ (stands : Bool) (row : List ℤ) (answer : Answer) where
+  pub by-book : {new : List ℤ} {r : ℕ} → stands ≡ true → Given answer row new r → Given (ifBook stands answer) row new r
+  by-book h given = rw h given
+
+  pub no-book : stands ≡ false → Given (ifBook stands answer) row row 102
+  no-book h = rw h (record { number = refl; row = refl })
 
 -- an answer in its row and numbers in a second one
 module _ (n : ℕ) (row more numbers : List ℤ) (answer : Answer) where

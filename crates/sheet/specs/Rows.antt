@@ -1,5 +1,5 @@
 -- The specification's answers as numbers: what a function returns, and the numbers that it lays over the start of a lent row.
-use mathlib.Core.Bool.{Bool, false}
+use mathlib.Core.Bool.{Bool, true, false}
 use mathlib.Core.List.{List, [], _∷_, _++_, map}
 use mathlib.Core.Option.{Option, none, some}
 use mathlib.Core.Path.{_≡_}
@@ -10,6 +10,7 @@ use lib.ListN.{length, replicate}
 use lib.Seq.{sets}
 use Rattle.meaning.specs.Answers.{Answer, bytesCheck}
 use Rattle.meaning.specs.Bytes.{when, both}
+use Rattle.meaning.specs.OpenedBooks.{openedSize}
 use Rattle.meaning.specs.Reading.{StepUnit, itself, symbol, stepUnit}
 use Rattle.meaning.specs.Whole.{unitNumber, marked}
 use Rattle.meaning.specs.Writing.{Step, steps}
@@ -46,6 +47,10 @@ ofReading n = leb n 7
 
 abbrev pub ofCheck : ℕ → Bool
 ofCheck n = both (ofReading n) (eqb (n % 2) 0)
+
+-- whether a lent row is a book: an opened one, or an empty row, which stands for English
+abbrev pub isBook : List ℕ → Bool
+isBook book = when (eqb (length book) 0) true (eqb (length book) openedSize)
 
 -- whether a mask has the bit of a unit, of which there are fifteen; a number below 0 is no mask and has none
 abbrev pub isMarked : ℤ → ℕ → Bool

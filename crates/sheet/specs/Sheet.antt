@@ -1,5 +1,5 @@
 -- What each function for C and Rust promises of the number r that it returns and of the lent rows afterwards. Where a lent row
--- is too small for the answer, r is 100, where a number stands for no choices, 101, and nothing is altered.
+-- is too small for the answer, r is 100, where a number stands for no choices, 101, where a row is no book, 102, and nothing is altered.
 use mathlib.Core.Bool.{Bool}
 use mathlib.Core.List.{List, []}
 use mathlib.Core.Path.{_≡_}
@@ -10,7 +10,8 @@ use lib.ListN.{length}
 use Rattle.meaning.specs.Answers.{Answer, splitAnswer, wroteAnswer, readAnswer, offsetAnswer, dayNumberAnswer, dayAnswer, verdictAnswer}
 use Rattle.meaning.specs.Bytes.{when, both}
 use Rattle.meaning.specs.Days.{DayOf, dayNumber}
-use Rattle.meaning.specs.Names.{english}
+use Rattle.meaning.specs.Names.{Book, english}
+use Rattle.meaning.specs.OpenedBooks.{bookIn, openBook, openOutput, writeBook, bookOutput}
 use Rattle.meaning.specs.Trust.{Says}
 use Rattle.meaning.specs.Whole.{split, write, output, read, parseOffset}
 use Rattle.meaning.specs.declared.Choices.{Choices}
@@ -19,7 +20,7 @@ use Rattle.meaning.specs.declared.Edition.{Edition}
 use Rattle.meaning.specs.declared.Fields.{Fields}
 use Rattle.meaning.specs.declared.Pair.{Pair}
 use Rattle.meaning.specs.declared.Verdict.{Verdict}
-use Rattle.sheet.specs.Rows.{inRow, Given, laid, editionOf, choicesOf, ofReading, ofCheck, isMarked, splitNumbers, unitEntries}
+use Rattle.sheet.specs.Rows.{inRow, Given, laid, pairOf, editionOf, choicesOf, ofReading, ofCheck, isBook, isMarked, splitNumbers, unitEntries}
 
 -- whether a row has so many entries
 abbrev pub has : {A : Type 0} → ℕ → List A → Bool
@@ -33,21 +34,47 @@ ifRoom room answer = when room answer (record { number = 100; values = [] })
 abbrev pub ifChoices : Bool → Answer → Answer
 ifChoices stands answer = when stands answer (record { number = 101; values = [] })
 
-abbrev pub SheetWrites : Pair → List ℕ → Fields → List ℕ → List ℤ → ℕ → List ℕ → List ℤ → Type 0
-SheetWrites pair p f out row r outAfter rowAfter =
-    Given (ifRoom (has 2 row) (inRow 2 (wroteAnswer (write pair english p f out)))) row rowAfter r
-    × (outAfter ≡ when (has 2 row) (output pair english p f out) out)
+-- an answer where a row is a book
+abbrev pub ifBook : Bool → Answer → Answer
+ifBook stands answer = when stands answer (record { number = 102; values = [] })
+
+-- an answer of two numbers, and the bytes of an output where it is given
+abbrev pub WritesOut : Answer → List ℕ → List ℕ → List ℤ → ℕ → List ℕ → List ℤ → Type 0
+WritesOut answer text out row r outAfter rowAfter =
+    Given (ifRoom (has 2 row) (inRow 2 answer)) row rowAfter r × (outAfter ≡ when (has 2 row) text out)
+
+abbrev pub SheetWrites : Pair → Book → List ℕ → Fields → List ℕ → List ℤ → ℕ → List ℕ → List ℤ → Type 0
+SheetWrites pair book p f out = WritesOut (wroteAnswer (write pair book p f out)) (output pair book p f out) out
 
 -- the answer of a read
-abbrev pub readOf : Choices → List ℕ → List ℕ → ℤ → List ℤ → Answer
-readOf choices p s current row = ifRoom (has 48 row) (inRow 48 (readAnswer (read choices english p s current)))
+abbrev pub readOf : Choices → Book → List ℕ → List ℕ → ℤ → List ℤ → Answer
+readOf choices book p s current row = ifRoom (has 48 row) (inRow 48 (readAnswer (read choices book p s current)))
 
-abbrev pub SheetReads : Choices → List ℕ → List ℕ → ℤ → List ℤ → ℕ → List ℤ → Type 0
-SheetReads choices p s current row r rowAfter = Given (readOf choices p s current row) row rowAfter r
+abbrev pub SheetReads : Choices → Book → List ℕ → List ℕ → ℤ → List ℤ → ℕ → List ℤ → Type 0
+SheetReads choices book p s current row r rowAfter = Given (readOf choices book p s current row) row rowAfter r
 
 -- with choices by their number, where it is one
 abbrev pub SheetReadsWith : ℕ → List ℕ → List ℕ → ℤ → List ℤ → ℕ → List ℤ → Type 0
-SheetReadsWith n p s current row r rowAfter = Given (ifChoices (ofReading n) (readOf (choicesOf n) p s current row)) row rowAfter r
+SheetReadsWith n p s current row r rowAfter = Given (ifChoices (ofReading n) (readOf (choicesOf n) english p s current row)) row rowAfter r
+
+-- with the book of a lent row, where it is one
+
+abbrev pub SheetWritesBy : ℕ → List ℕ → List ℕ → Fields → List ℕ → List ℤ → ℕ → List ℕ → List ℤ → Type 0
+SheetWritesBy n book p f out row r outAfter rowAfter =
+    Given (ifChoices (ofReading n) (ifBook (isBook book) (ifRoom (has 2 row) (inRow 2 (wroteAnswer (write (pairOf n) (bookIn book) p f out)))))) row rowAfter r
+    × (outAfter ≡ when (both (ofReading n) (both (isBook book) (has 2 row))) (output (pairOf n) (bookIn book) p f out) out)
+
+abbrev pub SheetReadsBy : ℕ → List ℕ → List ℕ → List ℕ → ℤ → List ℤ → ℕ → List ℤ → Type 0
+SheetReadsBy n book p s current row r rowAfter =
+    Given (ifChoices (ofReading n) (ifBook (isBook book) (readOf (choicesOf n) (bookIn book) p s current row))) row rowAfter r
+
+abbrev pub SheetOpensBook : List ℕ → List ℕ → List ℤ → ℕ → List ℕ → List ℤ → Type 0
+SheetOpensBook s book = WritesOut (wroteAnswer (openBook s book)) (openOutput s book) book
+
+abbrev pub SheetWritesBook : List ℕ → List ℕ → List ℤ → ℕ → List ℕ → List ℤ → Type 0
+SheetWritesBook book out row r outAfter rowAfter =
+    Given (ifBook (isBook book) (ifRoom (has 2 row) (inRow 2 (wroteAnswer (writeBook book out))))) row rowAfter r
+    × (outAfter ≡ when (both (isBook book) (has 2 row)) (bookOutput book out) out)
 
 abbrev pub SheetTellsRead : ℤ → ℕ → ℕ → Type 0
 SheetTellsRead mask unit r = r ≡ when (isMarked mask unit) 1 0
@@ -71,7 +98,7 @@ SheetUnits p = InTwoRows (splitAnswer (split p)) (unitEntries p) 256
 -- an answer that `Says` allows, which leaves open the failing record
 pub record Checks (edition : Edition) (p : List ℕ) (current : ℤ) (answer : Verdict → Answer) (row : List ℤ) (r : ℕ) (rowAfter : List ℤ) : Type 0 where
   pub verdict : Verdict
-  pub says : Says edition english p current verdict
+  pub says : Says edition p current verdict
   pub given : Given (answer verdict) row rowAfter r
 
 abbrev pub verdictIn : List ℤ → Verdict → Answer

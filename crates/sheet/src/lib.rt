@@ -3,11 +3,14 @@
 pub mod answers;
 pub mod days;
 pub mod entries;
+pub mod named;
 pub mod readings;
 pub mod splits;
 pub mod units;
 pub mod verdicts;
 
+ghost use Rattle.meaning.specs.Names.{english};
+ghost use Rattle.meaning.specs.OpenedBooks.{bookIn};
 ghost use Rattle.meaning.specs.Whole.{plain};
 ghost use Rattle.sheet.specs.Sheet.{SheetWrites, SheetReads, SheetReadsWith, SheetParsesOffset, SheetSplits, SheetUnits, SheetChecks, SheetChecksWith, SheetTellsRead, SheetDay, SheetDayNumber};
 use crate::answers::give_offset;
@@ -33,22 +36,29 @@ use reader::plain;
 use verdict::verdict_on;
 use writer::format_with;
 
-fn write(pair: Pair, pattern: &[u8], f: Fields, out: &mut [u8], row: &mut [i64]) -> u32
-    ensures { λ r. ⌜ SheetWrites pair (now (pattern .entry)) f (now (out .entry)) (now (row .entry)) r (now (out .exit)) (now (row .exit)) ⌝ }
+fn write(pair: Pair, book: &[u8], pattern: &[u8], f: Fields, out: &mut [u8], row: &mut [i64]) -> u32
+    ensures { λ r. ⌜ SheetWrites pair (bookIn (now (book .entry))) (now (pattern .entry)) f (now (out .entry)) (now (row .entry)) r (now (out .exit)) (now (row .exit)) ⌝ }
 {
     if row.len() < 2 {
         return 100;
     }
-    give_wrote(format_with(pair, pattern, f, out), row)
+    give_wrote(format_with(pair, book, pattern, f, out), row)
 }
 
-fn read(choices: Choices, pattern: &[u8], text: &[u8], year: i32, row: &mut [i64]) -> u32
-    ensures { λ r. ⌜ SheetReads choices (now (pattern .entry)) (now (text .entry)) year (now (row .entry)) r (now (row .exit)) ⌝ }
+fn read(
+    choices: Choices,
+    book: &[u8],
+    pattern: &[u8],
+    text: &[u8],
+    year: i32,
+    row: &mut [i64],
+) -> u32
+    ensures { λ r. ⌜ SheetReads choices (bookIn (now (book .entry))) (now (pattern .entry)) (now (text .entry)) year (now (row .entry)) r (now (row .exit)) ⌝ }
 {
     if row.len() < 48 {
         return 100;
     }
-    give_reading(parse_with(choices, pattern, text, year), row)
+    give_reading(parse_with(choices, book, pattern, text, year), row)
 }
 
 // The full pair's writer. The row: the length and 0, or the refusal's details.
@@ -66,7 +76,7 @@ pub extern "C" fn sheet_write(
     out: &mut [u8],
     answer: &mut [i64],
 ) -> u32
-    ensures { λ r. ⌜ SheetWrites Pair.Full (now (pattern .entry)) (record { year = year; month = month; day = day; doy = doy; week = week; wday = wday; nanos = nanos; offset = offset }) (now (out .entry)) (now (answer .entry)) r (now (out .exit)) (now (answer .exit)) ⌝ }
+    ensures { λ r. ⌜ SheetWrites Pair.Full english (now (pattern .entry)) (record { year = year; month = month; day = day; doy = doy; week = week; wday = wday; nanos = nanos; offset = offset }) (now (out .entry)) (now (answer .entry)) r (now (out .exit)) (now (answer .exit)) ⌝ }
 {
     let f = Fields {
         year,
@@ -78,7 +88,8 @@ pub extern "C" fn sheet_write(
         nanos,
         offset,
     };
-    write(Pair::Full, pattern, f, out, answer)
+    let english: [u8; 0] = [];
+    write(Pair::Full, &english, pattern, f, out, answer)
 }
 
 // The Date pair's writer.
@@ -96,7 +107,7 @@ pub extern "C" fn sheet_write_date(
     out: &mut [u8],
     answer: &mut [i64],
 ) -> u32
-    ensures { λ r. ⌜ SheetWrites Pair.Date (now (pattern .entry)) (record { year = year; month = month; day = day; doy = doy; week = week; wday = wday; nanos = nanos; offset = offset }) (now (out .entry)) (now (answer .entry)) r (now (out .exit)) (now (answer .exit)) ⌝ }
+    ensures { λ r. ⌜ SheetWrites Pair.Date english (now (pattern .entry)) (record { year = year; month = month; day = day; doy = doy; week = week; wday = wday; nanos = nanos; offset = offset }) (now (out .entry)) (now (answer .entry)) r (now (out .exit)) (now (answer .exit)) ⌝ }
 {
     let f = Fields {
         year,
@@ -108,24 +119,27 @@ pub extern "C" fn sheet_write_date(
         nanos,
         offset,
     };
-    write(Pair::Date, pattern, f, out, answer)
+    let english: [u8; 0] = [];
+    write(Pair::Date, &english, pattern, f, out, answer)
 }
 
 // The full pair's reader. The row: the bytes read, the mask, how many units, the fifteen values, and for each unit where its part
 // began, from 18 on, and where it ended, from 33 on; or the refusal's details and zeros, 48 numbers in all.
 #[no_mangle]
 pub extern "C" fn sheet_read(pattern: &[u8], text: &[u8], year: i32, answer: &mut [i64]) -> u32
-    ensures { λ r. ⌜ SheetReads (plain Pair.Full) (now (pattern .entry)) (now (text .entry)) year (now (answer .entry)) r (now (answer .exit)) ⌝ }
+    ensures { λ r. ⌜ SheetReads (plain Pair.Full) english (now (pattern .entry)) (now (text .entry)) year (now (answer .entry)) r (now (answer .exit)) ⌝ }
 {
-    read(plain(Pair::Full), pattern, text, year, answer)
+    let english: [u8; 0] = [];
+    read(plain(Pair::Full), &english, pattern, text, year, answer)
 }
 
 // The Date pair's reader.
 #[no_mangle]
 pub extern "C" fn sheet_read_date(pattern: &[u8], text: &[u8], year: i32, answer: &mut [i64]) -> u32
-    ensures { λ r. ⌜ SheetReads (plain Pair.Date) (now (pattern .entry)) (now (text .entry)) year (now (answer .entry)) r (now (answer .exit)) ⌝ }
+    ensures { λ r. ⌜ SheetReads (plain Pair.Date) english (now (pattern .entry)) (now (text .entry)) year (now (answer .entry)) r (now (answer .exit)) ⌝ }
 {
-    read(plain(Pair::Date), pattern, text, year, answer)
+    let english: [u8; 0] = [];
+    read(plain(Pair::Date), &english, pattern, text, year, answer)
 }
 
 // A reader with choices, each a number, added: 1 for the Date pair, 2 for a strict reading, 4 for the second edition. The row as
@@ -143,7 +157,8 @@ pub extern "C" fn sheet_read_with(
     if 7 < choices {
         return 101;
     }
-    read(choices_of(choices), pattern, text, year, answer)
+    let english: [u8; 0] = [];
+    read(choices_of(choices), &english, pattern, text, year, answer)
 }
 
 // 1 where a unit was read, by the mask of a reading, the second number of its row; else 0.

@@ -1,4 +1,4 @@
-// Readings as rows of numbers, the choices of one as a number, and the mask of one looked at.
+// Readings as rows of numbers, the choices of one as a number, its book as a row, and the mask of one looked at.
 ghost use mathlib.Core.List.{_∷_, _++_, map};
 ghost use mathlib.Core.Path.{_≡_};
 ghost use Prim.Native.Nat.{_≤_};
@@ -7,7 +7,7 @@ ghost use lib.ListN.{length};
 ghost use Rattle.meaning.specs.Answers.{accepted, readAnswer};
 ghost use Rattle.meaning.specs.Whole.{unitNumber};
 ghost use Rattle.sheet.specs.Fits.{NumberFits, ReadFits};
-ghost use Rattle.sheet.specs.Rows.{inRow, Given, pairOf, editionOf, choicesOf, isMarked};
+ghost use Rattle.sheet.specs.Rows.{inRow, Given, pairOf, editionOf, choicesOf, isBook, isMarked};
 use crate::answers::give_refusal;
 use crate::entries::entry;
 use crate::entries::lay;
@@ -48,7 +48,14 @@ pub fn give_reading(reading: Reading, row: &mut [i64]) -> u32
     }
 }
 
-fn pair_of(number: u32) -> Pair
+// Whether a lent row is a book: an opened one, or none, which is English.
+pub fn is_book(book: &[u8]) -> bool
+    ensures { λ r. ⌜ r ≡ isBook (now (book .entry)) ⌝ }
+{
+    book.len() == 0 || book.len() == 1344
+}
+
+pub fn pair_of(number: u32) -> Pair
     ensures { λ r. ⌜ r ≡ pairOf number ⌝ }
 {
     if number % 2 == 1 {

@@ -7,7 +7,8 @@ use native.Mathlib.Omega.{arith}
 use lib.Dec.{ltb}
 use lib.IntN.{ℤ}
 use borrow.Author.Tests.{ltb-true, ltb-false}
-use Rattle.meaning.specs.Names.{Book}
+use Rattle.meaning.proofs.Books.{english-valid}
+use Rattle.meaning.specs.Names.{Book, english}
 use Rattle.meaning.specs.Trust.{Records, RealDay, AllComeBack, FailsFirst, fullPair, SaysOf, Says}
 use Rattle.meaning.specs.Writing.{Step}
 use Rattle.meaning.specs.declared.Checked.{Checked}
@@ -72,5 +73,6 @@ answers-of-coincide Counts choices book p current (Refuses why) (Refuses why′)
     cc
 
 -- and so are two answers of the check
-pub answers-coincide : (edition : Edition) (book : Book) (p : List ℕ) (current : ℤ) (v w : Verdict) → Says edition book p current v → Says edition book p current w → SameButRecord v w
-answers-coincide edition book p current v w a b = answers-of-coincide RealDay (fullPair edition false) book p current v w (a false) (b false)
+pub answers-coincide : (edition : Edition) (p : List ℕ) (current : ℤ) (v w : Verdict) → Says edition p current v → Says edition p current w → SameButRecord v w
+answers-coincide edition p current v w a b =
+    answers-of-coincide RealDay (fullPair edition false) english p current v w (a english english-valid false) (b english english-valid false)

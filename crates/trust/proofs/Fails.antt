@@ -10,7 +10,7 @@ use lib.IntN.{ℤ, pos, natAbs}
 use lib.ListN.{length, length-append}
 use borrow.Author.Tests.{leb-false, ltb-true, ltb-false, ne-eqb}
 use Rattle.meaning.specs.Bytes.{when, isDigit, digitAt, num, width, plus, minus}
-use Rattle.meaning.specs.Names.{english}
+use Rattle.meaning.specs.Names.{Book}
 use Rattle.meaning.specs.Numerals.{Signed, allDigits, numberOf}
 use Rattle.meaning.specs.Readers.{Reader, got, _>>=_, done, takeCount, reach, ahead, behindUtc, zoneSign}
 use Rattle.meaning.specs.Reading.{colonLength, twoDigitsMean, mostRead, passed, takenUnit, zoneBehind, zoneGroup, zoneSizeWith, zoneSize, takenZone, yearLength, digitRun, minusFirst, readRule, carriedRule}
@@ -116,9 +116,9 @@ run-past (b ∷ s) r all h =
 no-minus-first : (k n : ℕ) (r : List ℕ) → minusFirst (num k n ++ r) ≡ 0
 no-minus-first k n r = no-minus (num k n) r (all-num k n) (num-some k n)
 
-years-fail : (edition : Edition) (current k : ℕ) (r : List ℕ) → digitAt 0 r ≡ true → Back edition current (Years k) shortNumbers r → ⊥
+years-fail : (edition : Edition) (book : Book) (current k : ℕ) (r : List ℕ) → digitAt 0 r ≡ true → Back edition book current (Years k) shortNumbers r → ⊥
 unfolding readRule ruleText
-years-fail edition current k r digit e =
+years-fail edition book current k r digit e =
     let s = num k 2024 in
     let taken : length s ≡ 0 + digitRun (s ++ r)
     = rw (no-minus-first k 2024 r) at (takes-got (yearLength (s ++ r)) (takes-full-year (yearLength (s ++ r)) (s ++ r)) e) in
@@ -128,19 +128,19 @@ seven-digits : (k : ℕ) → 7 ≤ length (num k 1000001)
 unfolding width
 seven-digits k = rw length-num (omega arith)
 
-fixed-year-fails : (edition : Edition) (current k : ℕ) (r : List ℕ) → k < 7 → Back edition current (FixedYear k) longYear r → ⊥
+fixed-year-fails : (edition : Edition) (book : Book) (current k : ℕ) (r : List ℕ) → k < 7 → Back edition book current (FixedYear k) longYear r → ⊥
 unfolding readRule ruleText
-fixed-year-fails edition current k r short e =
+fixed-year-fails edition book current k r short e =
     let s = num k 1000001 in
     let taken : length s ≡ 0 + k
     = rw (no-minus-first k 1000001 r) at (takes-got (minusFirst (s ++ r) + k) (takes-full-year (minusFirst (s ++ r) + k) (s ++ r)) e) in
     omega (arith, seven-digits k)
 
 -- yy reads 01 as a year that is no later than the last of its millennium, or of its window
-two-digit-read : (edition : Edition) (current : ℕ) (r : List ℕ) → readRule edition english current TwoDigitYear (twoDigitText (pos 1000001) ++ r)
+two-digit-read : (edition : Edition) (book : Book) (current : ℕ) (r : List ℕ) → readRule edition book current TwoDigitYear (twoDigitText (pos 1000001) ++ r)
     ≡ got 2 (carried.Value unit.Year (twoDigitsMean edition current (pos 1)))
 unfolding readRule twoDigitText num numberOf
-two-digit-read edition current r =
+two-digit-read edition book current r =
     let n : Signed = record { negative = false; size = 1 } in
     let s : List ℕ = 48 ∷ 49 ∷ r in
     rw (take-goes-on Year 2 s n (omega arith) refl)
@@ -150,11 +150,11 @@ unfolding twoDigitsMean
 two-digits-few First current small = omega arith
 two-digits-few Second current small = omega arith
 
-two-digit-year-fails : (edition : Edition) (current : ℕ) → current ≤ 9999 → (r : List ℕ) → Back edition current TwoDigitYear longYear r → ⊥
+two-digit-year-fails : (edition : Edition) (book : Book) (current : ℕ) → current ≤ 9999 → (r : List ℕ) → Back edition book current TwoDigitYear longYear r → ⊥
 unfolding ruleText carriedRule
-two-digit-year-fails edition current small r e =
+two-digit-year-fails edition book current small r e =
     let same : got 2 (carried.Value unit.Year (twoDigitsMean edition current (pos 1))) ≡ got (length (twoDigitText (pos 1000001))) (carried.Value unit.Year (pos 1000001))
-    = sym (two-digit-read edition current r) ∙ e in
+    = sym (two-digit-read edition book current r) ∙ e in
     let year : twoDigitsMean edition current (pos 1) ≡ pos 1000001 = cc in
     omega (arith, two-digits-few edition current small, ap natAbs year)
 
@@ -195,7 +195,7 @@ record WholeHours (z : ℤ) : Type 0 where
   few : hours < 100
   size : natAbs z ≡ hours * 3600
 
-module _ (edition : Edition) (current : ℕ) (utc colon : Bool) (minutes seconds : Group) (no-seconds : groupText colon seconds 0 ≡ []) {z : ℤ} (whole : WholeHours z) (r : List ℕ) (missing : MissingTaken colon minutes seconds r) where
+module _ (edition : Edition) (book : Book) (current : ℕ) (utc colon : Bool) (minutes seconds : Group) (no-seconds : groupText colon seconds 0 ≡ []) {z : ℤ} (whole : WholeHours z) (r : List ℕ) (missing : MissingTaken colon minutes seconds r) where
   hours-text : zoneText utc colon minutes seconds z
       ≡ when (isMinus colon minutes seconds z) minus plus ∷ num 2 (whole .hours) ++ groupText colon minutes 0
   unfolding offsetDigits offsetText
@@ -223,7 +223,7 @@ module _ (edition : Edition) (current : ℕ) (utc colon : Bool) (minutes seconds
       (takes-behind-sign negative k size s
       (takes-then (length m + (colonLength colon + 2)) (takeCount 2) _ hh (m ++ r) (two-digits (whole .hours) (m ++ r) (whole .few)) (missing (whole .hours)))))
 
-  missing-group-fails : (c : Carried) → readRule edition english current (Zone utc colon minutes seconds) (zoneText utc colon minutes seconds z ++ r)
+  missing-group-fails : (c : Carried) → readRule edition book current (Zone utc colon minutes seconds) (zoneText utc colon minutes seconds z ++ r)
       ≡ got (length (zoneText utc colon minutes seconds z)) c → ⊥
   unfolding readRule
   missing-group-fails c e =
@@ -242,37 +242,37 @@ digit-in-place : (colon : Bool) (r : List ℕ) → Shown (groupNeed colon NotZer
 digit-in-place true r shown = shown
 digit-in-place false r shown = shown
 
-zone-fails : (edition : Edition) (current : ℕ) (utc colon : Bool) (minutes seconds : Group) → zoneFits minutes seconds ≡ true → (r : List ℕ)
+zone-fails : (edition : Edition) (book : Book) (current : ℕ) (utc colon : Bool) (minutes seconds : Group) → zoneFits minutes seconds ≡ true → (r : List ℕ)
     → Shown (groupNeed colon (lastGroup minutes seconds)) r
-    → Back edition current (Zone utc colon minutes seconds) (witness (groupNeed colon (lastGroup minutes seconds))) r → ⊥
+    → Back edition book current (Zone utc colon minutes seconds) (witness (groupNeed colon (lastGroup minutes seconds))) r → ⊥
 unfolding ruleText
-zone-fails edition current utc colon Never seconds fit r shown e = true-is-not-false (sym fit)
-zone-fails edition current utc colon NotZero Never fit r shown e =
-    missing-group-fails edition current utc colon NotZero Never refl (witness-hours (groupNeed colon NotZero)) r
+zone-fails edition book current utc colon Never seconds fit r shown e = true-is-not-false (sym fit)
+zone-fails edition book current utc colon NotZero Never fit r shown e =
+    missing-group-fails edition book current utc colon NotZero Never refl (witness-hours (groupNeed colon NotZero)) r
     (missing-minutes colon r (digit-in-place colon r shown)) _ e
-zone-fails edition current utc colon NotZero NotZero fit r shown e = true-is-not-false (sym fit)
-zone-fails edition current utc colon NotZero Always fit r shown e = true-is-not-false (sym fit)
-zone-fails edition current utc colon Always Never fit r shown e = shown
-zone-fails edition current utc colon Always NotZero fit r shown e =
-    missing-group-fails edition current utc colon Always NotZero refl (witness-hours (groupNeed colon NotZero)) r
+zone-fails edition book current utc colon NotZero NotZero fit r shown e = true-is-not-false (sym fit)
+zone-fails edition book current utc colon NotZero Always fit r shown e = true-is-not-false (sym fit)
+zone-fails edition book current utc colon Always Never fit r shown e = shown
+zone-fails edition book current utc colon Always NotZero fit r shown e =
+    missing-group-fails edition book current utc colon Always NotZero refl (witness-hours (groupNeed colon NotZero)) r
     (missing-seconds colon r (digit-in-place colon r shown)) _ e
-zone-fails edition current utc colon Always Always fit r shown e = shown
+zone-fails edition book current utc colon Always Always fit r shown e = shown
 
 -- every rule
 
-pub rule-fails : (edition : Edition) (current : ℕ) → current ≤ 9999 → (rule : Rule) → fits rule ≡ true → (r : List ℕ) → Shown (ruleNeed edition rule) r
-    → Back edition current rule (witness (ruleNeed edition rule)) r → ⊥
+pub rule-fails : (edition : Edition) (book : Book) (current : ℕ) → current ≤ 9999 → (rule : Rule) → fits book rule ≡ true → (r : List ℕ) → Shown (ruleNeed edition rule) r
+    → Back edition book current rule (witness (ruleNeed edition rule)) r → ⊥
 unfolding fits ruleNeed readRule ruleText carriedRule reached
-rule-fails edition current small (Number q least most u z) fit r shown e =
-    number-fails q least (mostRead edition q most) (read-fits q least most u z fit edition) r u z _ shown e
-rule-fails edition current small (SkippedNumber q least most) fit r shown e = skipped-number-fails q least most fit r _ shown e
-rule-fails edition current small LetterQuarter fit r shown e = shown
-rule-fails edition current small (SkippedName l n) fit r shown e = shown
-rule-fails edition current small (MatchedName l) fit r shown e = shown
-rule-fails edition current small (Letters l n) fit r shown e = shown
-rule-fails edition current small (Years k) fit r shown e = years-fail edition current k r shown e
-rule-fails edition current small (FixedYear k) fit r shown e =
-    when-is (λ need. Shown need r → Back edition current (FixedYear k) (witness need) r → ⊥) (leb 7 k) (λ _ h _. h)
-    (λ short _ d. fixed-year-fails edition current k r (leb-false 7 k short) d) shown e
-rule-fails edition current small TwoDigitYear fit r shown e = two-digit-year-fails edition current small r e
-rule-fails edition current small (Zone utc colon minutes seconds) fit r shown e = zone-fails edition current utc colon minutes seconds fit r shown e
+rule-fails edition book current small (Number q least most u z) fit r shown e =
+    number-fails q least (mostRead edition q most) (read-fits q least most u z book fit edition) r u z _ shown e
+rule-fails edition book current small (SkippedNumber q least most) fit r shown e = skipped-number-fails q least most fit r _ shown e
+rule-fails edition book current small LetterQuarter fit r shown e = shown
+rule-fails edition book current small (SkippedName l n) fit r shown e = shown
+rule-fails edition book current small (MatchedName l) fit r shown e = shown
+rule-fails edition book current small (Letters l n) fit r shown e = shown
+rule-fails edition book current small (Years k) fit r shown e = years-fail edition book current k r shown e
+rule-fails edition book current small (FixedYear k) fit r shown e =
+    when-is (λ need. Shown need r → Back edition book current (FixedYear k) (witness need) r → ⊥) (leb 7 k) (λ _ h _. h)
+    (λ short _ d. fixed-year-fails edition book current k r (leb-false 7 k short) d) shown e
+rule-fails edition book current small TwoDigitYear fit r shown e = two-digit-year-fails edition book current small r e
+rule-fails edition book current small (Zone utc colon minutes seconds) fit r shown e = zone-fails edition book current utc colon minutes seconds fit r shown e

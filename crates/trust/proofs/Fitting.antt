@@ -7,7 +7,9 @@ use Prim.Native.Nat.{ℕ, zero, suc, _<_}
 use native.Mathlib.Omega.{arith}
 use lib.Dec.{eqb}
 use lib.ListN.{length, drop, replicate, length-replicate}
+use Rattle.meaning.specs.Books.{Valid}
 use Rattle.meaning.specs.Bytes.{both, quote}
+use Rattle.meaning.specs.Names.{Book}
 use Rattle.meaning.specs.Rules.{roleOf}
 use Rattle.meaning.specs.Splitting.{Element, byte, escaped, single, elementOf, elements, Content, run, quotes, quoted, unclosed, joinByte, joinEscaped, joinInside, outside, inside}
 use Rattle.meaning.specs.Trust.{partAt}
@@ -19,16 +21,17 @@ use Rattle.meaning.specs.declared.Rule.{Rule}
 use Rattle.laws.proofs.Splitting.{elements-step, elements-escaped}
 use Rattle.laws.proofs.Table.{RoleHas}
 use Rattle.laws.proofs.Tests.{by-test, when-is}
-use Rattle.trust.proofs.Table.{fits, role-fits}
+use Rattle.trust.proofs.BookTable.{role-fits}
+use Rattle.trust.proofs.Table.{fits}
 
-pub data Fitting : List Step → Type 0 where
-  no-parts : Fitting []
-  symbol-first : {rule : Rule} {ss : List Step} → fits rule ≡ true → Fitting ss → Fitting (field rule ∷ ss)
-  literal-first : {s : List ℕ} {ss : List Step} → 0 < length s → Fitting ss → Fitting (literal s false ∷ ss)
-  open-last : {s : List ℕ} {lost : Bool} → lost ≡ endsInQuote s → Fitting (literal s lost ∷ [])
+pub data Fitting (book : Book) : List Step → Type 0 where
+  no-parts : Fitting book []
+  symbol-first : {rule : Rule} {ss : List Step} → fits book rule ≡ true → Fitting book ss → Fitting book (field rule ∷ ss)
+  literal-first : {s : List ℕ} {ss : List Step} → 0 < length s → Fitting book ss → Fitting book (literal s false ∷ ss)
+  open-last : {s : List ℕ} {lost : Bool} → lost ≡ endsInQuote s → Fitting book (literal s lost ∷ [])
 
 -- the same from part i on
-pub fitting-from : {ss : List Step} → Fitting ss → (i : ℕ) → i < length ss → Fitting (partAt ss i ∷ drop (suc i) ss)
+pub fitting-from : {book : Book} {ss : List Step} → Fitting book ss → (i : ℕ) → i < length ss → Fitting book (partAt ss i ∷ drop (suc i) ss)
 fitting-from no-parts i h = absurd (omega arith)
 fitting-from (symbol-first e r) zero h = symbol-first e r
 fitting-from (symbol-first e r) (suc i) h = fitting-from r i (omega arith)
@@ -141,18 +144,18 @@ mutual
 times-some : (n b : ℕ) → 0 < n → 0 < length (replicate n b)
 times-some n b h = rw length-replicate h
 
-run-fitting : (r : Role) (b n : ℕ) {ss : List Step} → RoleHas (λ rule. fits rule ≡ true) r → 0 < n → Fitting ss → Fitting (runStep r b n ∷ ss)
+run-fitting : {book : Book} (r : Role) (b n : ℕ) {ss : List Step} → RoleHas (λ rule. fits book rule ≡ true) r → 0 < n → Fitting book ss → Fitting book (runStep r b n ∷ ss)
 run-fitting role.Literal b n e h rest = literal-first (times-some n b h) rest
 run-fitting (role.Symbol rule) b n e h rest = symbol-first e rest
 
-filled-fitting : (cs : List Content) → Filled cs → Fitting (map (stepOf Full) cs)
+filled-fitting : (book : Book) → Valid book → (cs : List Content) → Filled cs → Fitting book (map (stepOf Full) cs)
 unfolding Filled stepOf
-filled-fitting [] h = no-parts
-filled-fitting (run b n ∷ cs) h = run-fitting (roleOf Full b n) b n (role-fits b n) (h .0) (filled-fitting cs (h .1))
-filled-fitting (quotes n ∷ cs) h = literal-first (times-some n quote (h .0)) (filled-fitting cs (h .1))
-filled-fitting (quoted s ∷ cs) h = literal-first (h .0) (filled-fitting cs (h .1))
-filled-fitting (unclosed s ∷ cs) h = rw h (open-last refl)
+filled-fitting book v [] h = no-parts
+filled-fitting book v (run b n ∷ cs) h = run-fitting (roleOf Full b n) b n (role-fits book v b n) (h .0) (filled-fitting book v cs (h .1))
+filled-fitting book v (quotes n ∷ cs) h = literal-first (times-some n quote (h .0)) (filled-fitting book v cs (h .1))
+filled-fitting book v (quoted s ∷ cs) h = literal-first (h .0) (filled-fitting book v cs (h .1))
+filled-fitting book v (unclosed s ∷ cs) h = rw h (open-last refl)
 
-pub steps-fit : (p : List ℕ) → Fitting (steps Full p)
+pub steps-fit : (book : Book) → Valid book → (p : List ℕ) → Fitting book (steps Full p)
 unfolding steps
-steps-fit p = filled-fitting (outside (elements p)) (outside-filled (elements p) (elements-paired p))
+steps-fit book v p = filled-fitting book v (outside (elements p)) (outside-filled (elements p) (elements-paired p))

@@ -11,8 +11,9 @@ use native.Mathlib.Omega.{arith}
 use lib.IntN.{ℤ, natAbs}
 use lib.ListN.{length, length-append}
 use Rattle.meaning.specs.Answers.{currentYearCheck, patternCheck}
-use Rattle.meaning.specs.Names.{Book, english}
-use Rattle.meaning.specs.Trust.{RealDay, trustCheck, fullPair, Says}
+use Rattle.meaning.specs.Books.{Valid}
+use Rattle.meaning.specs.Names.{Book}
+use Rattle.meaning.specs.Trust.{RealDay, trustCheck, fullPair, SaysWith}
 use Rattle.meaning.specs.Whole.{Walk, walked, walk, text}
 use Rattle.meaning.specs.Writing.{Step, steps, stepText, texts}
 use Rattle.meaning.specs.declared.Checked.{Checked}
@@ -26,7 +27,7 @@ use Rattle.laws.proofs.Halves.{check-join, steps-join, text-join}
 use Rattle.laws.specs.Halves.{Beside}
 use Rattle.trust.proofs.Agreement.{told-yes}
 use Rattle.trust.proofs.Before.{BeginAlike, failing-join, failing-later, stand-in-alike, stand-in-holds, nothing-alike, nothing-holds, holds-alone, not-yes}
-use Rattle.trust.proofs.Verdicts.{verdict-says, told-as-checked}
+use Rattle.trust.proofs.Verdicts.{verdict-says-with, told-as-checked}
 use Rattle.trust.proofs.Walks.{walk-yes}
 use Rattle.trust.specs.Ahead.{digitFirst, digitSecond}
 use Rattle.trust.specs.Check.{firstFailing, verdictBy, verdictOf}
@@ -55,14 +56,14 @@ yes-alone edition p ts current =
     let ss = steps Full p in
     yes-by (trustCheck edition p current) (firstFailing edition 0 (ss ++ ts)) (firstFailing edition 0 ss) (holds-alone edition 0 ss ts)
 
--- `Says` and the check's own answer
+-- what is said with a book, and the check's own answer
 
-says-yes : (edition : Edition) (p : List ℕ) (current : ℤ) → Says edition english p current Yes → verdictOf edition p current ≡ Yes
-says-yes edition p current h =
-    told-yes (verdictOf edition p current) (told-as-checked edition p current false Yes (h false))
+says-yes : (book : Book) → Valid book → (edition : Edition) (p : List ℕ) (current : ℤ) → SaysWith book edition p current Yes → verdictOf edition p current ≡ Yes
+says-yes book valid edition p current h =
+    told-yes (verdictOf edition p current) (told-as-checked book valid edition p current false Yes (h false))
 
-yes-says : (edition : Edition) (p : List ℕ) (current : ℤ) → verdictOf edition p current ≡ Yes → Says edition english p current Yes
-yes-says edition p current e = rw e at (verdict-says edition p current)
+yes-says : (book : Book) → Valid book → (edition : Edition) (p : List ℕ) (current : ℤ) → verdictOf edition p current ≡ Yes → SaysWith book edition p current Yes
+yes-says book valid edition p current e = rw e at (verdict-says-with book valid edition p current)
 
 -- what parts give of their texts, one after the other, and behind k bytes more
 
@@ -129,47 +130,47 @@ module _ (edition : Edition) {p q : List ℕ} (beside : Beside p q) (current : �
       let t = both-yes (verdictBefore edition us p current) (later k (verdictOf edition q current)) (sym verdict-join ∙ h) in
       (yes-alone edition p us current (t .0), later-yes k (verdictOf edition q current) (t .1))
 
-  -- The same of what `Says` asks.
+  -- The same of what is said with a valid book.
+  module _ (book : Book) (valid : Valid book) where
+    pub says-halves : SaysWith book edition (p ++ q) current Yes → SaysWith book edition p current Yes × SaysWith book edition q current Yes
+    says-halves h =
+        let t = yes-halves (says-yes book valid edition (p ++ q) current h) in
+        (yes-says book valid edition p current (t .0), yes-says book valid edition q current (t .1))
 
-  pub says-halves : Says edition english (p ++ q) current Yes → Says edition english p current Yes × Says edition english q current Yes
-  says-halves h =
-      let t = yes-halves (says-yes edition (p ++ q) current h) in
-      (yes-says edition p current (t .0), yes-says edition q current (t .1))
+    pub says-join : digitFirst (steps Full q) ≡ false → digitSecond (steps Full q) ≡ false
+        → SaysWith book edition p current Yes → SaysWith book edition q current Yes → SaysWith book edition (p ++ q) current Yes
+    says-join first second a b =
+        yes-says book valid edition (p ++ q) current (verdict-no-digit first second ∙ rw (says-yes book valid edition p current a, says-yes book valid edition q current b))
 
-  pub says-join : digitFirst (steps Full q) ≡ false → digitSecond (steps Full q) ≡ false
-      → Says edition english p current Yes → Says edition english q current Yes → Says edition english (p ++ q) current Yes
-  says-join first second a b =
-      yes-says edition (p ++ q) current (verdict-no-digit first second ∙ rw (says-yes edition p current a, says-yes edition q current b))
+    -- Where the check says yes to the join, each half is read from its own text, and the join as the one and then the other, which
+    -- stands behind the first's text, by a strict reading and by a plain one.
+    module _ (strict : Bool) (says : SaysWith book edition (p ++ q) current Yes) (f : Fields) (real : RealDay f) where
+      abbrev reading : List ℕ → List ℕ → Walk
+      reading pattern s = walk (fullPair edition strict) book (natAbs current) 0 0 (steps Full pattern) s []
 
-  -- Where the check says yes to the join, each half is read from its own text, and the join as the one and then the other, which
-  -- stands behind the first's text, by a strict reading and by a plain one.
-  module _ (strict : Bool) (says : Says edition english (p ++ q) current Yes) (f : Fields) (real : RealDay f) where
-    abbrev reading : List ℕ → List ℕ → Walk
-    reading pattern s = walk (fullPair edition strict) english (natAbs current) 0 0 (steps Full pattern) s []
+      abbrev one : List ℕ
+      one = text Full book p f
 
-    abbrev one : List ℕ
-    one = text Full english p f
+      abbrev other : List ℕ
+      other = text Full book q f
 
-    abbrev other : List ℕ
-    other = text Full english q f
+      gave-join : gaveBy book f 0 (steps Full (p ++ q))
+          ≡ map (furtherOn (length one)) (gaveBy book f 0 (steps Full q)) ++ gaveBy book f 0 (steps Full p)
+      unfolding text
+      gave-join =
+          let start : 0 + length one ≡ length one + 0 = omega arith in
+          ap (gaveBy book f 0) (steps-join beside Full) ∙ ap reverse (gave-append book f 0 (steps Full p) (steps Full q))
+          ∙ reverse-append (gaveFrom book f 0 (steps Full p)) (gaveFrom book f (0 + length one) (steps Full q))
+          ∙ rw (start, gave-further book f (length one) 0 (steps Full q), map-reverseAux (furtherOn (length one)) (gaveFrom book f 0 (steps Full q)) [])
 
-    gave-join : gaveBy english f 0 (steps Full (p ++ q))
-        ≡ map (furtherOn (length one)) (gaveBy english f 0 (steps Full q)) ++ gaveBy english f 0 (steps Full p)
-    unfolding text
-    gave-join =
-        let start : 0 + length one ≡ length one + 0 = omega arith in
-        ap (gaveBy english f 0) (steps-join beside Full) ∙ ap reverse (gave-append english f 0 (steps Full p) (steps Full q))
-        ∙ reverse-append (gaveFrom english f 0 (steps Full p)) (gaveFrom english f (0 + length one) (steps Full q))
-        ∙ rw (start, gave-further english f (length one) 0 (steps Full q), map-reverseAux (furtherOn (length one)) (gaveFrom english f 0 (steps Full q)) [])
-
-    pub walk-join : (reading p one ≡ walked (length one) (gaveBy english f 0 (steps Full p)))
-        × (reading q other ≡ walked (length other) (gaveBy english f 0 (steps Full q)))
-        × (reading (p ++ q) (one ++ other)
-        ≡ walked (length one + length other)
-        (map (furtherOn (length one)) (gaveBy english f 0 (steps Full q)) ++ gaveBy english f 0 (steps Full p)))
-    walk-join =
-        let halves = says-halves says in (
-          walk-yes RealDay (fullPair edition strict) english p current (halves .0 strict) f real,
-          walk-yes RealDay (fullPair edition strict) english q current (halves .1 strict) f real,
-          rw (text-join beside Full english f, length-append one other, gave-join) at (walk-yes RealDay (fullPair edition strict) english (p ++ q) current (says strict) f real),
-        )
+      pub walk-join : (reading p one ≡ walked (length one) (gaveBy book f 0 (steps Full p)))
+          × (reading q other ≡ walked (length other) (gaveBy book f 0 (steps Full q)))
+          × (reading (p ++ q) (one ++ other)
+          ≡ walked (length one + length other)
+          (map (furtherOn (length one)) (gaveBy book f 0 (steps Full q)) ++ gaveBy book f 0 (steps Full p)))
+      walk-join =
+          let halves = says-halves says in (
+            walk-yes RealDay (fullPair edition strict) book p current (halves .0 strict) f real,
+            walk-yes RealDay (fullPair edition strict) book q current (halves .1 strict) f real,
+            rw (text-join beside Full book f, length-append one other, gave-join) at (walk-yes RealDay (fullPair edition strict) book (p ++ q) current (says strict) f real),
+          )

@@ -1,6 +1,7 @@
 pub mod Agreement
 pub mod Ahead
 pub mod Before
+pub mod BookTable
 pub mod CurrentYear
 pub mod Fails
 pub mod Fitting

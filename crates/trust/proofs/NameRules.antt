@@ -11,7 +11,7 @@ use lib.IntN.{pos}
 use lib.ListN.{length, getD, length-append}
 use lib.Seq.{take-at}
 use borrow.Author.Tests.{eqb-true, ltb-true, ltb-false, lt-ltb, le-ltb}
-use Rattle.meaning.specs.Names.{english, names}
+use Rattle.meaning.specs.Names.{Book, names}
 use Rattle.meaning.specs.Readers.{got, firstName, letters, matchName}
 use Rattle.meaning.specs.Reading.{monthAt, periodAt, nameCarries, periodOf, carriedName, readRule}
 use Rattle.meaning.specs.Writing.{secondOfDay, periodPlace, noonPlace, placeOf, nameText}
@@ -24,7 +24,6 @@ use Rattle.meaning.specs.declared.ParseUnit.the-variants as unit
 use Rattle.meaning.specs.declared.Rule.the-variants.{SkippedName, MatchedName, Letters}
 use Rattle.laws.proofs.Fields.{Allowed}
 use Rattle.laws.proofs.Names.{allApart, name-comes-back}
-use Rattle.laws.proofs.Places.{place-there}
 use Rattle.laws.proofs.Readers.{skip-goes-on}
 use Rattle.laws.proofs.Tests.{every-at, when-is}
 use Rattle.trust.proofs.Table.{sameLength}
@@ -96,28 +95,28 @@ letters-come-back k l i r apart there e =
 
 -- the three rules, before r
 
-module _ (edition : Edition) (current : ℕ) (l : NameList) (f : Fields) (h : Allowed f) (r : List ℕ) where
-  name-sameLength : (n : ℕ) → sameLength n l ≡ true → length (nameText english l f) ≡ n
+module _ (edition : Edition) (book : Book) (current : ℕ) (l : NameList) (f : Fields) (h : Allowed f) (there : placeOf l f < length (names book l)) (r : List ℕ) where
+  name-sameLength : (n : ℕ) → sameLength book n l ≡ true → length (nameText book l f) ≡ n
   unfolding sameLength nameText
   name-sameLength n e =
-      eqb-true (length (nameText english l f)) n
-      (every-at (λ name. eqb (length name) n) (names english l) [] e (placeOf l f) (place-there l f h))
+      eqb-true (length (nameText book l f)) n
+      (every-at (λ name. eqb (length name) n) (names book l) [] e (placeOf l f) there)
 
-  pub skipped-name-comes-back : (n : ℕ) → sameLength n l ≡ true
-      → readRule edition english current (SkippedName l n) (nameText english l f ++ r) ≡ got (length (nameText english l f)) Nothing
+  pub skipped-name-comes-back : (n : ℕ) → sameLength book n l ≡ true
+      → readRule edition book current (SkippedName l n) (nameText book l f ++ r) ≡ got (length (nameText book l f)) Nothing
   unfolding readRule
   skipped-name-comes-back n e =
-      let size : length (nameText english l f) ≡ n = name-sameLength n e in
-      rw (skip-goes-on n (nameText english l f ++ r) (simp length-append (omega arith)), add-zero, size)
+      let size : length (nameText book l f) ≡ n = name-sameLength n e in
+      rw (skip-goes-on n (nameText book l f ++ r) (simp length-append (omega arith)), add-zero, size)
 
-  pub matched-name-comes-back : allApart (names english l) ≡ true
-      → readRule edition english current (MatchedName l) (nameText english l f ++ r) ≡ got (length (nameText english l f)) (carriedName l f)
+  pub matched-name-comes-back : allApart (names book l) ≡ true
+      → readRule edition book current (MatchedName l) (nameText book l f ++ r) ≡ got (length (nameText book l f)) (carriedName l f)
   unfolding readRule nameText
   matched-name-comes-back apart =
-      rw (name-comes-back (names english l) (placeOf l f) r apart (place-there l f h), add-zero, name-carried l f h)
+      rw (name-comes-back (names book l) (placeOf l f) r apart there, add-zero, name-carried l f h)
 
-  pub letters-rule-comes-back : (n : ℕ) → sameLength n l ≡ true → allApart (names english l) ≡ true
-      → readRule edition english current (Letters l n) (nameText english l f ++ r) ≡ got (length (nameText english l f)) (carriedName l f)
+  pub letters-rule-comes-back : (n : ℕ) → sameLength book n l ≡ true → allApart (names book l) ≡ true
+      → readRule edition book current (Letters l n) (nameText book l f ++ r) ≡ got (length (nameText book l f)) (carriedName l f)
   unfolding readRule nameText
   letters-rule-comes-back n e apart =
-      rw (letters-come-back n (names english l) (placeOf l f) r apart (place-there l f h) (name-sameLength n e), add-zero, name-carried l f h)
+      rw (letters-come-back n (names book l) (placeOf l f) r apart there (name-sameLength n e), add-zero, name-carried l f h)

@@ -11,7 +11,7 @@ use lib.IntN.{ℤ, natAbs}
 use lib.ListN.{length, List·getD-append}
 use borrow.Author.Tests.{eqb-true, leb-true, ltb-true, ltb-false, not-true}
 use Rattle.meaning.specs.Bytes.{when, both, digitAt, num, width, widthIn, digits}
-use Rattle.meaning.specs.Names.{english, names}
+use Rattle.meaning.specs.Names.{Book, english, names}
 use Rattle.meaning.specs.Writing.{isNegative, nameText, placeOf, offsetDigits, isMinus, offsetText, quantityOf, ruleText, signedText, twoDigitText, zoneText}
 use Rattle.meaning.specs.declared.Edition.the-variants.{First}
 use Rattle.meaning.specs.declared.Fields.{Fields}
@@ -61,32 +61,39 @@ agree : (a b : Bool) → when a b (not b) ≡ true → a ≡ b
 agree true b h = sym h
 agree false b h = sym (not-true b h)
 
-name-opens : (l : NameList) → namesFit l ≡ true → (f : Fields) → Allowed f → NameOpens l (nameText english l f)
+-- the name that a record asks for is there
+pub named-there : (book : Book) (l : NameList) → namesFit book l ≡ true → (f : Fields) → Allowed f → placeOf l f < length (names book l)
+unfolding namesFit
+named-there book l fit f h =
+    let many = eqb-true (length (names book l)) (length (names english l)) (both-true (eqb (length (names book l)) (length (names english l))) _ fit .0) in
+    rw many (place-there l f h)
+
+name-opens : (book : Book) (l : NameList) → namesFit book l ≡ true → (f : Fields) → Allowed f → NameOpens l (nameText book l f)
 unfolding namesFit nameText
-name-opens l fit f h =
-    let name = nameText english l f in
+name-opens book l fit f h =
+    let name = nameText book l f in
     let first = when (digitAt 0 name) (nameFirst l) (not (nameFirst l)) in
     let second = when (ltb (length name) 2) (hasLetters l) (not (digitAt 1 name)) in
-    let all = both-true (every (nameOpens l) (names english l)) _ fit .0 in
+    let all = both-true (every (nameOpens l) (names book l)) _ (both-true (eqb (length (names book l)) _) _ fit .1) .0 in
     let a = both-true (leb 1 (length name)) (both first second)
-    (every-at (nameOpens l) (names english l) [] all (placeOf l f) (place-there l f h)) in
+    (every-at (nameOpens l) (names book l) [] all (placeOf l f) (named-there book l fit f h)) in
     let b = both-true first second (a .1) in
     record { filled = leb-true 1 (length name) (a .0); first = agree (digitAt 0 name) (nameFirst l) (b .0); second = b .1 }
 
-name-first : (l : NameList) → namesFit l ≡ true → (f : Fields) → Allowed f → (t : List ℕ) → digitAt 0 (nameText english l f ++ t) ≡ nameFirst l
-name-first l fit f h t =
-    let o = name-opens l fit f h in
-    digit-within 0 (nameText english l f) t (omega (arith, o .filled)) ∙ o .first
+name-first : (book : Book) (l : NameList) → namesFit book l ≡ true → (f : Fields) → Allowed f → (t : List ℕ) → digitAt 0 (nameText book l f ++ t) ≡ nameFirst l
+name-first book l fit f h t =
+    let o = name-opens book l fit f h in
+    digit-within 0 (nameText book l f) t (omega (arith, o .filled)) ∙ o .first
 
 -- what is no digit behind a name of one byte
 left-behind : (a d : Bool) → a ≡ true → both a d ≡ false → d ≡ false
 left-behind a d e h = rw e at h
 
-name-second : (l : NameList) → namesFit l ≡ true → (f : Fields) → Allowed f → (d : Bool) (t : List ℕ) → both (hasLetters l) d ≡ false
-    → (d ≡ false → digitAt 0 t ≡ false) → digitAt 1 (nameText english l f ++ t) ≡ false
-name-second l fit f h d t e behind =
-    let name = nameText english l f in
-    let o = name-opens l fit f h in
+name-second : (book : Book) (l : NameList) → namesFit book l ≡ true → (f : Fields) → Allowed f → (d : Bool) (t : List ℕ) → both (hasLetters l) d ≡ false
+    → (d ≡ false → digitAt 0 t ≡ false) → digitAt 1 (nameText book l f ++ t) ≡ false
+name-second book l fit f h d t e behind =
+    let name = nameText book l f in
+    let o = name-opens book l fit f h in
     by-test (ltb (length name) 2)
     (λ k.
     behind-one name t (omega (arith, o .filled, ltb-true (length name) 2 k))
@@ -94,16 +101,16 @@ name-second l fit f h d t e behind =
     (λ k.
     digit-within 1 name t (omega (arith, ltb-false (length name) 2 k)) ∙ not-true (digitAt 1 name) (rw k at (o .second)))
 
-name-second-shown : (l : NameList) → namesFit l ≡ true → (t : List ℕ)
-    → digitAt 1 (nameText english l longNumbers ++ t) ≡ both (hasLetters l) (digitAt 0 t)
+name-second-shown : (book : Book) (l : NameList) → namesFit book l ≡ true → (t : List ℕ)
+    → digitAt 1 (nameText book l longNumbers ++ t) ≡ both (hasLetters l) (digitAt 0 t)
 unfolding namesFit
-name-second-shown l fit t =
-    let name = nameText english l longNumbers in
+name-second-shown book l fit t =
+    let name = nameText book l longNumbers in
     by-test (hasLetters l)
     (λ e.
-    let one : when (hasLetters l) (eqb (length name) 1) true ≡ true = both-true (every (nameOpens l) (names english l)) _ fit .1 in
+    let one : when (hasLetters l) (eqb (length name) 1) true ≡ true = both-true (every (nameOpens l) (names book l)) _ (both-true (eqb (length (names book l)) _) _ fit .1) .1 in
     behind-one name t (eqb-true (length name) 1 (rw e at one)) ∙ rw e)
-    (λ e. name-second l fit longNumbers long-numbers-allowed true t (rw e) (λ k. true-is-not-false k) ∙ rw e)
+    (λ e. name-second book l fit longNumbers long-numbers-allowed true t (rw e) (λ k. true-is-not-false k) ∙ rw e)
 
 -- numbers
 
@@ -169,46 +176,46 @@ zone-second-shown false colon minutes seconds t = refl
 -- every rule, before t
 
 -- The first byte, for every record where it can be no digit, and for one of a positive year where it can.
-pub rule-first : (rule : Rule) → fits rule ≡ true → (f : Fields) → Allowed f → (t : List ℕ)
-    → (ruleFirst rule ≡ true → isNegative (f .year) ≡ false) → digitAt 0 (ruleText english rule f ++ t) ≡ ruleFirst rule
+pub rule-first : (book : Book) (rule : Rule) → fits book rule ≡ true → (f : Fields) → Allowed f → (t : List ℕ)
+    → (ruleFirst rule ≡ true → isNegative (f .year) ≡ false) → digitAt 0 (ruleText book rule f ++ t) ≡ ruleFirst rule
 unfolding fits ruleFirst ruleText
-rule-first (Number q least most u z) fit f h t year = num-first least (quantityOf q f) t
-rule-first (SkippedNumber q least most) fit f h t year = num-first least (quantityOf q f) t
-rule-first LetterQuarter fit f h t year = unfold digitAt in refl
-rule-first (SkippedName l n) fit f h t year = name-first l (both-true (namesFit l) _ fit .0) f h t
-rule-first (MatchedName l) fit f h t year = name-first l (both-true (namesFit l) _ fit .0) f h t
-rule-first (Letters l n) fit f h t year = name-first l (both-true (namesFit l) _ fit .0) f h t
-rule-first (Years k) fit f h t year = year-first k (f .year) t (year refl)
-rule-first (FixedYear k) fit f h t year = year-first k (f .year) t (year refl)
-rule-first TwoDigitYear fit f h t year = two-digit-first (f .year) t (year refl)
-rule-first (Zone utc colon minutes seconds) fit f h t year = zone-first utc colon minutes seconds (f .offset) t
+rule-first book (Number q least most u z) fit f h t year = num-first least (quantityOf q f) t
+rule-first book (SkippedNumber q least most) fit f h t year = num-first least (quantityOf q f) t
+rule-first book LetterQuarter fit f h t year = unfold digitAt in refl
+rule-first book (SkippedName l n) fit f h t year = name-first book l (both-true (namesFit book l) _ fit .0) f h t
+rule-first book (MatchedName l) fit f h t year = name-first book l (both-true (namesFit book l) _ fit .0) f h t
+rule-first book (Letters l n) fit f h t year = name-first book l (both-true (namesFit book l) _ fit .0) f h t
+rule-first book (Years k) fit f h t year = year-first k (f .year) t (year refl)
+rule-first book (FixedYear k) fit f h t year = year-first k (f .year) t (year refl)
+rule-first book TwoDigitYear fit f h t year = two-digit-first (f .year) t (year refl)
+rule-first book (Zone utc colon minutes seconds) fit f h t year = zone-first utc colon minutes seconds (f .offset) t
 
 -- The second byte, where d says of the byte behind the rule's text that it can be a digit.
-pub rule-second : (rule : Rule) → fits rule ≡ true → (f : Fields) → Allowed f → (d : Bool) (t : List ℕ) → ruleSecond rule d ≡ false
-    → (d ≡ false → digitAt 0 t ≡ false) → digitAt 1 (ruleText english rule f ++ t) ≡ false
+pub rule-second : (book : Book) (rule : Rule) → fits book rule ≡ true → (f : Fields) → Allowed f → (d : Bool) (t : List ℕ) → ruleSecond rule d ≡ false
+    → (d ≡ false → digitAt 0 t ≡ false) → digitAt 1 (ruleText book rule f ++ t) ≡ false
 unfolding fits ruleSecond ruleText
-rule-second (Number q least most u z) fit f h d t e behind =
-    number-second q least _ (read-fits q least most u z fit First) f h d t e behind
-rule-second (SkippedNumber q least most) fit f h d t e behind = number-second q least most fit f h d t e behind
-rule-second LetterQuarter fit f h d t e behind = true-is-not-false e
-rule-second (SkippedName l n) fit f h d t e behind = name-second l (both-true (namesFit l) _ fit .0) f h d t e behind
-rule-second (MatchedName l) fit f h d t e behind = name-second l (both-true (namesFit l) _ fit .0) f h d t e behind
-rule-second (Letters l n) fit f h d t e behind = name-second l (both-true (namesFit l) _ fit .0) f h d t e behind
-rule-second (Years k) fit f h d t e behind = true-is-not-false e
-rule-second (FixedYear k) fit f h d t e behind = true-is-not-false e
-rule-second TwoDigitYear fit f h d t e behind = true-is-not-false e
-rule-second (Zone utc colon minutes seconds) fit f h d t e behind = true-is-not-false e
+rule-second book (Number q least most u z) fit f h d t e behind =
+    number-second q least _ (read-fits q least most u z book fit First) f h d t e behind
+rule-second book (SkippedNumber q least most) fit f h d t e behind = number-second q least most fit f h d t e behind
+rule-second book LetterQuarter fit f h d t e behind = true-is-not-false e
+rule-second book (SkippedName l n) fit f h d t e behind = name-second book l (both-true (namesFit book l) _ fit .0) f h d t e behind
+rule-second book (MatchedName l) fit f h d t e behind = name-second book l (both-true (namesFit book l) _ fit .0) f h d t e behind
+rule-second book (Letters l n) fit f h d t e behind = name-second book l (both-true (namesFit book l) _ fit .0) f h d t e behind
+rule-second book (Years k) fit f h d t e behind = true-is-not-false e
+rule-second book (FixedYear k) fit f h d t e behind = true-is-not-false e
+rule-second book TwoDigitYear fit f h d t e behind = true-is-not-false e
+rule-second book (Zone utc colon minutes seconds) fit f h d t e behind = true-is-not-false e
 
-pub rule-second-shown : (rule : Rule) → fits rule ≡ true → (t : List ℕ)
-    → digitAt 1 (ruleText english rule longNumbers ++ t) ≡ ruleSecond rule (digitAt 0 t)
+pub rule-second-shown : (book : Book) (rule : Rule) → fits book rule ≡ true → (t : List ℕ)
+    → digitAt 1 (ruleText book rule longNumbers ++ t) ≡ ruleSecond rule (digitAt 0 t)
 unfolding fits ruleSecond ruleText
-rule-second-shown (Number q least most u z) fit t = number-second-shown q least _ (read-fits q least most u z fit First) t
-rule-second-shown (SkippedNumber q least most) fit t = number-second-shown q least most fit t
-rule-second-shown LetterQuarter fit t = unfold digitAt in num-first 1 (quantityOf Quarter longNumbers) t
-rule-second-shown (SkippedName l n) fit t = name-second-shown l (both-true (namesFit l) _ fit .0) t
-rule-second-shown (MatchedName l) fit t = name-second-shown l (both-true (namesFit l) _ fit .0) t
-rule-second-shown (Letters l n) fit t = name-second-shown l (both-true (namesFit l) _ fit .0) t
-rule-second-shown (Years k) fit t = year-second k t
-rule-second-shown (FixedYear k) fit t = year-second k t
-rule-second-shown TwoDigitYear fit t = unfold twoDigitText digitAt num digits width widthIn in refl
-rule-second-shown (Zone utc colon minutes seconds) fit t = zone-second-shown utc colon minutes seconds t
+rule-second-shown book (Number q least most u z) fit t = number-second-shown q least _ (read-fits q least most u z book fit First) t
+rule-second-shown book (SkippedNumber q least most) fit t = number-second-shown q least most fit t
+rule-second-shown book LetterQuarter fit t = unfold digitAt in num-first 1 (quantityOf Quarter longNumbers) t
+rule-second-shown book (SkippedName l n) fit t = name-second-shown book l (both-true (namesFit book l) _ fit .0) t
+rule-second-shown book (MatchedName l) fit t = name-second-shown book l (both-true (namesFit book l) _ fit .0) t
+rule-second-shown book (Letters l n) fit t = name-second-shown book l (both-true (namesFit book l) _ fit .0) t
+rule-second-shown book (Years k) fit t = year-second k t
+rule-second-shown book (FixedYear k) fit t = year-second k t
+rule-second-shown book TwoDigitYear fit t = unfold twoDigitText digitAt num digits width widthIn in refl
+rule-second-shown book (Zone utc colon minutes seconds) fit t = zone-second-shown utc colon minutes seconds t

@@ -10,8 +10,8 @@ use lib.Dec.{leb, ltb}
 use lib.IntN.{pos}
 use lib.ListN.{length, length-append}
 use borrow.Author.Tests.{eq-eqb, ne-eqb, leb-true, ltb-false}
-use Rattle.meaning.specs.Bytes.{when, digitAt, num}
-use Rattle.meaning.specs.Names.{english, names}
+use Rattle.meaning.specs.Bytes.{when, both, digitAt, num}
+use Rattle.meaning.specs.Names.{Book, names}
 use Rattle.meaning.specs.Readers.{got, reach}
 use Rattle.meaning.specs.Reading.{zeroFor, carriedAs, mostRead, passed, takenUnit, readRule, carriedRule}
 use Rattle.meaning.specs.Writing.{hourOf, inPlaceOfZero, quantityOf, ruleText}
@@ -35,6 +35,7 @@ use Rattle.laws.proofs.Years.{years-come-back, fixed-year-comes-back}
 use Rattle.laws.proofs.Zones.{Free, zone-comes-back}
 use Rattle.laws.specs.Widths.{mostDigits}
 use Rattle.trust.proofs.NameRules.{skipped-name-comes-back, matched-name-comes-back, letters-rule-comes-back}
+use Rattle.trust.proofs.RulesAhead.{named-there}
 use Rattle.trust.proofs.Table.{zeroOf, numberFits, namesFit, sameLength, zoneFits, fits, read-fits, zero-fits, number-fits}
 use Rattle.trust.specs.Needs.{numberNeed, groupNeed, lastGroup, ruleNeed}
 use Rattle.trust.specs.declared.Need.{Need}
@@ -49,9 +50,9 @@ Met Broken r = ⊥
 Met LosesYear r = ⊥
 
 -- a rule's text comes back before r
-abbrev pub Back : Edition → ℕ → Rule → Fields → List ℕ → Type 0
-Back edition current rule f r =
-    readRule edition english current rule (ruleText english rule f ++ r) ≡ got (length (ruleText english rule f)) (carriedRule rule f)
+abbrev pub Back : Edition → Book → ℕ → Rule → Fields → List ℕ → Type 0
+Back edition book current rule f r =
+    readRule edition book current rule (ruleText book rule f ++ r) ≡ got (length (ruleText book rule f)) (carriedRule rule f)
 
 -- what a number carries
 
@@ -126,9 +127,9 @@ module _ (q : Quantity) (least most : ℕ) (fit : numberFits q least most ≡ tr
   skipped-number-comes-back =
       skipped-comes-back least most (num least (quantityOf q f)) r at-least (num-some least (quantityOf q f)) at-most (all-num least (quantityOf q f)) free
 
-letter-quarter-comes-back : (edition : Edition) (current : ℕ) (f : Fields) → Allowed f → (r : List ℕ) → Back edition current LetterQuarter f r
+letter-quarter-comes-back : (edition : Edition) (book : Book) (current : ℕ) (f : Fields) → Allowed f → (r : List ℕ) → Back edition book current LetterQuarter f r
 unfolding readRule ruleText carriedRule mostDigits
-letter-quarter-comes-back edition current f h r =
+letter-quarter-comes-back edition book current f h r =
     let n = quantityOf Quarter f in
     let size : length (num 1 n) ≡ 1 = num-fits 1 n (omega arith) (quantity-below Quarter f h) in
     rw (skip-goes-on 2 (code "Q" ∷ num 1 n ++ r) (simp length-append (omega arith)), add-zero)
@@ -145,37 +146,40 @@ group-free true NotZero r met = met
 group-free false NotZero r met = met
 group-free colon Always r met = tt
 
-zone-rule-comes-back : (edition : Edition) (current : ℕ) (utc colon : Bool) (minutes seconds : Group) → zoneFits minutes seconds ≡ true → (f : Fields) → Allowed f
-    → (r : List ℕ) → Met (groupNeed colon (lastGroup minutes seconds)) r → Back edition current (Zone utc colon minutes seconds) f r
+zone-rule-comes-back : (edition : Edition) (book : Book) (current : ℕ) (utc colon : Bool) (minutes seconds : Group) → zoneFits minutes seconds ≡ true → (f : Fields) → Allowed f
+    → (r : List ℕ) → Met (groupNeed colon (lastGroup minutes seconds)) r → Back edition book current (Zone utc colon minutes seconds) f r
 unfolding ruleText carriedRule
-zone-rule-comes-back edition current utc colon Never seconds fit f h r met = true-is-not-false (rw fit)
-zone-rule-comes-back edition current utc colon NotZero Never fit f h r met =
-    zone-comes-back edition english current utc colon NotZero Never refl (f .offset) r (h .offset) (group-free colon NotZero r met) tt
-zone-rule-comes-back edition current utc colon NotZero NotZero fit f h r met = true-is-not-false (rw fit)
-zone-rule-comes-back edition current utc colon NotZero Always fit f h r met = true-is-not-false (rw fit)
-zone-rule-comes-back edition current utc colon Always Never fit f h r met =
-    zone-comes-back edition english current utc colon Always Never refl (f .offset) r (h .offset) tt tt
-zone-rule-comes-back edition current utc colon Always NotZero fit f h r met =
-    zone-comes-back edition english current utc colon Always NotZero refl (f .offset) r (h .offset) tt (group-free colon NotZero r met)
-zone-rule-comes-back edition current utc colon Always Always fit f h r met =
-    zone-comes-back edition english current utc colon Always Always refl (f .offset) r (h .offset) tt tt
+zone-rule-comes-back edition book current utc colon Never seconds fit f h r met = true-is-not-false (rw fit)
+zone-rule-comes-back edition book current utc colon NotZero Never fit f h r met =
+    zone-comes-back edition book current utc colon NotZero Never refl (f .offset) r (h .offset) (group-free colon NotZero r met) tt
+zone-rule-comes-back edition book current utc colon NotZero NotZero fit f h r met = true-is-not-false (rw fit)
+zone-rule-comes-back edition book current utc colon NotZero Always fit f h r met = true-is-not-false (rw fit)
+zone-rule-comes-back edition book current utc colon Always Never fit f h r met =
+    zone-comes-back edition book current utc colon Always Never refl (f .offset) r (h .offset) tt tt
+zone-rule-comes-back edition book current utc colon Always NotZero fit f h r met =
+    zone-comes-back edition book current utc colon Always NotZero refl (f .offset) r (h .offset) tt (group-free colon NotZero r met)
+zone-rule-comes-back edition book current utc colon Always Always fit f h r met =
+    zone-comes-back edition book current utc colon Always Always refl (f .offset) r (h .offset) tt tt
 
 -- every rule
 
-pub rule-comes-back : (edition : Edition) (current : ℕ) (rule : Rule) → fits rule ≡ true → (f : Fields) → Allowed f → (r : List ℕ) → Met (ruleNeed edition rule) r → Back edition current rule f r
+pub rule-comes-back : (edition : Edition) (book : Book) (current : ℕ) (rule : Rule) → fits book rule ≡ true → (f : Fields) → Allowed f → (r : List ℕ) → Met (ruleNeed edition rule) r → Back edition book current rule f r
 unfolding fits ruleNeed readRule ruleText carriedRule
-rule-comes-back edition current (Number q least most u z) fit f h r met =
-    rw (zero-fits q least most u z fit) (number-comes-back q least (mostRead edition q most) (read-fits q least most u z fit edition) f h r met u)
-rule-comes-back edition current (SkippedNumber q least most) fit f h r met = skipped-number-comes-back q least most fit f h r met
-rule-comes-back edition current LetterQuarter fit f h r met = letter-quarter-comes-back edition current f h r
-rule-comes-back edition current (SkippedName l n) fit f h r met =
-    skipped-name-comes-back edition current l f h r n (both-true (namesFit l) (sameLength n l) fit .1)
-rule-comes-back edition current (MatchedName l) fit f h r met =
-    matched-name-comes-back edition current l f h r (both-true (namesFit l) (allApart (names english l)) fit .1)
-rule-comes-back edition current (Letters l n) fit f h r met =
-    let t = both-true (sameLength n l) (allApart (names english l)) (both-true (namesFit l) _ fit .1) in
-    letters-rule-comes-back edition current l f h r n (t .0) (t .1)
-rule-comes-back edition current (Years k) fit f h r met = years-come-back edition english current k (f .year) r (h .year .1) met
-rule-comes-back edition current (FixedYear k) fit f h r met = fixed-year-comes-back edition english current k (f .year) r (h .year .1) (seven k r met)
-rule-comes-back edition current TwoDigitYear fit f h r met = absurd met
-rule-comes-back edition current (Zone utc colon minutes seconds) fit f h r met = zone-rule-comes-back edition current utc colon minutes seconds fit f h r met
+rule-comes-back edition book current (Number q least most u z) fit f h r met =
+    rw (zero-fits q least most u z book fit) (number-comes-back q least (mostRead edition q most) (read-fits q least most u z book fit edition) f h r met u)
+rule-comes-back edition book current (SkippedNumber q least most) fit f h r met = skipped-number-comes-back q least most fit f h r met
+rule-comes-back edition book current LetterQuarter fit f h r met = letter-quarter-comes-back edition book current f h r
+rule-comes-back edition book current (SkippedName l n) fit f h r met =
+    let t = both-true (namesFit book l) (sameLength book n l) fit in
+    skipped-name-comes-back edition book current l f h (named-there book l (t .0) f h) r n (t .1)
+rule-comes-back edition book current (MatchedName l) fit f h r met =
+    let t = both-true (namesFit book l) (allApart (names book l)) fit in
+    matched-name-comes-back edition book current l f h (named-there book l (t .0) f h) r (t .1)
+rule-comes-back edition book current (Letters l n) fit f h r met =
+    let s = both-true (namesFit book l) (both (sameLength book n l) (allApart (names book l))) fit in
+    let t = both-true (sameLength book n l) (allApart (names book l)) (s .1) in
+    letters-rule-comes-back edition book current l f h (named-there book l (s .0) f h) r n (t .0) (t .1)
+rule-comes-back edition book current (Years k) fit f h r met = years-come-back edition book current k (f .year) r (h .year .1) met
+rule-comes-back edition book current (FixedYear k) fit f h r met = fixed-year-comes-back edition book current k (f .year) r (h .year .1) (seven k r met)
+rule-comes-back edition book current TwoDigitYear fit f h r met = absurd met
+rule-comes-back edition book current (Zone utc colon minutes seconds) fit f h r met = zone-rule-comes-back edition book current utc colon minutes seconds fit f h r met

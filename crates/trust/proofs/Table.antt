@@ -1,33 +1,29 @@
--- The table's rules are in order: one test of a rule, computed for each row, lifted to whatever a run of bytes does. The laws
--- of the check ask for nothing else of a rule.
+-- When a rule of the table is in order, with a book: one test of a rule. The laws of the check ask for nothing else of a rule.
 use mathlib.Core.Bool.{Bool, true, false, not}
 use mathlib.Core.List.{List}
-use mathlib.Core.Path.{_≡_, refl}
+use mathlib.Core.Path.{_≡_}
 use Prim.Native.Nat.{ℕ, _≤_, _<_}
 use lib.Dec.{eqb, leb, ltb}
 use lib.ListN.{length}
 use borrow.Author.Tests.{eqb-true, leb-true, lt-ltb, ltb-true}
 use Rattle.meaning.specs.Bytes.{when, both, digitAt, num}
-use Rattle.meaning.specs.Names.{english, names}
+use Rattle.meaning.specs.Names.{Book, english, names}
 use Rattle.meaning.specs.Reading.{mostRead}
-use Rattle.meaning.specs.Rules.{roleOf}
 use Rattle.meaning.specs.Writing.{quantityOf, nameText}
 use Rattle.meaning.specs.declared.Edition.the-variants.{First, Second}
 use Rattle.meaning.specs.declared.Edition.{Edition}
 use Rattle.meaning.specs.declared.Group.{Group}
 use Rattle.meaning.specs.declared.Group.the-variants.{Never, NotZero, Always}
 use Rattle.meaning.specs.declared.NameList.{NameList}
-use Rattle.meaning.specs.declared.Pair.the-variants.{Full}
 use Rattle.meaning.specs.declared.ParseUnit.{ParseUnit}
 use Rattle.meaning.specs.declared.Quantity.{Quantity}
 use Rattle.meaning.specs.declared.Quantity.the-variants.{Month, Quarter, Week, Day, DayOfYear, Weekday, WeekdayFromMonday, Hour1To12, Hour0To11, Hour0To23, Hour1To24, Minute, Second, Fraction}
 use Rattle.meaning.specs.declared.Rule.{Rule}
 use Rattle.meaning.specs.declared.Rule.the-variants.{Number, SkippedNumber, LetterQuarter, SkippedName, MatchedName, Letters, Years, FixedYear, TwoDigitYear, Zone}
 use Rattle.laws.proofs.Names.{allApart}
-use Rattle.laws.proofs.Table.{RoleHas, tablePasses, symbolPasses, role-passes}
 use Rattle.laws.proofs.Tests.{both-true, every}
 use Rattle.laws.specs.Widths.{mostDigits}
-use Rattle.trust.specs.Ahead.{opening, nameFirst, hasLetters}
+use Rattle.trust.specs.Ahead.{nameFirst, hasLetters}
 use Rattle.trust.specs.Check.{shortNumbers, longNumbers}
 
 -- the number that a quantity writes for zero
@@ -60,14 +56,19 @@ nameOpens l name =
     both (leb 1 (length name))
     (both (when (digitAt 0 name) (nameFirst l) (not (nameFirst l))) (when (ltb (length name) 2) (hasLetters l) (not (digitAt 1 name))))
 
-unfoldable pub namesFit : NameList → Bool
+-- where names can have one letter, that of the record with long numbers has
+abbrev pub oneLetter : Book → NameList → Bool
+oneLetter book l = when (hasLetters l) (eqb (length (nameText book l longNumbers)) 1) true
+
+-- as many names as English has, and each opens so
+unfoldable pub namesFit : Book → NameList → Bool
 unfolding nameOpens
-namesFit l =
-    both (every (nameOpens l) (names english l)) (when (hasLetters l) (eqb (length (nameText english l longNumbers)) 1) true)
+namesFit book l =
+    both (eqb (length (names book l)) (length (names english l))) (both (every (nameOpens l) (names book l)) (oneLetter book l))
 
 -- each name has n bytes
-unfoldable pub sameLength : ℕ → NameList → Bool
-sameLength n l = every (λ name. eqb (length name) n) (names english l)
+unfoldable pub sameLength : Book → ℕ → NameList → Bool
+sameLength book n l = every (λ name. eqb (length name) n) (names book l)
 
 -- minutes may be missing only where no seconds follow
 abbrev pub zoneFits : Group → Group → Bool
@@ -85,20 +86,20 @@ pub in-either : (test : Edition → Bool) → inBoth test ≡ true → (edition 
 in-either test h First = both-true (test First) (test Second) h .0
 in-either test h Second = both-true (test First) (test Second) h .1
 
-unfoldable pub fits : Rule → Bool
-fits (Number q least most u z) = both (inBoth (λ edition. numberFits q least (mostRead edition q most))) (eqb z (zeroOf q))
-fits (SkippedNumber q least most) = numberFits q least most
-fits LetterQuarter = true
-fits (SkippedName l n) = both (namesFit l) (sameLength n l)
-fits (MatchedName l) = both (namesFit l) (allApart (names english l))
-fits (Letters l n) = both (namesFit l) (both (sameLength n l) (allApart (names english l)))
-fits (Years k) = true
-fits (FixedYear k) = true
-fits TwoDigitYear = true
-fits (Zone utc colon minutes seconds) = zoneFits minutes seconds
+unfoldable pub fits : Book → Rule → Bool
+fits book (Number q least most u z) = both (inBoth (λ edition. numberFits q least (mostRead edition q most))) (eqb z (zeroOf q))
+fits book (SkippedNumber q least most) = numberFits q least most
+fits book LetterQuarter = true
+fits book (SkippedName l n) = both (namesFit book l) (sameLength book n l)
+fits book (MatchedName l) = both (namesFit book l) (allApart (names book l))
+fits book (Letters l n) = both (namesFit book l) (both (sameLength book n l) (allApart (names book l)))
+fits book (Years k) = true
+fits book (FixedYear k) = true
+fits book TwoDigitYear = true
+fits book (Zone utc colon minutes seconds) = zoneFits minutes seconds
 
 -- a number that is read fits in either edition, and reads zero for what stands for it
-module _ (q : Quantity) (least most : ℕ) (u : ParseUnit) (z : ℕ) (fit : fits (Number q least most u z) ≡ true) where
+module _ (q : Quantity) (least most : ℕ) (u : ParseUnit) (z : ℕ) (book : Book) (fit : fits book (Number q least most u z) ≡ true) where
   abbrev readFits : Edition → Bool
   readFits edition = numberFits q least (mostRead edition q most)
 
@@ -135,17 +136,3 @@ number-fits q least most h =
       short = λ l. ltb-true written most (rw (lt-ltb least most l) at (d .0));
       long = leb-true (mostDigits q) (length (num least (quantityOf q longNumbers))) (d .1);
     }
-
--- the whole table
-
-table-fits : tablePasses (symbolPasses fits) ≡ true
-unfolding fits mostRead numberFits namesFit sameLength allApart english opening nameFirst hasLetters mostDigits quantityOf num digitAt nameText
-table-fits = refl
-
-fixed-fits : (c : ℕ) → fits (FixedYear c) ≡ true
-unfolding fits
-fixed-fits c = refl
-
--- the rule of any run of a pattern is in order
-pub role-fits : (b c : ℕ) → RoleHas (λ rule. fits rule ≡ true) (roleOf Full b c)
-role-fits b c = role-passes fits fixed-fits table-fits Full b c

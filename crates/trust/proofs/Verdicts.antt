@@ -9,8 +9,9 @@ use lib.IntN.{ℤ, pos, negsuc, natAbs}
 use lib.ListN.{length, drop}
 use borrow.Author.Tests.{leb-true}
 use Rattle.meaning.specs.Answers.{firstCurrentYear, currentYearCheck, fieldsCheck, patternCheck, within}
-use Rattle.meaning.specs.Names.{english}
-use Rattle.meaning.specs.Trust.{partAt, ComesBack, Records, AnyAllowed, RealDay, AllComeBack, FailsFirst, trustCheck, fullPair, SaysOf, Says}
+use Rattle.meaning.specs.Books.{Valid}
+use Rattle.meaning.specs.Names.{Book}
+use Rattle.meaning.specs.Trust.{partAt, ComesBack, Records, AnyAllowed, RealDay, AllComeBack, FailsFirst, trustCheck, fullPair, SaysOf, SaysWith, Says}
 use Rattle.meaning.specs.Writing.{Step, steps}
 use Rattle.meaning.specs.declared.Checked.{Checked}
 use Rattle.meaning.specs.declared.Checked.the-variants.{Fine, Refused}
@@ -92,15 +93,15 @@ tells edition k (s ∷ ss) =
 
 -- and what that says of the written text
 
-module _ (choices : Choices) (current : ℕ) {ss : List Step} (fit : Fitting ss) (i : ℕ) (there : i < length ss) where
-  part-comes-back : holds (choices .edition) ss i ≡ true → (f : Fields) → fieldsCheck f ≡ Fine → ComesBack choices english current ss f i
+module _ (choices : Choices) (book : Book) (current : ℕ) {ss : List Step} (fit : Fitting book ss) (i : ℕ) (there : i < length ss) where
+  part-comes-back : holds (choices .edition) ss i ≡ true → (f : Fields) → fieldsCheck f ≡ Fine → ComesBack choices book current ss f i
   unfolding holds ComesBack
-  part-comes-back e f h = rw (text-from english f ss i there) (step-comes-back choices current (fitting-from fit i there) e f (allowed f h))
+  part-comes-back e f h = rw (text-from book f ss i there) (step-comes-back choices book current (fitting-from fit i there) e f (allowed f h))
 
-  part-fails : current ≤ 9999 → holds (choices .edition) ss i ≡ false → ComesBack choices english current ss (witness (stepNeed (choices .edition) (partAt ss i))) i → ⊥
+  part-fails : current ≤ 9999 → holds (choices .edition) ss i ≡ false → ComesBack choices book current ss (witness (stepNeed (choices .edition) (partAt ss i))) i → ⊥
   unfolding holds ComesBack
   part-fails small e back =
-      step-fails choices current small (fitting-from fit i there) e (rw (text-from english (witness (stepNeed (choices .edition) (partAt ss i))) ss i there) at back)
+      step-fails choices book current small (fitting-from fit i there) e (rw (text-from book (witness (stepNeed (choices .edition) (partAt ss i))) ss i there) at back)
 
 -- the current year
 
@@ -113,68 +114,78 @@ year-bound edition (negsuc n) h = absurd (let z : _≡_ {A = ℕ} 0 1 = cc in om
 
 -- the answer, of any records of which each is allowed and each that is shown is one
 
-module _ (Counts : Records) (fine : (f : Fields) → Counts f → fieldsCheck f ≡ Fine) (shown : (need : Need) → Counts (witness need)) where
-  all-come-back : (choices : Choices) (current : ℕ) {ss : List Step} → Fitting ss → (n : ℕ) → n ≤ length ss
-      → ((j : ℕ) → j < n → holds (choices .edition) ss j ≡ true) → AllComeBack Counts choices english current ss n
+module _ (book : Book) (valid : Valid book) (Counts : Records) (fine : (f : Fields) → Counts f → fieldsCheck f ≡ Fine) (shown : (need : Need) → Counts (witness need)) where
+  all-come-back : (choices : Choices) (current : ℕ) {ss : List Step} → Fitting book ss → (n : ℕ) → n ≤ length ss
+      → ((j : ℕ) → j < n → holds (choices .edition) ss j ≡ true) → AllComeBack Counts choices book current ss n
   unfolding AllComeBack
-  all-come-back choices current fit n h all f counts i k = part-comes-back choices current fit i (omega arith) (all i k) f (fine f counts)
+  all-come-back choices current fit n h all f counts i k = part-comes-back choices book current fit i (omega arith) (all i k) f (fine f counts)
 
-  fails-first : (choices : Choices) (current : ℕ) → current ≤ 9999 → {ss : List Step} → Fitting ss → (i : ℕ) (f : Fields)
-      → FirstOf (choices .edition) ss i f → FailsFirst Counts choices english current ss i f
+  fails-first : (choices : Choices) (current : ℕ) → current ≤ 9999 → {ss : List Step} → Fitting book ss → (i : ℕ) (f : Fields)
+      → FirstOf (choices .edition) ss i f → FailsFirst Counts choices book current ss i f
   fails-first choices current small {ss} fit i f first =
       record {
         there = first .there;
         counts = rw (first .shows) (shown (stepNeed (choices .edition) (partAt ss i)));
-        fails = λ back. part-fails choices current fit i (first .there) small (first .fails) (rw (first .shows) at back);
+        fails = λ back. part-fails choices book current fit i (first .there) small (first .fails) (rw (first .shows) at back);
         earlier = all-come-back choices current fit i (omega (arith, first .there)) (first .earlier);
       }
 
   module _ (edition : Edition) (strict : Bool) (p : List ℕ) (current : ℤ) where
     answer-says : trustCheck edition p current ≡ Fine → (v : Verdict) → Tells edition 0 (steps Full p) v
-        → SaysOf Counts (fullPair edition strict) english p current v
+        → SaysOf Counts (fullPair edition strict) book p current v
     unfolding Tells SaysOf
     answer-says checked verdict.Yes h =
-        (checked, all-come-back (fullPair edition strict) (natAbs current) (steps-fit p) (length (steps Full p)) (omega arith) h)
+        (checked, all-come-back (fullPair edition strict) (natAbs current) (steps-fit book valid p) (length (steps Full p)) (omega arith) h)
     answer-says checked (verdict.No part f) h =
         let small = year-bound edition current (else-fine (patternCheck p) (currentYearCheck edition current) checked .1) in
         let e : part ≡ h .0 = omega (arith, h .1) in
-        (checked, rw e (fails-first (fullPair edition strict) (natAbs current) small (steps-fit p) (h .0) f (h .2)))
+        (checked, rw e (fails-first (fullPair edition strict) (natAbs current) small (steps-fit book valid p) (h .0) f (h .2)))
     answer-says checked (verdict.Refused why) h = absurd h
 
-    pub verdict-says-of : SaysOf Counts (fullPair edition strict) english p current (verdictOf edition p current)
+    pub verdict-says-of : SaysOf Counts (fullPair edition strict) book p current (verdictOf edition p current)
     unfolding verdictOf
     verdict-says-of = go (trustCheck edition p current) refl
       where
         go : (c : Checked) → trustCheck edition p current ≡ c
-            → SaysOf Counts (fullPair edition strict) english p current (verdictBy c (firstFailing edition 0 (steps Full p)))
+            → SaysOf Counts (fullPair edition strict) book p current (verdictBy c (firstFailing edition 0 (steps Full p)))
         go Fine e = answer-says e (firstFailing edition 0 (steps Full p)) (tells edition 0 (steps Full p))
         go (Refused why) e = unfold SaysOf in e
 
     -- what is said of a reading is what the check answers, but for the record
-    pub told-as-checked-of : (v : Verdict) → SaysOf Counts (fullPair edition strict) english p current v → SameButRecord v (verdictOf edition p current)
+    pub told-as-checked-of : (v : Verdict) → SaysOf Counts (fullPair edition strict) book p current v → SameButRecord v (verdictOf edition p current)
     told-as-checked-of v says =
-        answers-of-coincide Counts (fullPair edition strict) english p current v (verdictOf edition p current) says verdict-says-of
+        answers-of-coincide Counts (fullPair edition strict) book p current v (verdictOf edition p current) says verdict-says-of
 
--- of real days, and of any allowed record
+-- with every valid book, of real days and of any allowed record
 
-module _ (edition : Edition) (p : List ℕ) (current : ℤ) where
-  pub verdict-says : Says edition english p current (verdictOf edition p current)
-  verdict-says strict = verdict-says-of RealDay (λ f real. real .allowed) witness-real edition strict p current
+module _ (book : Book) (valid : Valid book) (edition : Edition) (p : List ℕ) (current : ℤ) where
+  pub verdict-says-with : SaysWith book edition p current (verdictOf edition p current)
+  verdict-says-with strict = verdict-says-of book valid RealDay (λ f real. real .allowed) witness-real edition strict p current
 
   module _ (strict : Bool) where
-    pub verdict-says-any : SaysOf AnyAllowed (fullPair edition strict) english p current (verdictOf edition p current)
-    verdict-says-any = verdict-says-of AnyAllowed (λ f h. h) witness-fine edition strict p current
+    pub verdict-says-any : SaysOf AnyAllowed (fullPair edition strict) book p current (verdictOf edition p current)
+    verdict-says-any = verdict-says-of book valid AnyAllowed (λ f h. h) witness-fine edition strict p current
 
-    pub told-as-checked : (v : Verdict) → SaysOf RealDay (fullPair edition strict) english p current v → SameButRecord v (verdictOf edition p current)
-    told-as-checked = told-as-checked-of RealDay (λ f real. real .allowed) witness-real edition strict p current
+    pub told-as-checked : (v : Verdict) → SaysOf RealDay (fullPair edition strict) book p current v → SameButRecord v (verdictOf edition p current)
+    told-as-checked = told-as-checked-of book valid RealDay (λ f real. real .allowed) witness-real edition strict p current
 
     -- Nothing is lost: with any allowed record in the place of a real day's, verdict and part are the same.
-    pub same-of-any : (v w : Verdict) → SaysOf RealDay (fullPair edition strict) english p current v
-        → SaysOf AnyAllowed (fullPair edition strict) english p current w → SameButRecord v w
+    pub same-of-any : (v w : Verdict) → SaysOf RealDay (fullPair edition strict) book p current v
+        → SaysOf AnyAllowed (fullPair edition strict) book p current w → SameButRecord v w
     same-of-any v w says says′ =
-        told-as-checked v says ∙ sym (told-as-checked-of AnyAllowed (λ f h. h) witness-fine edition strict p current w says′)
+        told-as-checked v says ∙ sym (told-as-checked-of book valid AnyAllowed (λ f h. h) witness-fine edition strict p current w says′)
 
   -- so it is the same of a strict reading and of a plain one
-  pub same-strict-or-not : (v w : Verdict) → SaysOf RealDay (fullPair edition true) english p current v
-      → SaysOf RealDay (fullPair edition false) english p current w → SameButRecord v w
+  pub same-strict-or-not : (v w : Verdict) → SaysOf RealDay (fullPair edition true) book p current v
+      → SaysOf RealDay (fullPair edition false) book p current w → SameButRecord v w
   same-strict-or-not v w says says′ = told-as-checked true v says ∙ sym (told-as-checked false w says′)
+
+-- The promise of the check: the same answer with every valid book, so that the record shown fails with every one.
+pub verdict-says : (edition : Edition) (p : List ℕ) (current : ℤ) → Says edition p current (verdictOf edition p current)
+verdict-says edition p current book valid = verdict-says-with book valid edition p current
+
+-- Demand 3 does not depend on the book: what is said with one is said with another, but for the record.
+pub same-with-any-book : (edition : Edition) (p : List ℕ) (current : ℤ) (a b : Book) → Valid a → Valid b → (v w : Verdict)
+    → SaysWith a edition p current v → SaysWith b edition p current w → SameButRecord v w
+same-with-any-book edition p current a b good good′ v w says says′ =
+    told-as-checked a good edition p current false v (says false) ∙ sym (told-as-checked b good′ edition p current false w (says′ false))

@@ -5,7 +5,6 @@ pub mod needs;
 
 ghost use mathlib.Core.Path.{_≡_};
 ghost use lib.ListN.{drop};
-ghost use Rattle.meaning.specs.Names.{english};
 ghost use Rattle.meaning.specs.Trust.{Says, trustCheck};
 ghost use Rattle.meaning.specs.Writing.{steps};
 ghost use Rattle.trust.specs.Check as trust;
@@ -128,7 +127,7 @@ fn trust_check(edition: Edition, pattern: &[u8], year: i32) -> Checked
 // Whether a pattern can be trusted to read back what it wrote, in an edition and a current year: the refusals 1, 2, 3, 14; yes exactly when
 // every part comes back for every record of a real day; else the first part that fails for some such record, with one.
 pub fn verdict_on(edition: Edition, pattern: &[u8], year: i32) -> Verdict
-    ensures { λ r. ⌜ Says edition english (now (pattern .entry)) year r ⌝ }
+    ensures { λ r. ⌜ Says edition (now (pattern .entry)) year r ⌝ }
 {
     match trust_check(edition, pattern, year) {
         Checked::Fine => first_failing(edition, pattern),

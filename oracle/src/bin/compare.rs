@@ -8,7 +8,7 @@ use std::process::ExitCode;
 const COMPARE: Comparer = Comparer {
     name: "compare",
     usage: "usage: compare [--seed S] [--count N] [--every K] [--ops OP,OP..] \
-        [--requests FILE] -- PROGRAM [ARGS..]",
+        [--books english|random] [--requests FILE] -- PROGRAM [ARGS..]",
 };
 
 fn main() -> ExitCode {

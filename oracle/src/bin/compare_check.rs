@@ -8,7 +8,7 @@ use std::process::ExitCode;
 const COMPARE_CHECK: Comparer = Comparer {
     name: "compare_check",
     usage: "usage: compare_check [--seed S] [--count N] [--every K] [--edition first|second] \
-        [--requests FILE] -- PROGRAM [ARGS..]",
+        [--books english|random] [--requests FILE] -- PROGRAM [ARGS..]",
 };
 
 fn main() -> ExitCode {

@@ -15,6 +15,7 @@ use crate::expected::lone_quote;
 use crate::generator::{at_boundaries, in_range, Random, BOUNDARIES};
 use crate::gregorian;
 use crate::limits::{pattern_limit, year_limit};
+use crate::names;
 use crate::walk::{Parts, Written};
 
 const RANDOM_RECORDS: usize = 8;
@@ -27,8 +28,13 @@ pub enum Verdict {
     No(usize, Fields),
 }
 
-/// The verdict on a pattern, as far as the records tried can show it.
+/// The verdict on a pattern, as far as the records tried can show it, with the names of its book.
 pub fn verdict(request: &CheckRequest, random: &mut Random) -> Verdict {
+    let book = request.book.as_deref();
+    names::by_book(book, || tried(request, random)).unwrap_or_else(Verdict::Refused)
+}
+
+fn tried(request: &CheckRequest, random: &mut Random) -> Verdict {
     if let Some(line) = refused(request) {
         return Verdict::Refused(line);
     }

@@ -1,11 +1,14 @@
-//! The request `check P NOW`, also with the word `second`, and its answers.
+//! The request `check P NOW`, also with the words `second` and `book:B`, and its answers.
 
 use super::{Trial, Verdict};
 use crate::calendar::Fields;
 use crate::choices::Edition;
 use crate::gregorian;
 use crate::limits::field_limit;
-use crate::request::{bytes, edition, edition_word, field_words, fields, hex, number};
+use crate::names;
+use crate::request::{
+    book, book_word, bytes, edition, edition_word, field_words, fields, hex, number,
+};
 use std::fmt;
 
 pub(super) const OTHER_ANSWER: &str = "another answer";
@@ -15,6 +18,7 @@ pub struct CheckRequest {
     pub edition: Edition,
     pub pattern: Vec<u8>,
     pub now: i32,
+    pub book: Option<Vec<u8>>,
 }
 
 impl CheckRequest {
@@ -25,6 +29,7 @@ impl CheckRequest {
             pattern: bytes(&mut words)?,
             now: number(&mut words)?,
             edition: edition(&mut words),
+            book: book(&mut words)?,
         };
         words.next().is_none().then_some(request)
     }
@@ -47,7 +52,9 @@ impl CheckRequest {
         if !gregorian::is_real(fields) {
             return Some("the record is of no real day".to_string());
         }
-        match (Trial::of(self).first_failing(fields), verdict) {
+        let failing = || Trial::of(self).first_failing(fields);
+        let failing = names::by_book(self.book.as_deref(), failing);
+        match (failing.expect("the book is not refused"), verdict) {
             (None, _) => Some("the record comes back".to_string()),
             (Some(at), _) if at != part => Some(format!("the record fails at part {at}")),
             (_, Verdict::No(first, _)) if *first == part => None,
@@ -70,8 +77,13 @@ fn no(answer: &str) -> Option<(usize, Fields)> {
 
 impl fmt::Display for CheckRequest {
     fn fmt(&self, f: &mut fmt::Formatter<'_>) -> fmt::Result {
-        let edition = edition_word(self.edition);
-        write!(f, "check {} {}{edition}", hex(&self.pattern), self.now)
+        let (edition, book) = (edition_word(self.edition), book_word(&self.book));
+        write!(
+            f,
+            "check {} {}{edition}{book}",
+            hex(&self.pattern),
+            self.now
+        )
     }
 }
 

@@ -9,13 +9,17 @@ use crate::generator::Random;
 use crate::tally::Hold;
 use std::fmt;
 
-const ROWS: [&str; 7] = [
+const ROWS: [&str; 11] = [
     "yes",
     "no",
     "refused 1",
     "refused 2",
     "refused 3",
     "refused 14",
+    "refused 20",
+    "refused 21",
+    "refused 22",
+    "refused 23",
     "no request",
 ];
 const NO_REQUEST: usize = ROWS.len() - 1;

@@ -1,10 +1,11 @@
 //! Patterns for the check: those that are listed, each once, and random ones between them.
 
 use super::current_year;
+use super::library::Library;
 use super::patterns::{self, COUNTS, SYMBOLS};
 use super::random::Random;
 use crate::check::CheckRequest;
-use crate::choices::Edition;
+use crate::choices::{Books, Edition};
 
 /// Each pattern of this step is a random one.
 const EVERY: usize = 4;
@@ -114,10 +115,11 @@ fn length(families: &[Family]) -> usize {
     families.iter().map(size).sum()
 }
 
-/// Requests without end, the same for the same seed and editions: each pattern in each of these.
+/// Requests without end, the same for the same seed, editions and books: each pattern in each of the editions.
 pub struct CheckGenerator {
     random: Random,
     editions: Vec<Edition>,
+    library: Library,
     families: Vec<Family>,
     /// How long the list is.
     length: usize,
@@ -129,12 +131,18 @@ pub struct CheckGenerator {
 }
 
 impl CheckGenerator {
+    /// Of requests without a book.
     pub fn new(seed: u64, editions: Vec<Edition>) -> CheckGenerator {
+        CheckGenerator::with(None, seed, editions)
+    }
+
+    pub fn with(books: Option<Books>, seed: u64, editions: Vec<Edition>) -> CheckGenerator {
         let mut random = Random::new(seed);
         let families = families();
         let length = length(&families);
         CheckGenerator {
             start: random.below(length),
+            library: Library::of(books, &mut random),
             random,
             editions,
             families,
@@ -179,13 +187,16 @@ impl Iterator for CheckGenerator {
                 None => random_pattern(round, &mut self.random),
             };
         }
+        let year = |random: &mut Random| match listed {
+            Some(step) => listed_year(edition, step),
+            None => current_year(edition, random),
+        };
+        let (now, book) = self.library.lend(&mut self.random, year);
         Some(CheckRequest {
             edition,
             pattern: self.pattern.clone(),
-            now: match listed {
-                Some(step) => listed_year(edition, step),
-                None => current_year(edition, &mut self.random),
-            },
+            now,
+            book,
         })
     }
 }

@@ -1,8 +1,10 @@
-//! Requests without end, the same for the same seed and ops.
+//! Requests without end, the same for the same seed, ops and books.
 
+mod books;
 mod checks;
 mod days;
 mod fields;
+mod library;
 mod literals;
 mod offsets;
 mod patterns;
@@ -10,24 +12,34 @@ mod random;
 mod texts;
 
 use crate::answer::text_of;
+use crate::book::bytes_of;
 use crate::calendar::Fields;
-use crate::choices::{Choices, Edition};
+use crate::choices::{Books, Choices, Edition};
 use crate::request::{Op, Request, MOST_ROOM};
 use crate::walk::Pair;
 pub use checks::CheckGenerator;
 pub(crate) use fields::{at_boundaries, in_range, BOUNDARIES};
+use library::Library;
 pub use random::Random;
 
 pub struct Generator {
     random: Random,
     ops: Vec<Op>,
+    library: Library,
     made: usize,
 }
 
 impl Generator {
+    /// Of requests without a book.
     pub fn new(seed: u64, ops: Vec<Op>) -> Generator {
+        Generator::with(None, seed, ops)
+    }
+
+    pub fn with(books: Option<Books>, seed: u64, ops: Vec<Op>) -> Generator {
+        let mut random = Random::new(seed);
         Generator {
-            random: Random::new(seed),
+            library: Library::of(books, &mut random),
+            random,
             ops,
             made: 0,
         }
@@ -42,23 +54,42 @@ impl Iterator for Generator {
         let op = self.ops[self.made % self.ops.len()];
         let turn = self.made / self.ops.len();
         self.made += 1;
-        let random = &mut self.random;
-        Some(match op {
-            Op::Split => Request::Split {
-                pattern: patterns::pattern(turn, random),
-            },
-            Op::Write => write_request(Pair::Full, turn, random),
-            Op::WriteDate => write_request(Pair::Date, turn, random),
-            Op::ParseOffset => Request::ParseOffset {
-                text: offsets::offset_text(random),
-            },
-            Op::DayOf => Request::DayOf {
-                number: days::number(turn, random),
-            },
-            Op::DayNumber => days::date(turn, random),
-            read => read_request(read.choices()?, turn, random),
-        })
+        let make = |random: &mut Random| request(op, turn, random);
+        let (request, book) = self.library.lend(&mut self.random, make);
+        Some(request.with_book(book))
     }
+}
+
+fn request(op: Op, turn: usize, random: &mut Random) -> Request {
+    match op {
+        Op::Split => Request::Split {
+            pattern: patterns::pattern(turn, random),
+        },
+        Op::Write => write_request(Pair::Full, turn, random),
+        Op::WriteDate => write_request(Pair::Date, turn, random),
+        Op::ParseOffset => Request::ParseOffset {
+            text: offsets::offset_text(random),
+        },
+        Op::DayOf => Request::DayOf {
+            number: days::number(turn, random),
+        },
+        Op::DayNumber => days::date(turn, random),
+        Op::Book => Request::Book {
+            bytes: books::bytes(turn, random),
+        },
+        Op::BookWrite => book_write_request(turn, random),
+        read => {
+            let choices = read.choices().expect("all others are reads");
+            read_request(choices, turn, random)
+        }
+    }
+}
+
+fn book_write_request(turn: usize, random: &mut Random) -> Request {
+    let names = books::names(turn, random);
+    let needed = bytes_of(1, &names).len();
+    let room = room(needed, random).min(MOST_ROOM);
+    Request::BookWrite { room, names }
 }
 
 /// A run of one symbol is always written: each of the boundaries meets each run.
@@ -77,6 +108,7 @@ fn write_request(pair: Pair, turn: usize, random: &mut Random) -> Request {
         pattern,
         fields,
         room: room.min(MOST_ROOM),
+        book: None,
     }
 }
 
@@ -93,6 +125,7 @@ fn read_request(choices: Choices, turn: usize, random: &mut Random) -> Request {
         text: text(choices.pair, &pattern, &fields, random),
         pattern,
         now: current_year(choices.edition, random),
+        book: None,
     }
 }
 

@@ -2,6 +2,7 @@
 
 use super::random::Random;
 use crate::choices::Edition;
+use crate::names;
 
 pub const SYMBOLS: &[u8; 19] = b"GyqMwdDeabhHKkmsnXx";
 pub const COUNTS: [usize; 16] = [1, 2, 3, 4, 5, 6, 7, 8, 9, 10, 11, 12, 20, 100, 255, 256];
@@ -12,9 +13,13 @@ const FAMILIES: usize = 12;
 const RUN_FAMILY: usize = 0;
 const FIRST_RANDOM: usize = 3;
 
-/// The families take turns; those that enumerate come one step further each time.
+/// The families take turns; those that enumerate come one step further each time. With a book
+/// two thirds of the rest have names.
 pub fn pattern(turn: usize, random: &mut Random) -> Vec<u8> {
     let step = turn / FAMILIES;
+    if names::given().is_some() && !is_enumerated(turn) && !random.one_in(3) {
+        return with_names(random);
+    }
     match turn % FAMILIES {
         RUN_FAMILY => symbol_run(step),
         1 => short(step),
@@ -25,12 +30,15 @@ pub fn pattern(turn: usize, random: &mut Random) -> Vec<u8> {
 
 /// The same for a read in an edition: the second has each other pattern that is not enumerated with what it reads otherwise.
 pub fn pattern_in(edition: Edition, turn: usize, random: &mut Random) -> Vec<u8> {
-    let enumerated = turn % FAMILIES < FIRST_RANDOM;
-    if edition == Edition::Second && !enumerated && random.one_in(2) {
+    if edition == Edition::Second && !is_enumerated(turn) && random.one_in(2) {
         with_what_differs(random)
     } else {
         pattern(turn, random)
     }
+}
+
+fn is_enumerated(turn: usize) -> bool {
+    turn % FAMILIES < FIRST_RANDOM
 }
 
 /// Of a family that enumerates nothing, picked as often as it has a turn.
@@ -128,6 +136,18 @@ pub fn with_what_differs(random: &mut Random) -> Vec<u8> {
         0 => b"M".to_vec(),
         1 => b"yy".to_vec(),
         2 => vec![random.pick(b"d/-. '")],
+        _ => piece(random),
+    };
+    (0..pieces).flat_map(|_| some(random)).collect()
+}
+
+/// With names of months and weekdays among the other pieces.
+fn with_names(random: &mut Random) -> Vec<u8> {
+    let pieces = random.between(1, 6);
+    let some = |random: &mut Random| match random.below(5) {
+        0 | 1 => vec![b'M'; random.pick(&[3, 3, 4, 4, 5, 6, 9])],
+        2 => vec![b'e'; random.pick(&[3, 4, 4, 5, 6])],
+        3 => vec![random.pick(b"/-. 'Z")],
         _ => piece(random),
     };
     (0..pieces).flat_map(|_| some(random)).collect()

@@ -5,6 +5,7 @@ use super::patterns;
 use super::random::Random;
 use crate::answer::{as_pattern, text_of};
 use crate::calendar::Fields;
+use crate::names;
 use crate::walk::{self, Kind, Pair};
 
 /// Beside the longest pattern it keeps a line under the protocol's 20,000 bytes.
@@ -118,6 +119,9 @@ fn part_by_part(pair: Pair, pattern: &[u8], random: &mut Random) -> Vec<u8> {
 
 /// A text that a run may read and need not have written.
 fn readable(run: &[u8], random: &mut Random) -> Vec<u8> {
+    if let (b"MMM" | b"eee", Some(names)) = (&run[..run.len().min(3)], names::given()) {
+        return near_a_name(names, random);
+    }
     match run[0] {
         b'G' => name(
             &["AD", "BC", "B", "Before Christ", "Anno Domini", "xx"],
@@ -139,6 +143,20 @@ fn readable(run: &[u8], random: &mut Random) -> Vec<u8> {
 
 fn name(choices: &[&str], random: &mut Random) -> Vec<u8> {
     random.pick(choices).as_bytes().to_vec()
+}
+
+/// One of any list of the book, often a letter longer or shorter, or with one that is small for capital or the other way.
+fn near_a_name(names: &[&str], random: &mut Random) -> Vec<u8> {
+    let mut near = name(names, random);
+    let place = random.below(near.len());
+    match random.below(8) {
+        0 => near.truncate(near.len() - 1),
+        1 => near.push(random.pick(b"abAB0 ")),
+        2 => near[place] ^= 32,
+        3 => near.extend(name(names, random)),
+        _ => (),
+    }
+    near
 }
 
 fn month(count: usize, random: &mut Random) -> Vec<u8> {

@@ -1,79 +1,83 @@
--- Laws of tables and matches, for the loops of the matcher and of the writer and for the calls over them: what a row holds, a
--- table that holds some names, a turn over the bytes of a name, and a turn over names.
+-- Laws of rooms and matches, for the loops of the matcher and of the writer and for the calls over them: what a room holds, rooms
+-- that hold some names, a turn over the bytes of a name, and a turn over names.
 use mathlib.Core.Bool.{Bool, true, false}
 use mathlib.Core.List.{List, [], _∷_}
 use mathlib.Core.Path.{_≡_, refl, ap, sym, _∙_}
-use Prim.Native.Nat.{ℕ, zero, suc, _+_, _*_, _≤_, _<_}
+use Prim.Native.Nat.{ℕ, zero, suc, _+_, _*_, _≤_, _<_, min}
 use native.Mathlib.Numerals.{add-one}
 use native.Mathlib.Omega.{arith}
 use borrow.Author.Tests.{eq-eqb, ne-eqb}
-use lib.Dec.{T, eqb, eqb→eq, leb, leb→le}
+use lib.Dec.{eqb}
 use lib.ListN.{length, take, drop, getD, length-take, length-drop, drop-of-length-le}
 use lib.Seq.{drop-cons, drop-drop, getD-take, getD-drop}
+use Rattle.laws.proofs.OpenedBooks.{count-at}
 use Rattle.laws.proofs.Tests.{when-true, when-false}
 use Rattle.meaning.specs.Bytes.{both, when}
+use Rattle.meaning.specs.OpenedBooks.{nameRoom, nameAt, namesAt}
 use Rattle.meaning.specs.Readers.{begins, firstName, matchName, got, stopped}
 use Rattle.meaning.specs.declared.Trouble.the-variants.{NoName}
 use Rattle.laws.specs.Laid.{Laid}
-use Rattle.names.specs.Table.{IsTable, rowWidth, table, nameAt, tableOk, allShort, foundIn}
+use Rattle.names.specs.Table.{nameIn, foundIn, IsTable}
 use Rattle.names.specs.declared.tables.Found.{Found}
 
--- ---- what a row holds
+-- ---- what a room holds
 
-both-tests : (a b : Bool) → T (both a b) → T a × T b
-both-tests true b t = (tt, t)
-both-tests false b t = absurd t
+room-name : (most : ℕ) (rows : List ℕ) (i : ℕ) → i * nameRoom < length rows
+    → nameIn most rows i ≡ take (min (getD rows (i * nameRoom) 0) most) (drop (suc (i * nameRoom)) rows)
+room-name most rows i h = rw (drop-cons rows (i * nameRoom) 0 h)
 
-all-short : (lens : List ℕ) → T (allShort lens) → (i : ℕ) → i < length lens → getD lens i 0 ≤ rowWidth
-all-short [] t i h = absurd (omega arith)
-all-short (n ∷ lens) t zero h = leb→le n rowWidth (both-tests (leb n rowWidth) (allShort lens) t .0)
-all-short (n ∷ lens) t (suc i) h = all-short lens (both-tests (leb n rowWidth) (allShort lens) t .1) i (omega arith)
+pub record Room (most : ℕ) (rows : List ℕ) (i : ℕ) : Type 0 where
+  pub size : length (nameIn most rows i) ≡ min (getD rows (i * nameRoom) 0) most
+  pub inside : i * nameRoom + 1 + length (nameIn most rows i) ≤ length rows
+  pub byte : (j : ℕ) → j < length (nameIn most rows i) → getD (nameIn most rows i) j 0 ≡ getD rows (i * nameRoom + 1 + j) 0
 
-table-length : (rows lens : List ℕ) → length (table rows lens) ≡ length lens
-table-length rows [] = refl
-table-length rows (n ∷ lens) = ap suc (table-length (drop rowWidth rows) lens)
-
-table-at : (rows lens : List ℕ) (i : ℕ) → i < length lens → nameAt rows lens i ≡ take (getD lens i 0) (drop (i * rowWidth) rows)
-table-at rows [] i h = absurd (omega arith)
-table-at rows (n ∷ lens) zero h = refl
-table-at rows (n ∷ lens) (suc i) h =
-    let e : rowWidth + i * rowWidth ≡ suc i * rowWidth = omega arith in
-    table-at (drop rowWidth rows) lens i (omega arith) ∙ rw (drop-drop, e)
-
-pub record Row (rows lens : List ℕ) (i : ℕ) : Type 0 where
-  pub inside : i * rowWidth + getD lens i 0 ≤ length rows
-  pub size : length (nameAt rows lens i) ≡ getD lens i 0
-  pub byte : (j : ℕ) → j < getD lens i 0 → getD (nameAt rows lens i) j 0 ≡ getD rows (i * rowWidth + j) 0
-
-pub row : (rows lens : List ℕ) (i : ℕ) → T (tableOk rows lens) → i < length lens → Row rows lens i
-row rows lens i t h =
-    let both′ = both-tests (eqb (length rows) (length lens * rowWidth)) (allShort lens) t in
-    let long = eqb→eq (length rows) (length lens * rowWidth) (both′ .0) in
-    let short = all-short lens (both′ .1) i h in
+pub room : (most : ℕ) (rows : List ℕ) (i : ℕ) → most ≤ 20 → i * nameRoom + nameRoom ≤ length rows → Room most rows i
+room most rows i short h =
+    let e = room-name most rows i (omega arith) in
+    let n : length (nameIn most rows i) ≡ min (getD rows (i * nameRoom) 0) most = rw e (simp (length-take, length-drop) (omega arith)) in
     record {
+      size = n;
       inside = omega arith;
-      size = rw (table-at rows lens i h) (simp (length-take, length-drop) (omega arith));
-      byte = λ j k. rw (table-at rows lens i h, getD-take, getD-drop);
+      byte = λ j k.
+          let m : j < min (getD rows (i * nameRoom) 0) most = omega arith in
+          let p : suc (i * nameRoom) + j ≡ i * nameRoom + 1 + j = omega arith in
+          rw (e, getD-take, getD-drop, p);
     }
 
--- ---- a table that holds these names, for the calls over it
+-- ---- rooms, one after the other
 
-module _ {rows lens : List ℕ} {held these : List (List ℕ)} (t : IsTable rows lens held) (e : held ≡ these) where
-  pub index-asked : (i : ℕ) → i < length these → i < length lens
-  index-asked i h = omega (arith, table-length rows lens, ap length (t .held ∙ e))
+pub names-at : (most count : ℕ) (rows : List ℕ) (i : ℕ) → i < count → getD (namesAt most count rows) i [] ≡ nameIn most rows i
+unfolding namesAt
+names-at most zero rows i h = absurd (omega arith)
+names-at most (suc k) rows zero h = refl
+names-at most (suc k) rows (suc i) h =
+    let e : nameRoom + i * nameRoom ≡ suc i * nameRoom = omega arith in
+    names-at most k (drop nameRoom rows) i (omega arith) ∙ rw (drop-drop, e)
 
-  pub length-told : (i : ℕ) → i < length these → getD lens i 0 ≡ length (getD these i [])
-  length-told i h = sym (rw (t .held ∙ e) at (row rows lens i (t .whole) (index-asked i h) .size))
+-- ---- rooms that hold these names, for the calls over them
+
+module _ {most count : ℕ} {rows : List ℕ} {these : List (List ℕ)} (t : IsTable most count rows these) where
+  index-below : (i : ℕ) → i < length these → i < count
+  index-below i h = omega (arith, count-at most count rows, ap length (t .held))
+
+  name-told : (i : ℕ) → i < length these → nameIn most rows i ≡ getD these i []
+  name-told i h = sym (names-at most count rows i (index-below i h)) ∙ rw (t .held)
+
+  pub index-asked : (i : ℕ) → i < length these → (most ≤ 20) × (i * nameRoom + nameRoom ≤ length rows)
+  index-asked i h = let k = index-below i h in (t .short, omega arith)
+
+  pub length-told : (i : ℕ) → i < length these → length (nameIn most rows i) ≡ length (getD these i [])
+  length-told i h = ap length (name-told i h)
 
   pub put-asked : (i at room : ℕ) → i < length these → at + length (getD these i []) ≤ room
-      → T (tableOk rows lens) × ((i < length lens) × (at + length (nameAt rows lens i) ≤ room))
-  put-asked i at room h k = (t .whole, (index-asked i h, rw (t .held ∙ e) k))
+      → ((most ≤ 20) × (i * nameRoom + nameRoom ≤ length rows)) × (at + length (nameIn most rows i) ≤ room)
+  put-asked i at room h k = (index-asked i h, omega (arith, length-told i h))
 
-  pub put-told : {old new : List ℕ} {at next : ℕ} (i : ℕ) → Laid old new at next (nameAt rows lens i) → Laid old new at next (getD these i [])
-  put-told i l = rw (t .held ∙ e) at l
+  pub put-told : {old new : List ℕ} {at next : ℕ} (i : ℕ) → i < length these → Laid old new at next (nameIn most rows i) → Laid old new at next (getD these i [])
+  put-told i h l = rw (name-told i h) at l
 
-  pub match-told : {r : Found} (s : List ℕ) → r ≡ foundIn (matchName (table rows lens) s) → r ≡ foundIn (matchName these s)
-  match-told s l = rw (t .held ∙ e) at l
+  pub match-told : {r : Found} (s : List ℕ) → r ≡ foundIn (matchName (namesAt most count rows) s) → r ≡ foundIn (matchName these s)
+  match-told s l = rw (t .held) at l
 
 -- ---- a turn over the bytes of a name
 
@@ -102,26 +106,27 @@ module _ (name s : List ℕ) (j : ℕ) where
 
 -- ---- a turn over names
 
-module _ (rows lens s : List ℕ) (i : ℕ) where
+module _ (most count : ℕ) (rows s : List ℕ) (i : ℕ) where
   abbrev name : List ℕ
-  name = nameAt rows lens i
+  name = nameIn most rows i
 
-  step : i < length lens → firstName i (drop i (table rows lens)) s
-      ≡ when (begins name s) (got (length name) i) (firstName (i + 1) (drop (i + 1) (table rows lens)) s)
+  abbrev all : List (List ℕ)
+  all = namesAt most count rows
+
+  step : i < count → firstName i (drop i all) s ≡ when (begins name s) (got (length name) i) (firstName (i + 1) (drop (i + 1) all) s)
   unfolding firstName
   step h =
-      let k : i < length (table rows lens) = omega (arith, table-length rows lens) in
-      rw (drop-cons (table rows lens) i [] k, add-one i)
+      let k : i < length all = omega (arith, count-at most count rows) in
+      rw (drop-cons all i [] k, names-at most count rows i h, add-one i)
 
-  pub this-name : i < length lens → begins name s ≡ true → firstName i (drop i (table rows lens)) s ≡ got (length name) i
+  pub this-name : i < count → begins name s ≡ true → firstName i (drop i all) s ≡ got (length name) i
   this-name h e = step h ∙ when-true _ _ e
 
-  pub next-name : i < length lens → begins name s ≡ false
-      → firstName i (drop i (table rows lens)) s ≡ firstName (i + 1) (drop (i + 1) (table rows lens)) s
+  pub next-name : i < count → begins name s ≡ false → firstName i (drop i all) s ≡ firstName (i + 1) (drop (i + 1) all) s
   next-name h e = step h ∙ when-false _ _ e
 
-  pub no-name : length lens ≤ i → firstName i (drop i (table rows lens)) s ≡ stopped NoName 0
+  pub no-name : count ≤ i → firstName i (drop i all) s ≡ stopped NoName 0
   unfolding firstName
   no-name h =
-      let k : length (table rows lens) ≤ i = omega (arith, table-length rows lens) in
-      rw (drop-of-length-le (table rows lens) k)
+      let k : length all ≤ i = omega (arith, count-at most count rows) in
+      rw (drop-of-length-le all k)

@@ -14,7 +14,7 @@ use borrow.Author.Tests.{ltb-true, ltb-false}
 use Rattle.laws.proofs.Readers.{skip-stops, skip-goes-on, same-byte, other-byte, same-stops, same-compares}
 use Rattle.laws.proofs.Tests.{by-test}
 use Rattle.meaning.specs.Bytes.{when}
-use Rattle.meaning.specs.Names.{english}
+use Rattle.meaning.specs.Names.{Book}
 use Rattle.meaning.specs.Readers.{goOn, done, firstDiffering, sameBy}
 use Rattle.meaning.specs.Reading.{passed, literalRead, readStep}
 use Rattle.meaning.specs.Writing.{Step, literal, field}
@@ -92,11 +92,11 @@ module _ (text : List ℕ) (at : ℕ) where
   field-read strict rule (part.Stopped why place) = refl
   field-read strict rule (part.Got carried next) = rw (same-either strict)
 
-  pub compared-read : (choices : Choices) (current : ℕ) (step : Step)
-      → partAt at (readStep choices english current step rest) ≡ strictBy (choices .strict) step text (partAt at (plainRead (choices .edition) current step rest))
+  pub compared-read : (choices : Choices) (book : Book) (current : ℕ) (step : Step)
+      → partAt at (readStep choices book current step rest) ≡ strictBy (choices .strict) step text (partAt at (plainRead (choices .edition) book current step rest))
   unfolding readStep
-  compared-read choices current (literal w lost) = literal-read (choices .strict) w lost
-  compared-read choices current (field rule) = field-read (choices .strict) rule (partAt at (plainRead (choices .edition) current (field rule) rest))
+  compared-read choices book current (literal w lost) = literal-read (choices .strict) w lost
+  compared-read choices book current (field rule) = field-read (choices .strict) rule (partAt at (plainRead (choices .edition) book current (field rule) rest))
 
   -- a literal that was passed over carries nothing, and ended behind its bytes
   passed-ended : (k : ℕ) {c : Carried} {next : Cursor} → partAt at (passed k rest) ≡ part.Got c next
@@ -106,16 +106,16 @@ module _ (text : List ℕ) (at : ℕ) where
       (λ t. let none = sym (passed-stops k t) ∙ e in absurd (let z : _≡_ {A = ℕ} 0 1 = cc in omega arith))
       (λ t. let on = sym (passed-on k t) ∙ e in (cc, cc, ltb-false (length rest) k t))
 
-  pub value-same : (edition : Edition) (current : ℕ) (step : Step) {u : ParseUnit} {z : ℤ} {next : Cursor}
-      → partAt at (plainRead edition current step rest) ≡ part.Got (Value u z) next → compared step text (next .at) ≡ Same
+  pub value-same : (edition : Edition) (book : Book) (current : ℕ) (step : Step) {u : ParseUnit} {z : ℤ} {next : Cursor}
+      → partAt at (plainRead edition book current step rest) ≡ part.Got (Value u z) next → compared step text (next .at) ≡ Same
   unfolding readStep
-  value-same edition current (literal w lost) e =
+  value-same edition book current (literal w lost) e =
       let none = passed-ended (length w) e .0 in absurd (let z : _≡_ {A = ℕ} 0 1 = cc in omega arith)
-  value-same edition current (field rule) e = refl
+  value-same edition book current (field rule) e = refl
 
-  pub ended : (edition : Edition) (current : ℕ) (step : Step) {c : Carried} {next : Cursor} → partAt at (plainRead edition current step rest) ≡ part.Got c next
+  pub ended : (edition : Edition) (book : Book) (current : ℕ) (step : Step) {c : Carried} {next : Cursor} → partAt at (plainRead edition book current step rest) ≡ part.Got c next
       → at ≤ length text → Ended step (length text) (next .at)
   unfolding readStep
-  ended edition current (literal w lost) e h =
+  ended edition book current (literal w lost) e h =
       let past = passed-ended (length w) e in (omega (arith, past .1), omega (arith, past .1, past .2, length-drop at text))
-  ended edition current (field rule) e h = tt
+  ended edition book current (field rule) e h = tt

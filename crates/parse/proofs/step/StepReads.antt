@@ -9,7 +9,7 @@ use lib.ListN.{length}
 use denote.Enum.Declared.{tagOf}
 use types.Run.{OneOf, miss}
 use Rattle.laws.proofs.Tests.{by-test}
-use Rattle.meaning.specs.Names.{english}
+use Rattle.meaning.specs.Names.{Book, english}
 use Rattle.meaning.specs.Readers.{got}
 use Rattle.meaning.specs.Reading.{mostRead, readRule, readStep}
 use Rattle.meaning.specs.declared.Carried.the-variants.{Value}
@@ -30,9 +30,9 @@ use Rattle.rules.specs.declared.short.Short.the-variants as short
 use Rattle.rules.specs.declared.step.Step.{Step}
 use Rattle.rules.specs.declared.step.Step.the-variants as step
 
-pub year-read : (edition : Edition) (current c : ℕ) (s : List ℕ) → readRule edition english current (longYear c) s ≡ longYearRead c s
+pub year-read : (edition : Edition) (book : Book) (current c : ℕ) (s : List ℕ) → readRule edition book current (longYear c) s ≡ longYearRead c s
 unfolding readRule
-year-read edition current c s = by-test (leb c 4) (λ e. rw e) (λ e. rw e)
+year-read edition book current c s = by-test (leb c 4) (λ e. rw e) (λ e. rw e)
 
 -- the kinds but Short have no digits of their own, and no unit
 abbrev others : List ℕ
@@ -70,22 +70,22 @@ none-there told small = let none : 100 < 100 = rw told at small in absurd (omega
 
 -- where the digits are there, they are what the step reads
 module _ (p s : List ℕ) where
-  pub quick-read : (edition : Edition) (current : ℕ) (k : Step) {d : Digits} → Held p k → d ≡ quickDigits edition k s → d .size < 100
-      → plainRead edition current (means p k) s ≡ got (d .taken) (Value (quickUnit k) (pos (d .size)))
+  pub quick-read : (edition : Edition) (book : Book) (current : ℕ) (k : Step) {d : Digits} → Held p k → d ≡ quickDigits edition k s → d .size < 100
+      → plainRead edition book current (means p k) s ≡ got (d .taken) (Value (quickUnit k) (pos (d .size)))
   unfolding readStep readRule
-  quick-read edition current (step.Times b n) held told small = none-there told small
-  quick-read edition current (step.Quoted from to) held told small = none-there told small
-  quick-read edition current (step.Open from) held told small = none-there told small
-  quick-read edition current (step.Short number c) held told small =
+  quick-read edition book current (step.Times b n) held told small = none-there told small
+  quick-read edition book current (step.Quoted from to) held told small = none-there told small
+  quick-read edition book current (step.Open from) held told small = none-there told small
+  quick-read edition book current (step.Short number c) held told small =
       let most = most-bounds edition number c (held .2) in
       let digits = rw (held .0) at told in
       rw digits
       (digits-read (shortUnit number) c (mostRead edition (shortQuantity number) (shortMost number c)) (held .1) (most .0) (most .1) s (rw digits at small))
-  quick-read edition current (step.Year c) held told small = none-there told small
-  quick-read edition current step.MonthAbbreviated held told small = none-there told small
-  quick-read edition current step.MonthWide held told small = none-there told small
-  quick-read edition current step.WdayWide held told small = none-there told small
-  quick-read edition current (step.Run role b n) held told small = none-there told small
+  quick-read edition book current (step.Year c) held told small = none-there told small
+  quick-read edition book current step.MonthAbbreviated held told small = none-there told small
+  quick-read edition book current step.MonthWide held told small = none-there told small
+  quick-read edition book current step.WdayWide held told small = none-there told small
+  quick-read edition book current (step.Run role b n) held told small = none-there told small
 
   pub quick-within : (edition : Edition) (k : Step) {d : Digits} → Held p k → d ≡ quickDigits edition k s → d .size < 100 → d .taken ≤ length s
-  quick-within edition k held told small = rw (quick-read edition 0 k held told small) at (within-step (unseen edition) english 0 (means p k) s)
+  quick-within edition k held told small = rw (quick-read edition english 0 k held told small) at (within-step (unseen edition) english 0 (means p k) s)

@@ -7,6 +7,7 @@ use native.Mathlib.Omega.{arith}
 use lib.IntN.{ℤ, pos}
 use lib.ListN.{length}
 use Rattle.laws.proofs.Digits.{length-num, width-at-most}
+use Rattle.meaning.proofs.Books.{english-valid}
 use Rattle.meaning.specs.Answers.{number, troubleNumber}
 use Rattle.meaning.specs.Bytes.{bytes, num}
 use Rattle.meaning.specs.Names.{english}
@@ -15,7 +16,7 @@ use Rattle.meaning.specs.declared.Edition.the-variants.{First}
 use Rattle.meaning.specs.declared.Fields.{Fields}
 use Rattle.meaning.specs.declared.Pair.the-variants.{Full}
 use Rattle.meaning.specs.declared.Refusal.{Refusal}
-use Rattle.meaning.specs.declared.Refusal.the-variants.{PatternTooLong, PatternByte, LoneQuote, FieldRange, NoRoom, TextTooLong, TextByte, InPart, OffsetLength, OffsetRange, CurrentYear, TextLeft, NoSuchDay, NoDayNumber}
+use Rattle.meaning.specs.declared.Refusal.the-variants.{PatternTooLong, PatternByte, LoneQuote, FieldRange, NoRoom, TextTooLong, TextByte, InPart, OffsetLength, OffsetRange, CurrentYear, TextLeft, NoSuchDay, NoDayNumber, BookMark, BookVersion, BookCut, BookName}
 use Rattle.meaning.specs.declared.Trouble.{Trouble}
 use Rattle.meaning.specs.declared.Trouble.the-variants.{TooFew, NoNumber, NoName, NoSign, LiteralDiffers, PlusSign}
 use Rattle.meaning.specs.declared.Verdict.{Verdict}
@@ -53,6 +54,10 @@ small-number (CurrentYear year) = omega arith
 small-number (TextLeft place) = omega arith
 small-number NoSuchDay = omega arith
 small-number NoDayNumber = omega arith
+small-number BookMark = omega arith
+small-number BookVersion = omega arith
+small-number BookCut = omega arith
+small-number (BookName which) = omega arith
 
 pub few-words : (v : Verdict) → PartFits v → length (verdictText v) ≤ 10
 unfolding verdictText bytes
@@ -60,10 +65,10 @@ few-words Yes h = omega arith
 few-words (No part f) h = omega (arith, few-digits 5 part (omega arith) (omega (arith, h)))
 few-words (Refused why) h = omega (arith, few-digits 2 (number why) (omega arith) (small-number why))
 
-pub part-fits : (p : List ℕ) (current : ℤ) (v : Verdict) → length p ≤ 65536 → Says First english p current v → PartFits v
+pub part-fits : (p : List ℕ) (current : ℤ) (v : Verdict) → length p ≤ 65536 → Says First p current v → PartFits v
 unfolding SaysOf
 part-fits p current Yes h s = tt
-part-fits p current (No part f) h s = omega (arith, s false .1 .there, few-steps Full p)
+part-fits p current (No part f) h s = omega (arith, s english english-valid false .1 .there, few-steps Full p)
 part-fits p current (Refused why) h s = tt
 
 -- what an answer in words asks and gives, for each verdict
@@ -95,6 +100,6 @@ text-told (Refused why) = refl
 
 pub lines-coincide : (p old : List ℕ) {new new′ : List ℕ} {r r′ : ℕ} → Printed p old new r → Printed p old new′ r′ → (r ≡ r′) × (new ≡ new′)
 lines-coincide p old a b =
-    let same = answers-coincide First english p (pos 2025) (a .verdict) (b .verdict) (a .says) (b .says) in
+    let same = answers-coincide First p (pos 2025) (a .verdict) (b .verdict) (a .says) (b .says) in
     let words = text-told (a .verdict) ∙ ap toldText same ∙ sym (text-told (b .verdict)) in
     (rw (a .laid .end, b .laid .end, words), rw (a .laid .held, b .laid .held, words))

@@ -21,7 +21,7 @@ size-requires c κs = search needs
 
 parse-parts-requires : tie.Need-parse-parts-requires
 parse-parts-requires c κs =
-    let a = c .before .before .before .before .before .before .args in
+    let a = c .before .before .before .before .before .before .before .args in
     read-short (a .choices .edition) (now (a .pattern)) (now (a .text)) _ (sym (c .before .before .before .read-check .ensures) ∙ c .before .enum-told .given .1)
 
 enum-told-2 : tie.Need-enum-told-2
@@ -33,7 +33,7 @@ no-reading-requires c κs = search needs
 returns : tie.Need-returns
 unfolding read
 returns c =
-    let a = c .before .before .before .before .before .before .before .args in
+    let a = c .before .before .before .before .before .before .before .before .args in
     let same = toZ-ofZ w32 (a .year) (search needs) in
     let checked = rw same at (c .before .before .before .before .read-check .ensures) in
     let year = rw same at (c .before .size .ensures) in
@@ -42,7 +42,7 @@ returns c =
 returns-2 : tie.Need-returns-2
 unfolding read
 returns-2 c =
-    let a = c .before .before .before .before .before .before .args in
+    let a = c .before .before .before .before .before .before .before .args in
     let same = toZ-ofZ w32 (a .year) (search needs) in
     let checked = rw same at (c .before .before .before .read-check .ensures) in
     by-whole (rw (← checked, c .before .enum-told2 .given .1) (rw (c .before .enum-told2 .given .1) at (c .no-reading .ensures)))

@@ -13,7 +13,7 @@ use Rattle.laws.proofs.Pluses.{behindPart}
 use Rattle.laws.proofs.Readers.{none-left}
 use Rattle.meaning.specs.Answers.{restCheck}
 use Rattle.meaning.specs.Bytes.{when}
-use Rattle.meaning.specs.Names.{english}
+use Rattle.meaning.specs.Names.{Book}
 use Rattle.meaning.specs.Readers.{Got, got, stopped}
 use Rattle.meaning.specs.Reading.{readStep}
 use Rattle.meaning.specs.Whole.{Gave, Walk, walked, refusedAt, walkedBy, walk}
@@ -48,44 +48,44 @@ pub step-here : {pair : Pair} {p : List ℕ} {place : ℕ} {part : Part} {k : ru
 step-here {pair} {p} {place} {part} n chosen = rw (steps-next pair p place part n, chosen .meant)
 
 -- a cursor that a part moves on stays in the text
-pub part-inside : (edition : Edition) (text : List ℕ) (at current : ℕ) (step : Step) {c : Carried} {next : Cursor}
-    → partAt at (plainRead edition current step (drop at text)) ≡ read.Got c next → at ≤ length text → next .at ≤ length text
-part-inside edition text at current step e h =
+pub part-inside : (edition : Edition) (book : Book) (text : List ℕ) (at current : ℕ) (step : Step) {c : Carried} {next : Cursor}
+    → partAt at (plainRead edition book current step (drop at text)) ≡ read.Got c next → at ≤ length text → next .at ≤ length text
+part-inside edition book text at current step e h =
     let rest = drop at text in
-    part-stays at text (plainRead edition current step rest) h (within-step (unseen edition) english current step rest) e
+    part-stays at text (plainRead edition book current step rest) h (within-step (unseen edition) book current step rest) e
 
-module _ (choices : Choices) (current i : ℕ) (text : List ℕ) (gave : List Gave) where
+module _ (choices : Choices) (book : Book) (current i : ℕ) (text : List ℕ) (gave : List Gave) where
   -- what follows a part that began at a place, by what it gave
   abbrev walkBy : ℕ → List Step → PartRead → Walk
   walkBy at ss (read.Stopped why place) = refusedAt (Refused (InPart why i place))
   walkBy at ss (read.Got c next) =
-      walk choices english current (i + 1) (next .at) ss (drop (next .at) text) (record { carried = c; start = at; end = next .at } ∷ gave)
+      walk choices book current (i + 1) (next .at) ss (drop (next .at) text) (record { carried = c; start = at; end = next .at } ∷ gave)
 
   by-part : (at : ℕ) (ss : List Step) (g : Got Carried)
-      → behindPart i at (λ n c. walk choices english current (suc i) (at + n) ss (drop n (drop at text)) (record { carried = c; start = at; end = at + n } ∷ gave)) g
+      → behindPart i at (λ n c. walk choices book current (suc i) (at + n) ss (drop n (drop at text)) (record { carried = c; start = at; end = at + n } ∷ gave)) g
       ≡ walkBy at ss (partAt at g)
   by-part at ss (got n c) = rw (drop-drop n at text, add-one i)
   by-part at ss (stopped why place) = refl
 
   walk-on : (at : ℕ) (step : Step) (ss : List Step)
-      → walk choices english current i at (step ∷ ss) (drop at text) gave
-      ≡ walkBy at ss (partAt at (readStep choices english current step (drop at text)))
+      → walk choices book current i at (step ∷ ss) (drop at text) gave
+      ≡ walkBy at ss (partAt at (readStep choices book current step (drop at text)))
   unfolding walk
-  walk-on at step ss = by-part at ss (readStep choices english current step (drop at text))
+  walk-on at step ss = by-part at ss (readStep choices book current step (drop at text))
 
   -- a part, from what it gave where nothing is compared
   module _ (at place : ℕ) {p : List ℕ} {part : Part} {k : rules.Step} (n : Next p place part) (chosen : Chosen (choices .pair) p part k) where
     abbrev Walked : Walk → Type 0
-    Walked w = walk choices english current i at (steps (choices .pair) (drop place p)) (drop at text) gave ≡ w
+    Walked w = walk choices book current i at (steps (choices .pair) (drop place p)) (drop at text) gave ≡ w
 
     abbrev Gives : PartRead → Type 0
-    Gives g = partAt at (plainRead (choices .edition) current (means p k) (drop at text)) ≡ g
+    Gives g = partAt at (plainRead (choices .edition) book current (means p k) (drop at text)) ≡ g
 
     walk-step : {g : PartRead} → Gives g
         → Walked (walkBy at (steps (choices .pair) (drop (place + part .length) p)) (strictBy (choices .strict) (means p k) text g))
     walk-step e =
         let pair = choices .pair in
-        rw (← e, steps-next pair p place part n, ← chosen .meant, ← compared-read text at choices current (means p k))
+        rw (← e, steps-next pair p place part n, ← chosen .meant, ← compared-read text at choices book current (means p k))
         (walk-on at (means p k) (steps pair (drop (place + part .length) p)))
 
     pub walk-stops : {why : Trouble} {stop : ℕ} → Gives (read.Stopped why stop) → Walked (refusedAt (Refused (InPart why i stop)))
@@ -102,16 +102,16 @@ module _ (choices : Choices) (current i : ℕ) (text : List ℕ) (gave : List Ga
 
   -- behind the last part, where text is left over and where none is
   module _ (at place : ℕ) (p : List ℕ) (end : length p ≤ place) where
-    walk-ends : walk choices english current i at (steps (choices .pair) (drop place p)) (drop at text) gave
+    walk-ends : walk choices book current i at (steps (choices .pair) (drop place p)) (drop at text) gave
         ≡ walkedBy (restCheck (choices .strict) at (drop at text)) at gave
     unfolding walk
     walk-ends = rw (steps-done (choices .pair) p place end)
 
     pub walk-left : choices .strict ≡ true → at < length text
-        → walk choices english current i at (steps (choices .pair) (drop place p)) (drop at text) gave ≡ refusedAt (Refused (TextLeft at))
+        → walk choices book current i at (steps (choices .pair) (drop place p)) (drop at text) gave ≡ refusedAt (Refused (TextLeft at))
     walk-left strict h = walk-ends ∙ rw (strict, lt-ltb 0 (length (drop at text)) (rw length-drop (omega arith)))
 
     pub walk-done : (choices .strict ≡ false) ⊎ (length text ≤ at)
-        → walk choices english current i at (steps (choices .pair) (drop place p)) (drop at text) gave ≡ walked at gave
+        → walk choices book current i at (steps (choices .pair) (drop place p)) (drop at text) gave ≡ walked at gave
     walk-done (inl strict) = walk-ends ∙ rw strict
     walk-done (inr h) = walk-ends ∙ rw (none-left (choices .strict) at (drop at text) (rw length-drop (omega arith)))

@@ -87,8 +87,8 @@ is-negative-requires c κs = search needs
 size-requires : tie.Need-size-requires
 size-requires c κs = search needs
 
-cast-t24 : tie.Need-cast-t24
-cast-t24 c = search needs
+cast-t25 : tie.Need-cast-t25
+cast-t25 c = search needs
 
 detail-of-requires-3 : tie.Need-detail-of-requires-3
 detail-of-requires-3 c κs = search needs
@@ -110,6 +110,33 @@ enum-told-2 c = search needs
 
 with-one-requires-12 : tie.Need-with-one-requires-12
 with-one-requires-12 c κs = search needs
+
+enum-told-3 : tie.Need-enum-told-3
+enum-told-3 c = search needs
+
+with-one-requires-13 : tie.Need-with-one-requires-13
+with-one-requires-13 c κs = search needs
+
+enum-told-4 : tie.Need-enum-told-4
+enum-told-4 c = search needs
+
+with-one-requires-14 : tie.Need-with-one-requires-14
+with-one-requires-14 c κs = search needs
+
+enum-told-5 : tie.Need-enum-told-5
+enum-told-5 c = search needs
+
+with-one-requires-15 : tie.Need-with-one-requires-15
+with-one-requires-15 c κs = search needs
+
+enum-known-why-13 : tie.Need-enum-known-why-13
+enum-known-why-13 c = search needs
+
+cast-with-one-3 : tie.Need-cast-with-one-3
+cast-with-one-3 c = search needs
+
+with-one-requires-16 : tie.Need-with-one-requires-16
+with-one-requires-16 c κs = search needs
 
 returns : tie.Need-returns
 unfolding number details
@@ -171,6 +198,22 @@ returns-14 : tie.Need-returns-14
 unfolding number details
 returns-14 c = rw (c .with-one12 .ensures, c .before .enum-told2 .given .1)
 
+returns-15 : tie.Need-returns-15
+unfolding number details
+returns-15 c = rw (c .with-one13 .ensures, c .before .enum-told3 .given .1)
+
+returns-16 : tie.Need-returns-16
+unfolding number details
+returns-16 c = rw (c .with-one14 .ensures, c .before .enum-told4 .given .1)
+
+returns-17 : tie.Need-returns-17
+unfolding number details
+returns-17 c = rw (c .with-one15 .ensures, c .before .enum-told5 .given .1)
+
+returns-18 : tie.Need-returns-18
+unfolding number details
+returns-18 c = rw (c .with-one16 .ensures, c .before .before .why13 .given .1)
+
 pub tell-spec : {M : Type 1} → statement M
 tell-spec =
     tie.close
@@ -202,7 +245,7 @@ tell-spec =
     enum-known-why-11
     is-negative-requires
     size-requires
-    cast-t24
+    cast-t25
     detail-of-requires-3
     enum-known-why-12
     with-one-requires-10
@@ -210,6 +253,15 @@ tell-spec =
     with-one-requires-11
     enum-told-2
     with-one-requires-12
+    enum-told-3
+    with-one-requires-13
+    enum-told-4
+    with-one-requires-14
+    enum-told-5
+    with-one-requires-15
+    enum-known-why-13
+    cast-with-one-3
+    with-one-requires-16
     returns
     returns-2
     returns-3
@@ -223,4 +275,8 @@ tell-spec =
     returns-11
     returns-12
     returns-13
-    returns-14)
+    returns-14
+    returns-15
+    returns-16
+    returns-17
+    returns-18)

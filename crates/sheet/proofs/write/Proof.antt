@@ -11,7 +11,7 @@ use Rattle.sheet.proofs.write.Tie as tie
 
 returns : tie.Need-returns
 returns c =
-    let a = c .before .before .before .args in
+    let a = c .before .before .before .before .args in
     rw (lt-leb 2 (length (now (a .row))) (omega arith)) (record { number = refl; row = refl }, refl)
 
 format-with-requires : tie.Need-format-with-requires
@@ -19,10 +19,10 @@ format-with-requires c κs = search needs
 
 give-wrote-requires : tie.Need-give-wrote-requires
 give-wrote-requires c κs =
-    let s = c .before .before .before .before .before .before .before .before in
+    let s = c .before .before .before .before .before .before .before .before .before in
     let a = s .args in
     let wrote = c .before .before .before .format-with .ensures in
-    (search needs, rw (wrote .0 .whole) (write-fits (a .pair) (now (a .pattern)) (a .f) (now (a .out)) (omega (arith, s .good .1 .0 .1)) (omega (arith, s .good .1 .1 .1 .0 .1))))
+    (search needs, rw (wrote .0 .whole) (write-fits (a .pair) (now (a .book)) (now (a .pattern)) (a .f) (now (a .out)) (omega (arith, s .good .1 .1 .0 .1)) (omega (arith, s .good .1 .1 .1 .1 .0 .1))))
 
 same-length : tie.Need-same-length
 same-length c = search needs
@@ -32,7 +32,7 @@ same-length-2 c = search needs
 
 returns-2 : tie.Need-returns-2
 returns-2 c =
-    let s = c .before .before .before .before .before .before .before .before .before .before in
+    let s = c .before .before .before .before .before .before .before .before .before .before .before in
     let wrote = c .before .before .before .before .before .format-with .ensures in
     rw (le-leb 2 (length (now (s .args .row))) (omega (arith, c .before .before .before .before .before .before .before .if1 .left)), ← wrote .0 .whole) (c .before .give-wrote .ensures, wrote .1)
 

@@ -3,7 +3,7 @@
 use crate::lines::LONGEST;
 use crate::pair::Pair;
 use crate::words::Words;
-use crate::{checking, days, reading, splitting, writing};
+use crate::{books, checking, days, reading, splitting, writing};
 use sheet::Refusal;
 
 const BAD_REQUEST: &str = "bad request";
@@ -26,6 +26,8 @@ fn answer_to(line: &[u8]) -> Option<String> {
         b"check" => checking::answer(words),
         b"day_of" => days::answer_day(words),
         b"day_number" => days::answer_number(words),
+        b"book" => books::answer(words),
+        b"book_write" => books::answer_write(words),
         _ => None,
     }
 }
@@ -86,6 +88,17 @@ mod tests {
             "day_number 1 1",
             "day_number 1 1 1 1",
             "day 1",
+            "book",
+            "book ",
+            "book:-",
+            "book - -",
+            "Book -",
+            "book_write",
+            "book_write 0",
+            "split 79 book:-",
+            "parse_offset 5a book:-",
+            "day_of 1 book:-",
+            "book - book:-",
         ];
         for line in lines {
             assert_eq!(answer(line.as_bytes()), "bad request", "{line}");

@@ -1,6 +1,7 @@
-//! `check P NOW`, also with the word `second`
+//! `check P NOW`, also with the words `second` and `book:B`
 
 use crate::answers::{agreed, refused};
+use crate::books::with_book;
 use crate::words::{of_fields, Words};
 use sheet::{Edition, Refusal, Verdict};
 
@@ -8,12 +9,16 @@ pub fn answer(mut words: Words) -> Option<String> {
     let pattern = words.bytes()?;
     let current_year = words.number()?;
     let edition = words.edition();
+    let book = words.book();
     words.end()?;
-    let answer = checked(sheet::check_with(edition, &pattern, current_year));
-    Some(match edition {
-        Edition::First => agreed(checked(sheet::check(&pattern, current_year)), answer),
-        Edition::Second => answer,
-    })
+    // The answer is the same with every book, so that the check is given none.
+    Some(with_book(book, |_| {
+        let answer = checked(sheet::check_with(edition, &pattern, current_year));
+        match edition {
+            Edition::First => agreed(checked(sheet::check(&pattern, current_year)), answer),
+            Edition::Second => answer,
+        }
+    }))
 }
 
 fn checked(verdict: Result<Verdict, Refusal>) -> String {
@@ -27,7 +32,9 @@ fn checked(verdict: Result<Verdict, Refusal>) -> String {
 #[cfg(test)]
 mod tests {
     use super::answer;
+    use crate::hex;
     use crate::words::Words;
+    use sheet::Book;
 
     fn asked(words: &str) -> Option<String> {
         answer(Words::of(words.as_bytes()))
@@ -49,6 +56,25 @@ mod tests {
     }
 
     #[test]
+    fn by_the_word_for_a_book() {
+        let book = hex::encoded(&Book::english().write());
+        for words in [
+            "642f4d 2025",
+            "642f4d 2025 second",
+            "4d4d4d 2025",
+            "64 80 second",
+            "27 2025",
+        ] {
+            assert_eq!(asked(&format!("{words} book:{book}")), asked(words), "{words}");
+            assert_eq!(
+                asked(&format!("{words} book:-")).as_deref(),
+                Some("refused 20 0"),
+                "{words}"
+            );
+        }
+    }
+
+    #[test]
     fn it_takes_no_other_word() {
         for words in [
             "64 2025 strict",
@@ -59,6 +85,10 @@ mod tests {
             "64 2025 Second",
             "64 second",
             "64 second 2025",
+            "64 2025 book:- second",
+            "64 2025 strict book:-",
+            "64 2025 book",
+            "64 book:- 2025",
         ] {
             assert_eq!(asked(words), None, "{words}");
         }

@@ -2,6 +2,7 @@
 //! input. The README beside this file has the protocol.
 
 mod answers;
+mod books;
 mod checking;
 mod days;
 mod hex;
@@ -12,6 +13,7 @@ mod reader;
 mod reading;
 mod splitting;
 mod words;
+mod writer;
 mod writing;
 
 use std::io::{self, ErrorKind};

@@ -2,25 +2,28 @@
 
 use crate::marks::ENTRY;
 use crate::pair::Pair;
-use sheet::{raw, Choices, Reading, Refusal};
+use sheet::{raw, Book, Choices, Reading, Refusal};
 
 /// All that a reader leaves in the row that it was lent.
 pub type Row = [i64; raw::READ_ANSWER];
 
 #[derive(Clone, Copy)]
-pub enum Reader {
+pub enum Reader<'a> {
     /// The one that a pair has.
     Of(Pair),
     /// The one with choices.
     With(Choices),
+    /// The one with choices and a book.
+    By(Choices, &'a Book),
 }
 
-impl Reader {
+impl Reader<'_> {
     pub fn read(self, pattern: &[u8], text: &[u8], current_year: i32) -> Result<Reading, Refusal> {
         match self {
             Reader::Of(Pair::Full) => sheet::read(pattern, text, current_year),
             Reader::Of(Pair::Date) => sheet::read_date(pattern, text, current_year),
             Reader::With(choices) => sheet::read_with(choices, pattern, text, current_year),
+            Reader::By(choices, book) => sheet::read_by(choices, book, pattern, text, current_year),
         }
     }
 
@@ -36,6 +39,11 @@ impl Reader {
                 Reader::Of(Pair::Date) => raw::sheet_read_date(p, p_len, t, t_len, current_year, r, r_len),
                 Reader::With(choices) => {
                     raw::sheet_read_with(choices.number(), p, p_len, t, t_len, current_year, r, r_len)
+                }
+                Reader::By(choices, book) => {
+                    let (number, book) = (choices.number(), book.row());
+                    let (b, b_len) = (book.as_ptr(), book.len());
+                    raw::sheet_read_by(number, b, b_len, p, p_len, t, t_len, current_year, r, r_len)
                 }
             }
         };

@@ -1,6 +1,7 @@
-//! `read P T NOW`, `read_date P T NOW`, both with the words `strict` and `second`, and `parse_offset T`
+//! `read P T NOW`, `read_date P T NOW`, both with the words `strict`, `second` and `book:B`, and `parse_offset T`
 
 use crate::answers::{agreed, numbered, refused};
+use crate::books::with_book;
 use crate::pair::Pair;
 use crate::reader::{Reader, Row};
 use crate::words::Words;
@@ -11,14 +12,14 @@ pub fn answer(pair: Pair, mut words: Words) -> Option<String> {
     let text = words.bytes()?;
     let current_year = words.number()?;
     let choices = choices(pair, &mut words);
+    let book = words.book();
     words.end()?;
-    let answer_of = |reader| answer_by(reader, &pattern, &text, current_year);
-    let answer = answer_of(Reader::With(choices));
-    Some(if choices == pair.choices() {
-        agreed(answer_of(Reader::Of(pair)), answer)
-    } else {
-        answer
-    })
+    let answer_of = |reader: Reader| answer_by(reader, &pattern, &text, current_year);
+    Some(with_book(book, |book| match book {
+        Some(book) => answer_of(Reader::By(choices, book)),
+        None if choices == pair.choices() => agreed(answer_of(Reader::Of(pair)), answer_of(Reader::With(choices))),
+        None => answer_of(Reader::With(choices)),
+    }))
 }
 
 /// By the words that may stand behind a read, in this order.
@@ -66,15 +67,23 @@ fn refused_read(refusal: &Refusal, row: &Row) -> String {
 #[cfg(test)]
 mod tests {
     use super::{answer, refused_read};
+    use crate::hex;
     use crate::pair::Pair;
     use crate::reader::Reader;
     use crate::words::Words;
+    use sheet::Book;
 
     #[test]
     fn a_refused_read_that_gives_anything_else_is_shown() {
         for pair in [Pair::Full, Pair::Date] {
-            let choices = pair.choices();
-            for reader in [Reader::Of(pair), Reader::With(choices), Reader::With(choices.strict())] {
+            let (choices, book) = (pair.choices(), Book::english());
+            for reader in [
+                Reader::Of(pair),
+                Reader::With(choices),
+                Reader::With(choices.strict()),
+                Reader::By(choices, book),
+                Reader::By(choices.strict(), book),
+            ] {
                 let refusal = reader.read(b"'a'dd", b"a3", 2025).unwrap_err();
                 let row = reader.row_left(b"'a'dd", b"a3", 2025);
                 assert_eq!(refused_read(&refusal, &row), "refused 8 1 1");
@@ -126,6 +135,30 @@ mod tests {
         }
     }
 
+    /// `MMM` on `May` and on `Mai`, by English and by a book that has the latter.
+    #[test]
+    fn by_the_word_for_a_book() {
+        let answer = |pair, words: &str| answer(pair, Words::of(words.as_bytes())).expect("a request");
+        let mut names = Book::english().names();
+        names.short_months[4] = "Mai";
+        let other = Book::from_names(names).expect("these are names");
+        let [english, other] = [Book::english(), &other].map(|book| hex::encoded(&book.write()));
+        for pair in [Pair::Full, Pair::Date] {
+            for word in ["", " strict", " second", " strict second"] {
+                let read = |text: &str, book: &str| answer(pair, &format!("4d4d4d {text} 2025{word} book:{book}"));
+                assert!(read("4d6179", &english).starts_with("read 3 2 1 0 5 "));
+                assert!(read("4d6169", &other).starts_with("read 3 2 1 0 5 "));
+                assert_eq!(read("4d6169", &english), "refused 10 0 0");
+                assert_eq!(read("4d6179", &other), "refused 10 0 0");
+                assert_eq!(read("4d6179", &other[2..]), "refused 20 0");
+                assert_eq!(read("4d6179", "-"), "refused 20 0");
+            }
+        }
+        // The book is looked at first.
+        assert_eq!(answer(Pair::Full, "27 33 2025 book:4c4e42"), "refused 22 0");
+        assert_eq!(answer(Pair::Full, &format!("27 33 2025 book:{other}")), "refused 3 0");
+    }
+
     /// `d d` on `3 14`, and `y` on `-5`.
     #[test]
     fn spans_stand_behind_the_values() {
@@ -159,6 +192,15 @@ mod tests {
             "64 33 2025 strict second strict",
             "64 33 second",
             "64 33 2025 first",
+            "64 33 2025 book",
+            "64 33 2025 book:",
+            "64 33 2025 book:4",
+            "64 33 2025 book:- book:-",
+            "64 33 2025 book:- strict",
+            "64 33 2025 strict book:- second",
+            "64 33 2025 book: -",
+            "64 33 2025 book:- ",
+            "64 33 book:-",
         ] {
             assert!(answer(Pair::Full, Words::of(words.as_bytes())).is_none(), "{words}");
         }

@@ -42,6 +42,14 @@ impl<'a> Words<'a> {
         }
     }
 
+    /// The bytes of a book where the next word is `book:` and a byte string; any other word is left.
+    pub fn book(&mut self) -> Option<Vec<u8>> {
+        let mut behind = *self;
+        let bytes = hex::decoded(behind.word()?.strip_prefix(b"book:")?)?;
+        *self = behind;
+        Some(bytes)
+    }
+
     /// No word is left.
     pub fn end(&self) -> Option<()> {
         self.rest.is_none().then_some(())
@@ -138,6 +146,19 @@ mod tests {
         assert!(!words.takes(b"b") && words.takes(b"a") && !words.takes(b"a") && words.takes(b"b"));
         assert_eq!(words.end(), Some(()));
         assert!(!words.takes(b"") && Words::of(b"").takes(b""));
+    }
+
+    #[test]
+    fn a_book_is_taken_where_its_word_is_next() {
+        let mut words = Words::of(b"book:4c4e42 book:-");
+        assert_eq!((words.book(), words.book()), (Some(b"LNB".to_vec()), Some(Vec::new())));
+        assert_eq!((words.end(), words.book()), (Some(()), None));
+        for word in [
+            "", "book", "book:", "book:4", "book:4C", "Book:-", "strict", "-", "book: -",
+        ] {
+            let mut words = Words::of(word.as_bytes());
+            assert_eq!((words.book(), words.end()), (None, None), "{word}");
+        }
     }
 
     #[test]

@@ -1,23 +1,29 @@
-//! `write P FIELDS ROOM` and `write_date P FIELDS ROOM`
+//! `write P FIELDS ROOM` and `write_date P FIELDS ROOM`, both with the word `book:B`
 
 use crate::answers::refused;
+use crate::books::with_book;
 use crate::hex;
 use crate::marks::{filled, first_altered};
 use crate::pair::Pair;
 use crate::words::Words;
+use crate::writer::Writer;
 use sheet::{raw, Refusal};
 
-const MOST_ROOM: usize = 4096;
+pub const MOST_ROOM: usize = 4096;
 
 pub fn answer(pair: Pair, mut words: Words) -> Option<String> {
     let pattern = words.bytes()?;
     let fields = words.fields()?;
     let room = words.number().filter(|room| *room <= MOST_ROOM)?;
+    let book = words.book();
     words.end()?;
-    let mut out = filled(room);
-    let wrote = pair.write_into(&pattern, &fields, &mut out);
-    let made = pair.write(&pattern, &fields);
-    Some(answer_of_both(&wrote, &out, &made))
+    Some(with_book(book, |book| {
+        let writer = book.map_or(Writer::Of(pair), |book| Writer::By(pair, book));
+        let mut out = filled(room);
+        let wrote = writer.write_into(&pattern, &fields, &mut out);
+        let made = writer.write(&pattern, &fields);
+        answer_of_both(&wrote, &out, &made)
+    }))
 }
 
 /// What the writer did that is lent an output; where the one that makes its own did not do the same, the answers of both.
@@ -46,11 +52,11 @@ fn written(wrote: &Result<usize, Refusal>, out: &[u8]) -> String {
 }
 
 /// The reported length is shown as it is, even where there are not so many bytes.
-fn wrote_text(length: usize, text: &[u8]) -> String {
+pub fn wrote_text(length: usize, text: &[u8]) -> String {
     format!("wrote {length} {}", hex::encoded(text))
 }
 
-fn text_of(out: &[u8], length: usize) -> &[u8] {
+pub fn text_of(out: &[u8], length: usize) -> &[u8] {
     &out[..length.min(out.len())]
 }
 
@@ -66,10 +72,11 @@ fn agree(wrote: &Result<usize, Refusal>, out: &[u8], made: &Result<String, Refus
 #[cfg(test)]
 mod tests {
     use super::{agree, answer, answer_of_both, written};
+    use crate::hex;
     use crate::marks::filled;
     use crate::pair::Pair;
     use crate::words::Words;
-    use sheet::Refusal;
+    use sheet::{Book, Refusal};
 
     const R: &str = "2025 12 3 337 49 3 25509000120000 19800";
 
@@ -93,6 +100,34 @@ mod tests {
         assert_eq!(asked(&format!("6464 {R} 4096")).as_deref(), Some("wrote 2 3033"));
         for room in ["4097", "-1", "-0", ""] {
             assert_eq!(asked(&format!("6464 {R} {room}")), None);
+        }
+    }
+
+    /// `MMM` and `H` on R, by English and by a book with another name for December.
+    #[test]
+    fn by_the_word_for_a_book() {
+        let mut names = Book::english().names();
+        names.short_months[11] = "Dez";
+        let other = Book::from_names(names).expect("these are names");
+        let [english, other] = [Book::english(), &other].map(|book| hex::encoded(&book.write()));
+        let asked = |pair, words: &str| answer(pair, Words::of(format!("4d4d4d48 {R} {words}").as_bytes()));
+        for (pair, hour) in [(Pair::Full, "37"), (Pair::Date, "48")] {
+            for (book, name) in [(&english, "446563"), (&other, "44657a")] {
+                let wrote = format!("wrote 4 {name}{hour}");
+                assert_eq!(asked(pair, &format!("4 book:{book}")), Some(wrote));
+                assert_eq!(asked(pair, &format!("3 book:{book}")).as_deref(), Some("refused 5 4"));
+            }
+            assert_eq!(asked(pair, "4 book:4c4e42").as_deref(), Some("refused 22 0"));
+            for words in [
+                "4 strict",
+                "4 second",
+                "4 book:",
+                "4 book:- ",
+                "4 strict book:-",
+                "4 book:- book:-",
+            ] {
+                assert_eq!(asked(pair, words), None, "{words}");
+            }
         }
     }
 

@@ -14,20 +14,20 @@ use Rattle.meaning.specs.declared.Quantity.the-variants.{Quarter}
 year-length-requires : tie.Need-year-length-requires
 unfolding ruleText
 year-length-requires c κs =
-    let a = c .before .before .before .before in
+    let a = c .before .before .before .before .before in
     let e = toZ-ofZ w32 (a .args .f .year) (record { sfits = c .struct-told .given .0 .1 }) in
     rw e (rw (c .before .before .rule6 .given .1) at (a .pre .1))
 
 year-length-requires-2 : tie.Need-year-length-requires-2
 unfolding ruleText
 year-length-requires-2 c κs =
-    let a = c .before .before .before .before in
+    let a = c .before .before .before .before .before in
     let e = toZ-ofZ w32 (a .args .f .year) (record { sfits = c .struct-told2 .given .0 .1 }) in
     rw e (rw (c .before .before .rule7 .given .1) at (a .pre .1))
 
 zone-length-requires : tie.Need-zone-length-requires
 zone-length-requires c κs =
-    let a = c .before .before .before .before in
+    let a = c .before .before .before .before .before in
     rw (toZ-ofZ w32 (a .args .f .offset) (record { sfits = c .struct-told4 .given .1 .1 .1 .1 .1 .1 .1 .0 .1 })) (allowed (a .args .f) (a .pre .0) .offset)
 
 returns : tie.Need-returns
@@ -42,7 +42,7 @@ returns-2 c = rw (c .before .before .before .rule2 .given .1, ← c .before .qua
 returns-3 : tie.Need-returns-3
 unfolding ruleText mostDigits
 returns-3 c =
-    let a = c .before .before in
+    let a = c .before .before .before in
     rw (c .enum-told .given .1)
     (omega (arith, num-fits 1 (quantityOf Quarter (a .args .f)) (omega arith) (quantity-below Quarter (a .args .f) (allowed (a .args .f) (a .pre .0)))))
 
@@ -61,28 +61,28 @@ returns-6 c = rw (c .before .before .rule5 .given .1) (c .length-of-name3 .ensur
 returns-7 : tie.Need-returns-7
 unfolding ruleText
 returns-7 c =
-    let a = c .before .before .before .before .before in
+    let a = c .before .before .before .before .before .before in
     let e = toZ-ofZ w32 (a .args .f .year) (record { sfits = c .before .struct-told .given .0 .1 }) in
     rw (c .before .before .before .rule6 .given .1) (rw e at (c .year-length .ensures))
 
 returns-8 : tie.Need-returns-8
 unfolding ruleText
 returns-8 c =
-    let a = c .before .before .before .before .before in
+    let a = c .before .before .before .before .before .before in
     let e = toZ-ofZ w32 (a .args .f .year) (record { sfits = c .before .struct-told2 .given .0 .1 }) in
     rw (c .before .before .before .rule7 .given .1) (rw e at (c .year-length2 .ensures))
 
 returns-9 : tie.Need-returns-9
 unfolding ruleText
 returns-9 c =
-    let a = c .before .before .before .before in
+    let a = c .before .before .before .before .before in
     let e = toZ-ofZ w32 (a .args .f .year) (record { sfits = c .before .struct-told3 .given .0 .1 }) in
     rw (c .before .before .enum-told2 .given .1) (rw e at (c .two-digit-length .ensures))
 
 returns-10 : tie.Need-returns-10
 unfolding ruleText
 returns-10 c =
-    let a = c .before .before .before .before .before in
+    let a = c .before .before .before .before .before .before in
     let e = toZ-ofZ w32 (a .args .f .offset) (record { sfits = c .before .struct-told4 .given .1 .1 .1 .1 .1 .1 .1 .0 .1 }) in
     rw (c .before .before .before .rule8 .given .1) (rw e at (c .zone-length .ensures))
 

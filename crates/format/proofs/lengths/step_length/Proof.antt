@@ -11,49 +11,49 @@ use Rattle.pattern.proofs.parts.Walks.{rest-all}
 
 -- the places of a quoted part, and of an unclosed one
 sub-unescaped-length : tie.Need-sub-unescaped-length
-sub-unescaped-length c = omega (arith, rw (c .before .step2 .given .1) at (c .before .before .before .before .pre .1 .0))
+sub-unescaped-length c = omega (arith, rw (c .before .step2 .given .1) at (c .before .before .before .before .before .pre .1 .0))
 
 part-unescaped-length-start : tie.Need-part-unescaped-length-start
-part-unescaped-length-start c = omega (arith, rw (c .before .step2 .given .1) at (c .before .before .before .before .pre .1 .0))
+part-unescaped-length-start c = omega (arith, rw (c .before .step2 .given .1) at (c .before .before .before .before .before .pre .1 .0))
 
 part-unescaped-length-end : tie.Need-part-unescaped-length-end
-part-unescaped-length-end c = omega (arith, rw (c .before .step2 .given .1) at (c .before .before .before .before .pre .1 .0))
+part-unescaped-length-end c = omega (arith, rw (c .before .step2 .given .1) at (c .before .before .before .before .before .pre .1 .0))
 
 sub-open-length : tie.Need-sub-open-length
-sub-open-length c = omega (arith, (rw (c .before .step3 .given .1) at (c .before .before .before .before .pre .1 .0)) .0)
+sub-open-length c = omega (arith, (rw (c .before .step3 .given .1) at (c .before .before .before .before .before .pre .1 .0)) .0)
 
 part-open-length-start : tie.Need-part-open-length-start
-part-open-length-start c = omega (arith, (rw (c .before .step3 .given .1) at (c .before .before .before .before .pre .1 .0)) .0)
+part-open-length-start c = omega (arith, (rw (c .before .step3 .given .1) at (c .before .before .before .before .before .pre .1 .0)) .0)
 
 open-length-requires : tie.Need-open-length-requires
 open-length-requires c κs =
-    let a = c .before .before .before .before .before in
+    let a = c .before .before .before .before .before .before in
     let told = c .before .before .step3 .given in
     rw (rest-all (told .0 .0) (now (a .args .pattern))) ((rw (told .1) at (a .pre .1 .0)) .1)
 
 rule-length-requires : tie.Need-rule-length-requires
 unfolding stepText ruleText
 rule-length-requires c κs =
-    let a = c .before .before .before .before in
+    let a = c .before .before .before .before .before in
     (a .pre .0, rw year-text at (rw (c .before .step5 .given .1) at (a .pre .1 .1)))
 
 rule-length-requires-2 : tie.Need-rule-length-requires-2
 unfolding stepText
-rule-length-requires-2 c κs = let a = c .before .before .before in (a .pre .0, rw (c .enum-told .given .1) at (a .pre .1 .1))
+rule-length-requires-2 c κs = let a = c .before .before .before .before in (a .pre .0, rw (c .enum-told .given .1) at (a .pre .1 .1))
 
 rule-length-requires-3 : tie.Need-rule-length-requires-3
 unfolding stepText
-rule-length-requires-3 c κs = let a = c .before .before .before in (a .pre .0, rw (c .enum-told2 .given .1) at (a .pre .1 .1))
+rule-length-requires-3 c κs = let a = c .before .before .before .before in (a .pre .0, rw (c .enum-told2 .given .1) at (a .pre .1 .1))
 
 rule-length-requires-4 : tie.Need-rule-length-requires-4
 unfolding stepText
-rule-length-requires-4 c κs = let a = c .before .before .before in (a .pre .0, rw (c .enum-told3 .given .1) at (a .pre .1 .1))
+rule-length-requires-4 c κs = let a = c .before .before .before .before in (a .pre .0, rw (c .enum-told3 .given .1) at (a .pre .1 .1))
 
 rule-length-requires-5 : tie.Need-rule-length-requires-5
 unfolding stepText
 rule-length-requires-5 c κs =
     let run = c .before .before .before .before in
-    let a = run .before .before .before in
+    let a = run .before .before .before .before in
     (a .pre .0, rw (run .step6 .given .1, c .before .role .given .1) at (a .pre .1 .1))
 
 returns : tie.Need-returns
@@ -66,7 +66,7 @@ returns-2 c = rw (c .before .before .before .step2 .given .1) (c .unescaped-leng
 
 returns-3 : tie.Need-returns-3
 returns-3 c =
-    let a = c .before .before .before .before .before .before in
+    let a = c .before .before .before .before .before .before .before in
     let told = c .before .before .before .step3 .given in
     rw (told .1, open-text) (rw (rest-all (told .0 .0) (now (a .args .pattern))) at (c .open-length .ensures))
 

@@ -3,6 +3,7 @@ use Prim.Native.Nat.{ℕ, _<_}
 use borrow.Author.Needs.{needs}
 use borrow.Fn.Kinds.{In}
 use borrow.Fn.PlainCycle.{Measures, is, falls, and}
+use denote.Ref.{now}
 use lib.ListN.{length}
 use mir.Syntax.{w32}
 use mir.ValLaws.{toZ-ofZ}
@@ -19,17 +20,17 @@ use Rattle.format.proofs.years.two_digit_year.Reads as two-digit-year
 use Rattle.format.proofs.years.zero_padded_i.Reads as zero-padded-i
 use Rattle.format.proofs.zones.format_zone.Reads as format-zone
 use Rattle.laws.proofs.Laid.{laid-then}
-use Rattle.meaning.specs.Names.{english}
+use Rattle.meaning.specs.OpenedBooks.{bookIn}
 use Rattle.meaning.specs.Writing.{ruleText}
 
-abbrev μ : Measures 1 kinds.ps ℕ
-μ κs a = length (ruleText english (a .0) (a .1 .0))
+abbrev μ : Measures 2 kinds.ps ℕ
+μ κs a = length (ruleText (bookIn (now (a .0))) (a .1 .0) (a .1 .1 .0))
 
-abbrev at : ℕ → In 1 kinds.ps
-at t = and 1 kinds.ps (is 1 kinds.ps μ t) format-rule.Pre
+abbrev at : ℕ → In 2 kinds.ps
+at t = and 2 kinds.ps (is 2 kinds.ps μ t) format-rule.Pre
 
-abbrev below : ℕ → In 1 kinds.ps
-below t = and 1 kinds.ps (falls 1 kinds.ps _<_ μ t) format-rule.Pre
+abbrev below : ℕ → In 2 kinds.ps
+below t = and 2 kinds.ps (falls 2 kinds.ps _<_ μ t) format-rule.Pre
 
 -- what is known of the calls
 abbrev calls : ℕ → lts.Claims
@@ -56,26 +57,26 @@ module _ (t : ℕ) where
 
   put-quantity-requires : lts.Need-put-quantity-requires (calls t) (at t) format-rule.Post
   unfolding ruleText
-  put-quantity-requires c κs = (c .before .before .before .before .before .pre .1 .0, rw (c .before .before .rule .given .1) at (c .before .before .before .before .before .pre .1 .1))
+  put-quantity-requires c κs = (c .before .before .before .before .before .before .pre .1 .0, rw (c .before .before .rule .given .1) at (c .before .before .before .before .before .before .pre .1 .1))
 
   enum-known-rule-2 : lts.Need-enum-known-rule-2 (calls t) (at t) format-rule.Post
   enum-known-rule-2 c = search needs
 
   put-quantity-requires-2 : lts.Need-put-quantity-requires-2 (calls t) (at t) format-rule.Post
   unfolding ruleText
-  put-quantity-requires-2 c κs = (c .before .before .before .before .before .pre .1 .0, rw (c .before .before .rule2 .given .1) at (c .before .before .before .before .before .pre .1 .1))
+  put-quantity-requires-2 c κs = (c .before .before .before .before .before .before .pre .1 .0, rw (c .before .before .rule2 .given .1) at (c .before .before .before .before .before .before .pre .1 .1))
 
   enum-told : lts.Need-enum-told (calls t) (at t) format-rule.Post
   enum-told c = search needs
 
   put-byte-requires : lts.Need-put-byte-requires (calls t) (at t) format-rule.Post
   unfolding ruleText
-  put-byte-requires c κs = omega (arith, rw (c .before .enum-told .given .1) at (c .before .before .before .before .pre .1 .1))
+  put-byte-requires c κs = omega (arith, rw (c .before .enum-told .given .1) at (c .before .before .before .before .before .pre .1 .1))
 
   format-rule-requires : lts.Need-format-rule-requires (calls t) (at t) format-rule.Post
   unfolding ruleText
   format-rule-requires c κs =
-      let start = c .before .before .before .before .before .before .before .before in
+      let start = c .before .before .before .before .before .before .before .before .before in
       let letter = c .before .before .before .before .before .enum-told .given .1 in
       let byte = c .before .before .before .put-byte in (
         omega (arith, rw letter at (start .pre .0)),
@@ -87,21 +88,21 @@ module _ (t : ℕ) where
 
   put-name-of-requires : lts.Need-put-name-of-requires (calls t) (at t) format-rule.Post
   unfolding ruleText
-  put-name-of-requires c κs = (c .before .before .before .before .before .pre .1 .0, rw (c .before .before .rule3 .given .1) at (c .before .before .before .before .before .pre .1 .1))
+  put-name-of-requires c κs = (c .before .before .before .before .before .before .pre .1 .0, rw (c .before .before .rule3 .given .1) at (c .before .before .before .before .before .before .pre .1 .1))
 
   enum-known-rule-4 : lts.Need-enum-known-rule-4 (calls t) (at t) format-rule.Post
   enum-known-rule-4 c = search needs
 
   put-name-of-requires-2 : lts.Need-put-name-of-requires-2 (calls t) (at t) format-rule.Post
   unfolding ruleText
-  put-name-of-requires-2 c κs = (c .before .before .before .before .before .pre .1 .0, rw (c .before .before .rule4 .given .1) at (c .before .before .before .before .before .pre .1 .1))
+  put-name-of-requires-2 c κs = (c .before .before .before .before .before .before .pre .1 .0, rw (c .before .before .rule4 .given .1) at (c .before .before .before .before .before .before .pre .1 .1))
 
   enum-known-rule-5 : lts.Need-enum-known-rule-5 (calls t) (at t) format-rule.Post
   enum-known-rule-5 c = search needs
 
   put-name-of-requires-3 : lts.Need-put-name-of-requires-3 (calls t) (at t) format-rule.Post
   unfolding ruleText
-  put-name-of-requires-3 c κs = (c .before .before .before .before .before .pre .1 .0, rw (c .before .before .rule5 .given .1) at (c .before .before .before .before .before .pre .1 .1))
+  put-name-of-requires-3 c κs = (c .before .before .before .before .before .before .pre .1 .0, rw (c .before .before .rule5 .given .1) at (c .before .before .before .before .before .before .pre .1 .1))
 
   enum-known-rule-6 : lts.Need-enum-known-rule-6 (calls t) (at t) format-rule.Post
   enum-known-rule-6 c = search needs
@@ -109,7 +110,7 @@ module _ (t : ℕ) where
   zero-padded-i-requires : lts.Need-zero-padded-i-requires (calls t) (at t) format-rule.Post
   unfolding ruleText
   zero-padded-i-requires c κs =
-      let a = c .before .before .before .before .before .before in
+      let a = c .before .before .before .before .before .before .before in
       let e = toZ-ofZ w32 (a .args .f .year) (record { sfits = c .struct-told .given .0 .1 }) in
       rw e (rw (c .before .before .before .rule6 .given .1) at (a .pre .1 .1))
 
@@ -119,7 +120,7 @@ module _ (t : ℕ) where
   zero-padded-i-requires-2 : lts.Need-zero-padded-i-requires-2 (calls t) (at t) format-rule.Post
   unfolding ruleText
   zero-padded-i-requires-2 c κs =
-      let a = c .before .before .before .before .before .before in
+      let a = c .before .before .before .before .before .before .before in
       let e = toZ-ofZ w32 (a .args .f .year) (record { sfits = c .struct-told2 .given .0 .1 }) in
       rw e (rw (c .before .before .before .rule7 .given .1) at (a .pre .1 .1))
 
@@ -129,7 +130,7 @@ module _ (t : ℕ) where
   two-digit-year-requires : lts.Need-two-digit-year-requires (calls t) (at t) format-rule.Post
   unfolding ruleText
   two-digit-year-requires c κs =
-      let a = c .before .before .before .before .before in
+      let a = c .before .before .before .before .before .before in
       let e = toZ-ofZ w32 (a .args .f .year) (record { sfits = c .struct-told3 .given .0 .1 }) in
       rw e (rw (c .before .before .enum-told2 .given .1) at (a .pre .1 .1))
 
@@ -139,7 +140,7 @@ module _ (t : ℕ) where
   format-zone-requires : lts.Need-format-zone-requires (calls t) (at t) format-rule.Post
   unfolding ruleText
   format-zone-requires c κs =
-      let a = c .before .before .before .before .before .before in
+      let a = c .before .before .before .before .before .before .before in
       let e = toZ-ofZ w32 (a .args .f .offset) (record { sfits = c .struct-told4 .given .1 .1 .1 .1 .1 .1 .1 .0 .1 }) in
       rw e (rw (c .before .before .before .rule8 .given .1) at (a .pre .1 .1))
 
@@ -193,7 +194,7 @@ module _ (t : ℕ) where
   returns-7 : lts.Need-returns-7 (calls t) (at t) format-rule.Post
   unfolding ruleText
   returns-7 c =
-      let a = c .before .before .before .before .before .before .before .before .before in
+      let a = c .before .before .before .before .before .before .before .before .before .before in
       let e = toZ-ofZ w32 (a .args .f .year) (record { sfits = c .before .before .before .struct-told .given .0 .1 }) in
       rw (c .before .before .before .before .before .before .rule6 .given .1) (rw e at (c .before .before .zero-padded-i .ensures))
 
@@ -203,7 +204,7 @@ module _ (t : ℕ) where
   returns-8 : lts.Need-returns-8 (calls t) (at t) format-rule.Post
   unfolding ruleText
   returns-8 c =
-      let a = c .before .before .before .before .before .before .before .before .before in
+      let a = c .before .before .before .before .before .before .before .before .before .before in
       let e = toZ-ofZ w32 (a .args .f .year) (record { sfits = c .before .before .before .struct-told2 .given .0 .1 }) in
       rw (c .before .before .before .before .before .before .rule7 .given .1) (rw e at (c .before .before .zero-padded-i2 .ensures))
 
@@ -213,7 +214,7 @@ module _ (t : ℕ) where
   returns-9 : lts.Need-returns-9 (calls t) (at t) format-rule.Post
   unfolding ruleText
   returns-9 c =
-      let a = c .before .before .before .before .before .before .before .before in
+      let a = c .before .before .before .before .before .before .before .before .before in
       let e = toZ-ofZ w32 (a .args .f .year) (record { sfits = c .before .before .before .struct-told3 .given .0 .1 }) in
       rw (c .before .before .before .before .before .enum-told2 .given .1) (rw e at (c .before .before .two-digit-year .ensures))
 
@@ -223,7 +224,7 @@ module _ (t : ℕ) where
   returns-10 : lts.Need-returns-10 (calls t) (at t) format-rule.Post
   unfolding ruleText
   returns-10 c =
-      let a = c .before .before .before .before .before .before .before .before .before in
+      let a = c .before .before .before .before .before .before .before .before .before .before in
       let e = toZ-ofZ w32 (a .args .f .offset) (record { sfits = c .before .before .before .struct-told4 .given .1 .1 .1 .1 .1 .1 .1 .0 .1 }) in
       rw (c .before .before .before .before .before .before .rule8 .given .1) (rw e at (c .before .before .format-zone .ensures))
 

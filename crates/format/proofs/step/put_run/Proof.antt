@@ -10,14 +10,14 @@ enum-told c = search needs
 
 put-times-requires : tie.Need-put-times-requires
 unfolding stepText
-put-times-requires c κs = rw length-replicate at (rw (c .before .enum-told .given .1) at (c .before .before .before .before .pre .1))
+put-times-requires c κs = rw length-replicate at (rw (c .before .enum-told .given .1) at (c .before .before .before .before .before .pre .1))
 
 enum-known-role : tie.Need-enum-known-role
 enum-known-role c = search needs
 
 format-rule-requires : tie.Need-format-rule-requires
 unfolding stepText
-format-rule-requires c κs = (c .before .before .before .before .before .pre .0, rw (c .before .before .role .given .1) at (c .before .before .before .before .before .pre .1))
+format-rule-requires c κs = (c .before .before .before .before .before .before .pre .0, rw (c .before .before .role .given .1) at (c .before .before .before .before .before .before .pre .1))
 
 same-length : tie.Need-same-length
 same-length c = search needs

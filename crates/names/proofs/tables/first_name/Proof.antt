@@ -1,52 +1,53 @@
 -- `tables::first_name` meets its contract. The loop over names keeps the match that remains, the loop over bytes the
--- comparison that remains and what the name's row holds.
+-- comparison that remains and what the name's room holds.
 use mathlib.Core.Path.{_≡_, refl, sym, _∙_}
 use Prim.Native.Nat.{_≤_, _<_, _-_}
 use native.Mathlib.Omega.{arith}
 use borrow.Author.Needs.{needs}
 use denote.Ref.{now}
 use lib.ListN.{length, drop}
+use Rattle.meaning.specs.OpenedBooks.{namesAt}
 use Rattle.meaning.specs.Readers.{begins, firstName, matchName}
-use Rattle.names.specs.Table.{table, nameAt}
-use Rattle.names.proofs.tables.Laws.{Row, row, too-long, same-byte, other-byte, all-bytes, this-name, next-name, no-name}
+use Rattle.names.specs.Table.{nameIn}
+use Rattle.names.proofs.tables.Laws.{Room, room, too-long, same-byte, other-byte, all-bytes, this-name, next-name, no-name}
 use Rattle.names.proofs.tables.first_name.Statement.{statement}
 use Rattle.names.proofs.tables.first_name.Tie as tie
 
 abbrev Inv-loop : tie.InvT-loop
-Inv-loop rows lens text index₀ size j₀ index-end index j =
-    (index ≡ index₀) × (j ≤ size) × (Row rows lens index₀)
-    × (begins (nameAt rows lens index₀) text ≡ begins (drop j (nameAt rows lens index₀)) (drop j text))
+Inv-loop rows count most text index₀ size j₀ index j =
+    (index ≡ index₀) × (j ≤ size) × (Room most rows index₀)
+    × (begins (nameIn most rows index₀) text ≡ begins (drop j (nameIn most rows index₀)) (drop j text))
 
 abbrev μ-loop : tie.MeasureT-loop
-μ-loop rows lens text index₀ size j₀ index-end index j = size - j
+μ-loop rows count most text index₀ size j₀ index j = size - j
 
 abbrev Inv-names : tie.InvT-names
-Inv-names rows lens text index₀ index-end index =
-    (index ≤ length lens) × (matchName (table rows lens) text ≡ firstName index (drop index (table rows lens)) text)
+Inv-names rows count most text index₀ index =
+    (index ≤ count) × (matchName (namesAt most count rows) text ≡ firstName index (drop index (namesAt most count rows)) text)
 
 abbrev μ-names : tie.MeasureT-names
-μ-names rows lens text index₀ index-end index = length lens - index
+μ-names rows count most text index₀ index = count - index
 
 names-holds : tie.Need-names-holds Inv-loop μ-loop Inv-names μ-names
 unfolding matchName
 names-holds c = (search needs, refl)
 
-shared-slice-read-length : tie.Need-shared-slice-read-length Inv-loop μ-loop Inv-names μ-names
-shared-slice-read-length c = search needs
-
-cast-length : tie.Need-cast-length Inv-loop μ-loop Inv-names μ-names
-cast-length c = omega (arith, c .shared-slice-known .given (c .before .before .names .index))
+length-at-requires : tie.Need-length-at-requires Inv-loop μ-loop Inv-names μ-names
+length-at-requires c κs = search needs
 
 loop-holds : tie.Need-loop-holds Inv-loop μ-loop Inv-names μ-names
 loop-holds c =
-    let o = c .before .before in
-    (refl, search needs, row _ _ _ (o .before .before .pre) (o .names-test .taken), refl)
+    let o = c .before .before .before in
+    (refl, search needs, room _ _ _ (o .before .before .before .pre .0) (omega arith), refl)
 
 mul-if2 : tie.Need-mul-if2 Inv-loop μ-loop Inv-names μ-names
 mul-if2 c = search needs
 
 add-if2 : tie.Need-add-if2 Inv-loop μ-loop Inv-names μ-names
 add-if2 c = search needs
+
+add-if2-2 : tie.Need-add-if2-2 Inv-loop μ-loop Inv-names μ-names
+add-if2-2 c = search needs
 
 shared-slice-read-if2 : tie.Need-shared-slice-read-if2 Inv-loop μ-loop Inv-names μ-names
 shared-slice-read-if2 c = search needs
@@ -64,13 +65,13 @@ names-again : tie.Need-names-again Inv-loop μ-loop Inv-names μ-names
 names-again c =
     let l = c .before .before .before .before in
     let o = l .before .before .before in
-    let a = o .before .before .args in
+    let a = o .before .before .before .before .args in
     let same = l .loop .inv .0 in
     let at = l .loop .inv .2 in
     rw same (
       search needs,
       o .before .names .inv .1
-          ∙ next-name (now (a .rows)) (now (a .lens)) (now (a .text)) _ (o .names-test .taken)
+          ∙ next-name (a .most) (a .count) (now (a .rows)) (now (a .text)) _ (o .names-test .taken)
           (l .loop .inv .3
           ∙ other-byte _ _ (l .loop .j) (omega arith) (omega arith)
           (λ e. c .if2 .taken (rw same (sym (at .byte (l .loop .j) (omega arith)) ∙ e)))),
@@ -98,12 +99,11 @@ returns : tie.Need-returns Inv-loop μ-loop Inv-names μ-names
 returns c =
     let l = c .before in
     let o = l .before .before .before in
-    let at = l .loop .inv .2 in
     rw (
       l .loop .inv .0,
       o .before .names .inv .1,
-      this-name _ _ _ _ (o .names-test .taken) (l .loop .inv .3 ∙ all-bytes _ _ (l .loop .j) (omega arith)),
-      at .size,
+      this-name _ _ _ _ _ (o .names-test .taken) (l .loop .inv .3 ∙ all-bytes _ _ (l .loop .j) (omega arith)),
+      l .before .before .length-at .ensures,
     )
 
 add-index-2 : tie.Need-add-index-2 Inv-loop μ-loop Inv-names μ-names
@@ -115,13 +115,12 @@ names-less-2 c = search needs
 names-again-2 : tie.Need-names-again-2 Inv-loop μ-loop Inv-names μ-names
 names-again-2 c =
     let o = c .before .before in
-    let a = o .before .before .args in
-    let at = row (now (a .rows)) (now (a .lens)) (o .before .names .index) (o .before .before .pre) (o .names-test .taken) in
-    let h : length (now (a .text)) < length (nameAt (now (a .rows)) (now (a .lens)) (o .before .names .index)) = omega arith in
-    (search needs, o .before .names .inv .1 ∙ next-name (now (a .rows)) (now (a .lens)) (now (a .text)) _ (o .names-test .taken) (too-long _ _ h))
+    let a = o .before .before .before .before .args in
+    let h : length (now (a .text)) < length (nameIn (a .most) (now (a .rows)) (o .before .names .index)) = omega arith in
+    (search needs, o .before .names .inv .1 ∙ next-name (a .most) (a .count) (now (a .rows)) (now (a .text)) _ (o .names-test .taken) (too-long _ _ h))
 
 returns-2 : tie.Need-returns-2 Inv-loop μ-loop Inv-names μ-names
-returns-2 c = rw (c .before .names .inv .1, no-name _ _ _ _ (c .names-test .left))
+returns-2 c = rw (c .before .names .inv .1, no-name _ _ _ _ _ (c .names-test .left))
 
 pub first-name-spec : {M : Type 1} → statement M
 first-name-spec =
@@ -132,11 +131,11 @@ first-name-spec =
     Inv-names
     μ-names
     names-holds
-    shared-slice-read-length
-    cast-length
+    length-at-requires
     loop-holds
     mul-if2
     add-if2
+    add-if2-2
     shared-slice-read-if2
     shared-slice-read-if2-2
     add-index

@@ -1,4 +1,4 @@
--- `tables::put_name` meets its contract. The loop keeps the bytes that remain to be laid and what the name's row holds.
+-- `tables::put_name` meets its contract. The loop keeps the bytes that remain to be laid and what the name's room holds.
 use mathlib.Core.Path.{_≡_, refl, sym, _∙_}
 use Prim.Native.Nat.{_+_, _≤_, _-_}
 use native.Mathlib.Nat.{add-zero}
@@ -7,27 +7,24 @@ use borrow.Author.Needs.{needs}
 use lib.ListN.{length, drop, length-set}
 use lib.Seq.{sets}
 use Rattle.laws.proofs.Laid.{lay-next, lay-done}
-use Rattle.names.specs.Table.{nameAt}
-use Rattle.names.proofs.tables.Laws.{Row, row}
+use Rattle.names.specs.Table.{nameIn}
+use Rattle.names.proofs.tables.Laws.{Room, room}
 use Rattle.names.proofs.tables.put_name.Statement.{statement}
 use Rattle.names.proofs.tables.put_name.Tie as tie
 
 abbrev Inv-loop : tie.InvT-loop
-Inv-loop rows lens index out₀ at size j₀ out j =
-    (j ≤ size) × (length out ≡ length out₀) × (Row rows lens index)
-    × (sets out (at + j) (drop j (nameAt rows lens index)) ≡ sets out₀ at (nameAt rows lens index))
+Inv-loop rows index most out₀ at size j₀ out j =
+    (j ≤ size) × (length out ≡ length out₀) × (Room most rows index)
+    × (sets out (at + j) (drop j (nameIn most rows index)) ≡ sets out₀ at (nameIn most rows index))
 
 abbrev μ-loop : tie.MeasureT-loop
-μ-loop rows lens index out₀ at size j₀ out j = size - j
+μ-loop rows index most out₀ at size j₀ out j = size - j
 
-shared-slice-read-size : tie.Need-shared-slice-read-size Inv-loop μ-loop
-shared-slice-read-size c = search needs
-
-cast-size : tie.Need-cast-size Inv-loop μ-loop
-cast-size c = omega (arith, c .shared-slice-known .given (c .before .args .index))
+length-at-requires : tie.Need-length-at-requires Inv-loop μ-loop
+length-at-requires c κs = search needs
 
 loop-holds : tie.Need-loop-holds Inv-loop μ-loop
-loop-holds c = (search needs, refl, row _ _ _ (c .before .pre .0) (c .before .pre .1 .0), rw add-zero)
+loop-holds c = (search needs, refl, room _ _ _ (c .before .before .before .pre .0 .0) (c .before .before .before .pre .0 .1), rw add-zero)
 
 mul-out : tie.Need-mul-out Inv-loop μ-loop
 mul-out c = search needs
@@ -35,11 +32,14 @@ mul-out c = search needs
 add-out : tie.Need-add-out Inv-loop μ-loop
 add-out c = search needs
 
+add-out-2 : tie.Need-add-out-2 Inv-loop μ-loop
+add-out-2 c = search needs
+
 shared-slice-read-out : tie.Need-shared-slice-read-out Inv-loop μ-loop
 shared-slice-read-out c = search needs
 
-add-out-2 : tie.Need-add-out-2 Inv-loop μ-loop
-add-out-2 c = search needs
+add-out-3 : tie.Need-add-out-3 Inv-loop μ-loop
+add-out-3 c = search needs
 
 slice-write-out : tie.Need-slice-write-out Inv-loop μ-loop
 slice-write-out c = search needs
@@ -69,7 +69,6 @@ same-length c = search needs
 returns : tie.Need-returns Inv-loop μ-loop
 returns c =
     let l = c .before in
-    let at = l .loop .inv .2 in
     record {
       end = omega arith;
       held = sym (lay-done _ _ _ (l .loop .j) (omega arith) (omega arith)) ∙ l .loop .inv .3;
@@ -81,13 +80,13 @@ put-name-spec =
     (tie.spec
     Inv-loop
     μ-loop
-    shared-slice-read-size
-    cast-size
+    length-at-requires
     loop-holds
     mul-out
     add-out
-    shared-slice-read-out
     add-out-2
+    shared-slice-read-out
+    add-out-3
     slice-write-out
     add-j
     loop-less

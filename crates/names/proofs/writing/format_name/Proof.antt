@@ -1,7 +1,7 @@
--- `format_name` meets its contract: the table of the list's number, t, holds the list's names. The answers
--- stand size by size, l where the number is known.
+-- The list's names are those of its table, l where its number is known, s where the function starts.
 use borrow.Author.Needs.{needs}
-use Rattle.names.proofs.tables.Laws.{put-asked, put-told}
+use denote.Ref.{now}
+use Rattle.names.proofs.rooms.Lent.{fixed-list, opened-list, english-list}
 use Rattle.names.proofs.writing.format_name.Statement.{statement}
 use Rattle.names.proofs.writing.format_name.Tie as tie
 
@@ -10,23 +10,13 @@ format-name-spec =
     tie.close
     (tie.spec
     (λ c κs. search needs)
-    (λ c κs. search needs) (λ c. search needs) (λ c. search needs)
-    (λ c κs. let t = c .before .before .before .before .before in let l = t .before .before in put-asked (t .two .ensures) (l .table-of .ensures .1) _ _ _ (l .before .before .pre .0) (l .before .before .pre .1))
+    (λ c κs. let l = c .before .before in let s = l .before .before .before in let e = fixed-list (l .table-of .ensures) (now (s .args .book)) (search needs) in ((search needs, rw e at (s .pre .0)), rw e at (s .pre .1)))
     (λ c. search needs)
-    (λ c. let t = c .before .before .before .before .before .before .before .before in let l = t .before .before in put-told (t .two .ensures) (l .table-of .ensures .1) _ (c .before .before .put-name .ensures))
-    (λ c κs. search needs) (λ c. search needs) (λ c. search needs)
-    (λ c κs. let t = c .before .before .before .before .before in let l = t .before .before .before in put-asked (t .four .ensures) (l .table-of .ensures .1) _ _ _ (l .before .before .pre .0) (l .before .before .pre .1))
+    (λ c. let l = c .before .before .before .before .before in let s = l .before .before .before in rw (fixed-list (l .table-of .ensures) (now (s .args .book)) (search needs)) (c .before .before .put-fixed .ensures))
+    (λ c κs. search needs)
+    (λ c κs. let l = c .before .before .before .before in let s = l .before .before .before in let e = opened-list (l .table-of .ensures) (now (s .args .book)) in ((search needs, rw e at (s .pre .0)), rw e at (s .pre .1)))
     (λ c. search needs)
-    (λ c. let t = c .before .before .before .before .before .before .before .before in let l = t .before .before .before in put-told (t .four .ensures) (l .table-of .ensures .1) _ (c .before .before .put-name2 .ensures))
-    (λ c κs. search needs) (λ c. search needs) (λ c. search needs)
-    (λ c κs. let t = c .before .before .before .before .before in let l = t .before .before .before .before in put-asked (t .six .ensures) (rw (t .before .if3 .taken) at (l .table-of .ensures .1)) _ _ _ (l .before .before .pre .0) (l .before .before .pre .1))
+    (λ c. let l = c .before .before .before .before .before .before .before in let s = l .before .before .before in rw (opened-list (l .table-of .ensures) (now (s .args .book))) (c .before .before .put-opened .ensures))
+    (λ c κs. let l = c .before .before .before .before in let s = l .before .before .before in let e = english-list (l .table-of .ensures) (now (s .args .book)) (search needs) in ((search needs, rw e at (s .pre .0)), rw e at (s .pre .1)))
     (λ c. search needs)
-    (λ c. let t = c .before .before .before .before .before .before .before .before in let l = t .before .before .before .before in put-told (t .six .ensures) (rw (t .before .if3 .taken) at (l .table-of .ensures .1)) _ (c .before .before .put-name3 .ensures))
-    (λ c κs. search needs) (λ c. search needs) (λ c. search needs)
-    (λ c κs. let t = c .before .before .before .before .before in let l = t .before .before .before .before .before in put-asked (t .seven .ensures) (l .table-of .ensures .1) _ _ _ (l .before .before .pre .0) (l .before .before .pre .1))
-    (λ c. search needs)
-    (λ c. let t = c .before .before .before .before .before .before .before .before in let l = t .before .before .before .before .before in put-told (t .seven .ensures) (l .table-of .ensures .1) _ (c .before .before .put-name4 .ensures))
-    (λ c κs. search needs) (λ c. search needs) (λ c. search needs)
-    (λ c κs. let t = c .before .before .before .before .before in let l = t .before .before .before .before .before in put-asked (t .twelve .ensures) (l .table-of .ensures .1) _ _ _ (l .before .before .pre .0) (l .before .before .pre .1))
-    (λ c. search needs)
-    (λ c. let t = c .before .before .before .before .before .before .before .before in let l = t .before .before .before .before .before in put-told (t .twelve .ensures) (l .table-of .ensures .1) _ (c .before .before .put-name5 .ensures)))
+    (λ c. let l = c .before .before .before .before .before .before .before in let s = l .before .before .before in rw (english-list (l .table-of .ensures) (now (s .args .book)) (search needs)) (c .before .before .put-english .ensures)))

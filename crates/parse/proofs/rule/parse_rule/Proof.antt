@@ -2,7 +2,9 @@
 use borrow.Author.Needs.{needs}
 use denote.Ref.{now}
 use lib.ListN.{drop}
-use Rattle.meaning.specs.Names.{names, english}
+use Rattle.laws.proofs.OpenedBooks.{opened-as-many}
+use Rattle.meaning.specs.Names.{names}
+use Rattle.meaning.specs.OpenedBooks.{bookIn}
 use Rattle.meaning.specs.Readers.{letters}
 use Rattle.meaning.specs.Reading.{readRule}
 use Rattle.parse.proofs.named.NameParts.{part-named, letters-below}
@@ -56,10 +58,11 @@ match-letters-requires c κs = search needs
 
 named-requires : tie.Need-named-requires
 named-requires c κs =
-    let a = c .before .before .before .before .before .args in
+    let a = c .before .before .before .before .before .before .args in
     let at = a .cursor .at in
     let text = now (a .text) in
-    rw (c .match-letters .ensures) (letters-below at _ _ (drop at text))
+    let l = c .before .before .rule5 .given .0 .0 in
+    rw (c .match-letters .ensures, ← opened-as-many (now (a .book)) l) (letters-below at _ _ (drop at text))
 
 enum-told-2 : tie.Need-enum-told-2
 enum-told-2 c = search needs
@@ -114,12 +117,12 @@ returns-5 c = rw (c .before .before .rule4 .given .1) (c .parse-name .ensures)
 returns-6 : tie.Need-returns-6
 unfolding readRule
 returns-6 c =
-    let a = c .before .before .before .before .before .before .args in
+    let a = c .before .before .before .before .before .before .before .args in
     let at = a .cursor .at in
     let text = now (a .text) in
     let l = c .before .before .before .rule5 .given .0 .0 in
     let k = c .before .before .before .rule5 .given .0 .1 .0 in
-    rw (c .before .before .before .rule5 .given .1, part-named l at (letters k (names english l)) (drop at text), ← c .before .match-letters .ensures) (c .named .ensures)
+    rw (c .before .before .before .rule5 .given .1, part-named l at (letters k (names (bookIn (now (a .book))) l)) (drop at text), ← c .before .match-letters .ensures) (c .named .ensures)
 
 returns-7 : tie.Need-returns-7
 unfolding readRule

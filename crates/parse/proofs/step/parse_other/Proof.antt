@@ -3,6 +3,7 @@ use borrow.Author.Needs.{needs}
 use denote.Ref.{now}
 use lib.ListN.{drop, length-replicate}
 use native.Mathlib.Omega.{arith}
+use Rattle.meaning.specs.OpenedBooks.{bookIn}
 use Rattle.meaning.specs.Reading.{readRule, readStep}
 use Rattle.parse.proofs.step.StepReads.{year-read}
 use Rattle.pattern.proofs.parts.Walks.{rest-all}
@@ -19,13 +20,13 @@ enum-known-step-2 : tie.Need-enum-known-step-2
 enum-known-step-2 c = search needs
 
 sub-unescaped-length : tie.Need-sub-unescaped-length
-sub-unescaped-length c = omega (arith, rw (c .before .step2 .given .1) at (c .before .before .before .before .before .pre .0))
+sub-unescaped-length c = omega (arith, rw (c .before .step2 .given .1) at (c .before .before .before .before .before .before .pre .0))
 
 part-unescaped-length-start : tie.Need-part-unescaped-length-start
-part-unescaped-length-start c = omega (arith, rw (c .before .step2 .given .1) at (c .before .before .before .before .before .pre .0))
+part-unescaped-length-start c = omega (arith, rw (c .before .step2 .given .1) at (c .before .before .before .before .before .before .pre .0))
 
 part-unescaped-length-end : tie.Need-part-unescaped-length-end
-part-unescaped-length-end c = omega (arith, rw (c .before .step2 .given .1) at (c .before .before .before .before .before .pre .0))
+part-unescaped-length-end c = omega (arith, rw (c .before .step2 .given .1) at (c .before .before .before .before .before .before .pre .0))
 
 unescaped-length-requires : tie.Need-unescaped-length-requires
 unescaped-length-requires c κs = search needs
@@ -37,10 +38,10 @@ enum-known-step-3 : tie.Need-enum-known-step-3
 enum-known-step-3 c = search needs
 
 sub-unescaped-length-2 : tie.Need-sub-unescaped-length-2
-sub-unescaped-length-2 c = omega (arith, rw (c .before .step3 .given .1) at (c .before .before .before .before .before .pre .0))
+sub-unescaped-length-2 c = omega (arith, rw (c .before .step3 .given .1) at (c .before .before .before .before .before .before .pre .0))
 
 part-unescaped-length-start-2 : tie.Need-part-unescaped-length-start-2
-part-unescaped-length-start-2 c = omega (arith, rw (c .before .step3 .given .1) at (c .before .before .before .before .before .pre .0))
+part-unescaped-length-start-2 c = omega (arith, rw (c .before .step3 .given .1) at (c .before .before .before .before .before .before .pre .0))
 
 part-unescaped-length-end-2 : tie.Need-part-unescaped-length-end-2
 part-unescaped-length-end-2 c = search needs
@@ -110,7 +111,7 @@ returns-2 c = rw (c .before .before .before .before .step2 .given .1, ← c .bef
 returns-3 : tie.Need-returns-3
 unfolding readStep
 returns-3 c =
-    let p = now (c .before .before .before .before .before .before .before .before .args .pattern) in
+    let p = now (c .before .before .before .before .before .before .before .before .before .args .pattern) in
     let m = c .before .before .before .before .step3 .given in
     rw (m .1, ← rest-all (m .0 .0) p, ← c .before .unescaped-length2 .ensures) (c .pass3 .ensures)
 
@@ -121,9 +122,9 @@ returns-4 c = rw (c .before .before .before .step4 .given .1) (rw (c .before .sh
 returns-5 : tie.Need-returns-5
 unfolding readStep
 returns-5 c =
-    let a = c .before .before .before .before .before .before .args in
+    let a = c .before .before .before .before .before .before .before .args in
     let m = c .before .before .step5 .given in
-    rw (m .1, year-read (a .edition) (a .current-year) (m .0 .0) (drop (a .cursor .at) (now (a .text)))) (c .parse-year .ensures)
+    rw (m .1, year-read (a .edition) (bookIn (now (a .book))) (a .current-year) (m .0 .0) (drop (a .cursor .at) (now (a .text)))) (c .parse-year .ensures)
 
 returns-6 : tie.Need-returns-6
 unfolding readStep readRule

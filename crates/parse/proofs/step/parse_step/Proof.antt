@@ -4,6 +4,7 @@ use denote.Ref.{now}
 use lib.ListN.{drop, length-drop, length-replicate}
 use mathlib.Core.Path.{_∙_}
 use native.Mathlib.Omega.{arith}
+use Rattle.meaning.specs.OpenedBooks.{bookIn}
 use Rattle.meaning.specs.Reading.{readStep}
 use Rattle.numerals.proofs.Integers.{widened}
 use Rattle.parse.proofs.step.StepReads.{quick-read, quick-within}
@@ -26,14 +27,14 @@ quick-digits-requires c κs = search needs
 quick-unit-requires : tie.Need-quick-unit-requires
 quick-unit-requires c κs = search needs
 
-cast-t11 : tie.Need-cast-t11
-cast-t11 c = search needs
+cast-t12 : tie.Need-cast-t12
+cast-t12 c = search needs
 
-add-t13 : tie.Need-add-t13
-add-t13 c =
+add-t14 : tie.Need-add-t14
+add-t14 c =
     let m = c .before .before .before .before in
     let read = m .before .before .quick-digits in
-    let s = m .before .before .before .before .before .before in
+    let s = m .before .before .before .before .before .before .before in
     let at = s .args .cursor .at in
     let text = now (s .args .text) in
     omega (arith, quick-within (now (s .args .pattern)) (drop at text) (s .args .edition) (s .args .step) (s .pre .0) (read .ensures) (m .if1 .taken), length-drop at text)
@@ -42,9 +43,9 @@ returns-2 : tie.Need-returns-2
 returns-2 c =
     let m = c .before .before .before .before in
     let read = m .before .before .quick-digits in
-    let s = m .before .before .before .before .before .before in
+    let s = m .before .before .before .before .before .before .before in
     let text = drop (s .args .cursor .at) (now (s .args .text)) in
-    let law = quick-read (now (s .args .pattern)) text (s .args .edition) (s .args .current-year) (s .args .step) (s .pre .0) (read .ensures) (m .if1 .taken) in
+    let law = quick-read (now (s .args .pattern)) text (s .args .edition) (bookIn (now (s .args .book))) (s .args .current-year) (s .args .step) (s .pre .0) (read .ensures) (m .if1 .taken) in
     rw (law, widened (read .result .size) (omega (arith, m .if1 .taken)), c .before .before .before .quick-unit .ensures)
 
 parse-other-requires : tie.Need-parse-other-requires
@@ -65,8 +66,8 @@ parse-step-spec =
     returns
     quick-digits-requires
     quick-unit-requires
-    cast-t11
-    add-t13
+    cast-t12
+    add-t14
     returns-2
     parse-other-requires
     moved-on-requires

@@ -10,7 +10,7 @@ use mathlib.Core.Path.{_≡_, refl, sym, _∙_}
 use mir.Syntax.{w64}
 use mir.ValLaws.{toZ-ofZ}
 use native.Mathlib.Omega.{arith}
-use Rattle.meaning.specs.Names.{english}
+use Rattle.meaning.specs.OpenedBooks.{bookIn}
 use Rattle.meaning.specs.Whole.{Gave, walk}
 use Rattle.meaning.specs.Writing.{steps}
 use Rattle.meaning.specs.declared.Carried.the-variants.{Nothing, Value}
@@ -23,16 +23,16 @@ use Rattle.reader.proofs.walk.parse_parts.Tie as tie
 use Rattle.reader.proofs.record.Units.{Holds, holds-none, unit-below, holds-nothing, holds-value, holds-reading}
 
 abbrev Inv-loop : tie.InvT-loop
-Inv-loop choices pattern text current-year pair edition values₀ starts₀ ends₀ mask₀ at₀ place₀ i₀ values starts ends mask at place i =
+Inv-loop choices book pattern text current-year pair edition values₀ starts₀ ends₀ mask₀ at₀ place₀ i₀ values starts ends mask at place i =
     (gave : List Gave)
     × (Holds gave values starts ends mask)
-    × (walk choices english current-year i at (steps (choices .pair) (drop place pattern)) (drop at text) gave
-    ≡ walk choices english current-year 0 0 (steps (choices .pair) pattern) text [])
+    × (walk choices (bookIn book) current-year i at (steps (choices .pair) (drop place pattern)) (drop at text) gave
+    ≡ walk choices (bookIn book) current-year 0 0 (steps (choices .pair) pattern) text [])
     × (at ≤ length text)
     × (i ≤ place)
 
 abbrev μ-loop : tie.MeasureT-loop
-μ-loop choices pattern text current-year pair edition values₀ starts₀ ends₀ mask₀ at₀ place₀ i₀ values starts ends mask at place i = length pattern - place
+μ-loop choices book pattern text current-year pair edition values₀ starts₀ ends₀ mask₀ at₀ place₀ i₀ values starts ends mask at place i = length pattern - place
 
 loop-holds : tie.Need-loop-holds Inv-loop μ-loop
 loop-holds c = ([], holds-none, refl, omega arith, omega arith)
@@ -42,7 +42,7 @@ next-part-requires c κs = search needs
 
 step-of-requires : tie.Need-step-of-requires Inv-loop μ-loop
 step-of-requires c κs =
-    let p = now (c .before .before .before .before .before .args .pattern) in
+    let p = now (c .before .before .before .before .before .before .args .pattern) in
     let L = c .before .before .loop in
     starts-here (next p (L .place) (c .next-part .result) (c .before .loop-test .taken) (c .next-part .ensures))
 
@@ -59,10 +59,10 @@ returns : tie.Need-returns Inv-loop μ-loop
 returns c =
     let m = c .before .before .before .before .before in
     let L = m .before .before .before .loop in
-    let a = m .before .before .before .before .before .before .args in
+    let a = m .before .before .before .before .before .before .before .args in
     let n = next (now (a .pattern)) (L .place) (m .before .next-part .result) (m .before .before .loop-test .taken) (m .before .next-part .ensures) in
     let gave = sym (c .before .before .before .before .parse-step .ensures) ∙ c .before .before .trouble .given .1 in
-    let stops = walk-stops (a .choices) (a .current-year) (L .i) (now (a .text)) (L .inv .0) (L .at) (L .place) n (m .step-of .ensures) gave in
+    let stops = walk-stops (a .choices) (bookIn (now (a .book))) (a .current-year) (L .i) (now (a .text)) (L .inv .0) (L .at) (L .place) n (m .step-of .ensures) gave in
     rw (← rw stops at (L .inv .2)) (c .refused-in .ensures)
 
 enum-known-carried : tie.Need-enum-known-carried Inv-loop μ-loop
@@ -83,7 +83,7 @@ array-set-from-values c = omega (arith, c .unit-number .ensures, unit-below (c .
 cast-starts : tie.Need-cast-starts Inv-loop μ-loop
 cast-starts c =
     let m = c .before .before .before .before .before .before .before .before in
-    omega (arith, m .before .before .before .loop .inv .3, m .before .before .before .before .before .before .pre)
+    omega (arith, m .before .before .before .loop .inv .3, m .before .before .before .before .before .before .before .pre)
 
 mul-starts : tie.Need-mul-starts Inv-loop μ-loop
 mul-starts c = omega (arith, c .unit-number .ensures, unit-below (c .before .before .carried2 .given .0 .0))
@@ -95,10 +95,10 @@ cast-ends : tie.Need-cast-ends Inv-loop μ-loop
 cast-ends c =
     let m = c .before .before .before .before .before .before .before .before in
     let L = m .before .before .before .loop in
-    let a = m .before .before .before .before .before .before .args in
+    let a = m .before .before .before .before .before .before .before .args in
     let gave = sym (c .before .before .before .before .before .before .before .parse-step .ensures) ∙ c .before .before .before .before .before .carried .given .1 in
-    let inside = part-inside (a .choices .edition) (now (a .text)) (L .at) (a .current-year) (means (now (a .pattern)) (m .step-of .result)) gave (L .inv .3) in
-    omega (arith, inside, m .before .before .before .before .before .before .pre)
+    let inside = part-inside (a .choices .edition) (bookIn (now (a .book))) (now (a .text)) (L .at) (a .current-year) (means (now (a .pattern)) (m .step-of .result)) gave (L .inv .3) in
+    omega (arith, inside, m .before .before .before .before .before .before .before .pre)
 
 mul-ends : tie.Need-mul-ends Inv-loop μ-loop
 mul-ends c = omega (arith, c .unit-number .ensures, unit-below (c .before .before .carried2 .given .0 .0))
@@ -119,11 +119,11 @@ compare-part-requires : tie.Need-compare-part-requires Inv-loop μ-loop
 compare-part-requires c κs =
     let m = c .before .before .before .before .before .before .before in
     let L = m .before .before .before .loop in
-    let a = m .before .before .before .before .before .before .args in
+    let a = m .before .before .before .before .before .before .before .args in
     let p = now (a .pattern) in
     let n = next p (L .place) (m .before .next-part .result) (m .before .before .loop-test .taken) (m .before .next-part .ensures) in
     let gave = sym (c .before .before .before .before .before .before .parse-step .ensures) ∙ c .before .before .before .before .carried .given .1 in
-    let end = ended (now (a .text)) (L .at) (a .choices .edition) (a .current-year) (means p (m .step-of .result)) gave (L .inv .3) in
+    let end = ended (now (a .text)) (L .at) (a .choices .edition) (bookIn (now (a .book))) (a .current-year) (means p (m .step-of .result)) gave (L .inv .3) in
     (m .before .before .loop-test .taken, rw (step-here n (m .step-of .ensures)) end)
 
 enum-known-found : tie.Need-enum-known-found Inv-loop μ-loop
@@ -136,7 +136,7 @@ returns-2 : tie.Need-returns-2 Inv-loop μ-loop
 returns-2 c =
     let m = c .before .before .before .before .before .before .before .before .before .before .before .before in
     let L = m .before .before .before .loop in
-    let a = m .before .before .before .before .before .before .args in
+    let a = m .before .before .before .before .before .before .before .args in
     let p = now (a .pattern) in
     let text = now (a .text) in
     let n = next p (L .place) (m .before .next-part .result) (m .before .before .loop-test .taken) (m .before .next-part .ensures) in
@@ -144,7 +144,7 @@ returns-2 c =
     let gave = sym (g .before .before .before .before .before .before .parse-step .ensures) ∙ g .before .before .before .before .carried .given .1 in
     let seen = rw (step-here n (m .step-of .ensures)) at (c .before .before .before .before .compare-part .ensures) in
     let differs = sym seen ∙ c .before .before .found .given .1 in
-    let stops = walk-differs (a .choices) (a .current-year) (L .i) text (L .inv .0) (L .at) (L .place) n (m .step-of .ensures) gave (g .if1 .taken) differs in
+    let stops = walk-differs (a .choices) (bookIn (now (a .book))) (a .current-year) (L .i) text (L .inv .0) (L .at) (L .place) n (m .step-of .ensures) gave (g .if1 .taken) differs in
     rw (← rw stops at (L .inv .2)) (c .refused-in2 .ensures)
 
 enum-told-2 : tie.Need-enum-told-2 Inv-loop μ-loop
@@ -154,9 +154,9 @@ add-place : tie.Need-add-place Inv-loop μ-loop
 add-place c =
     let m = c .before .before .before .before .before .before in
     let L = m .before .before .before .loop in
-    let a = m .before .before .before .before .before .before .args in
-    let n = next (now (a .pattern)) (L .place) (m .before .next-part .result) (m .before .before .loop-test .taken) (m .before .next-part .ensures) in
-    omega (arith, n .fits)
+    let start = m .before .before .before .before .before .before .before in
+    let n = next (now (start .args .pattern)) (L .place) (m .before .next-part .result) (m .before .before .loop-test .taken) (m .before .next-part .ensures) in
+    omega (arith, n .fits, start .fits)
 
 add-i : tie.Need-add-i Inv-loop μ-loop
 add-i c = search needs
@@ -165,7 +165,7 @@ loop-less : tie.Need-loop-less Inv-loop μ-loop
 loop-less c =
     let m = c .before .before .before .before .before .before in
     let L = m .before .before .before .loop in
-    let a = m .before .before .before .before .before .before .args in
+    let a = m .before .before .before .before .before .before .before .args in
     let n = next (now (a .pattern)) (L .place) (m .before .next-part .result) (m .before .before .loop-test .taken) (m .before .next-part .ensures) in
     omega (arith, n .some, n .fits)
 
@@ -173,21 +173,21 @@ loop-again : tie.Need-loop-again Inv-loop μ-loop
 loop-again c =
     let m = c .before .before .before .before .before .before in
     let L = m .before .before .before .loop in
-    let a = m .before .before .before .before .before .before .args in
+    let a = m .before .before .before .before .before .before .before .args in
     let p = now (a .pattern) in
     let text = now (a .text) in
     let n = next p (L .place) (m .before .next-part .result) (m .before .before .loop-test .taken) (m .before .next-part .ensures) in
     let k = means p (m .step-of .result) in
     let gave = sym (c .before .before .before .before .before .parse-step .ensures) ∙ c .before .before .before .carried .given .1 in
-    let moved = walk-goes-on (a .choices) (a .current-year) (L .i) text (L .inv .0) (L .at) (L .place) n (m .step-of .ensures) gave in
-    let inside = part-inside (a .choices .edition) text (L .at) (a .current-year) k gave (L .inv .3) in
+    let moved = walk-goes-on (a .choices) (bookIn (now (a .book))) (a .current-year) (L .i) text (L .inv .0) (L .at) (L .place) n (m .step-of .ensures) gave in
+    let inside = part-inside (a .choices .edition) (bookIn (now (a .book))) text (L .at) (a .current-year) k gave (L .inv .3) in
     let from = L .at in
     let to = c .before .before .before .carried .given .0 .1 .0 .at in
     ⊎-elim
     (λ l.
     let u = l .1 .given .0 .0 in
     let z = l .1 .given .0 .1 .0 in
-    let same = value-same text (L .at) (a .choices .edition) (a .current-year) k (rw (l .1 .given .1) at gave) in (
+    let same = value-same text (L .at) (a .choices .edition) (bookIn (now (a .book))) (a .current-year) k (rw (l .1 .given .1) at gave) in (
       record { carried = Value u z; start = from; end = to } ∷ L .inv .0,
       rw (l .4, l .5, l .6, l .7, l .3 .ensures, toZ-ofZ w64 z (search needs)) (holds-value (L .inv .1) from to u z),
       rw (l .1 .given .1) at (sym (moved (rw same (same-either (a .choices .strict)))) ∙ L .inv .2),
@@ -219,17 +219,17 @@ no-reading-requires c κs = search needs
 returns-3 : tie.Need-returns-3 Inv-loop μ-loop
 returns-3 c =
     let m = c .before .before .before in
-    let a = m .before .before .before .before .args in
+    let a = m .before .before .before .before .before .args in
     let L = m .before .loop in
-    let ends = walk-left (a .choices) (a .current-year) (L .i) (now (a .text)) (L .inv .0) (L .at) (L .place) (now (a .pattern)) (m .loop-test .left) in
+    let ends = walk-left (a .choices) (bookIn (now (a .book))) (a .current-year) (L .i) (now (a .text)) (L .inv .0) (L .at) (L .place) (now (a .pattern)) (m .loop-test .left) in
     rw (← rw (ends (c .before .before .if2 .taken) (ltb-true (L .at) (length (now (a .text))) (c .before .if3 .taken))) at (L .inv .2)) (c .no-reading .ensures)
 
 returns-4 : tie.Need-returns-4 Inv-loop μ-loop
 returns-4 c =
     let m = c .before in
-    let a = m .before .before .before .before .args in
+    let a = m .before .before .before .before .before .args in
     let L = m .before .loop in
-    let ends = walk-done (a .choices) (a .current-year) (L .i) (now (a .text)) (L .inv .0) (L .at) (L .place) (now (a .pattern)) (m .loop-test .left) in
+    let ends = walk-done (a .choices) (bookIn (now (a .book))) (a .current-year) (L .i) (now (a .text)) (L .inv .0) (L .at) (L .place) (now (a .pattern)) (m .loop-test .left) in
     let none-left = ⊎-elim (λ t. inr (ltb-false (L .at) (length (now (a .text))) (t .1 .left))) (λ e. inl (e .left)) (c .if2 .came) in
     rw (← rw (ends none-left) at (L .inv .2)) (holds-reading (L .inv .1) (L .at))
 

@@ -7,7 +7,8 @@ use lib.ListN.{take, length-take}
 use mathlib.Core.Path.{_≡_, sym, _∙_}
 use native.Mathlib.Omega.{arith}
 use Rattle.names.proofs.tables.Answers.{found-name, found-within}
-use Rattle.meaning.specs.Names.{names, english}
+use Rattle.meaning.specs.Names.{names}
+use Rattle.meaning.specs.OpenedBooks.{bookIn}
 use Rattle.meaning.specs.Readers.{matchName}
 use Rattle.parse.proofs.cursor.Moves.{matched-name, matched-nothing, letters-match, letters-few}
 use Rattle.parse.proofs.cursor.Cursor.match_letters.Statement.{statement}
@@ -18,10 +19,10 @@ sub-if1 c = search needs
 
 returns : tie.Need-returns
 returns c =
-    let a = c .before .before .args in
+    let a = c .before .before .before .args in
     let at = a .self .at in
     let s = drop at (now (a .text)) in
-    sym (letters-few at (a .k) (names english (a .list)) s (rw length-drop (omega arith)))
+    sym (letters-few at (a .k) (names (bookIn (now (a .book))) (a .list)) s (rw length-drop (omega arith)))
 
 add-end : tie.Need-add-end
 add-end c = search needs
@@ -41,14 +42,14 @@ match-name-requires c κs = search needs
 enum-known-index : tie.Need-enum-known-index
 enum-known-index c = search needs
 
-add-t18 : tie.Need-add-t18
-add-t18 c =
-    let a = c .before .before .before .before .before .before .before .args in
+add-t19 : tie.Need-add-t19
+add-t19 c =
+    let a = c .before .before .before .before .before .before .before .before .args in
     let at = a .self .at in
     let s = drop at (now (a .text)) in
     let fits : a .k ≤ length s = rw length-drop (omega arith) in
     let size : at + a .k - at ≡ a .k = omega arith in
-    let names′ = names english (a .list) in
+    let names′ = names (bookIn (now (a .book))) (a .list) in
     let found = sym (rw size at (c .before .before .before .match-name .ensures)) ∙ c .before .index .given .1 in
     let t = take (a .k) s in
     omega
@@ -59,23 +60,23 @@ enum-told c = search needs
 
 returns-2 : tie.Need-returns-2
 returns-2 c =
-    let a = c .before .before .before .before .before .before .before .args in
+    let a = c .before .before .before .before .before .before .before .before .args in
     let at = a .self .at in
     let s = drop at (now (a .text)) in
     let fits : a .k ≤ length s = rw length-drop (omega arith) in
     let size : at + a .k - at ≡ a .k = omega arith in
-    let names′ = names english (a .list) in
+    let names′ = names (bookIn (now (a .book))) (a .list) in
     let found = sym (rw size at (c .before .before .before .match-name .ensures)) ∙ c .before .index .given .1 in
     rw (letters-match (a .k) names′ s fits) (sym (matched-name at names′ (take (a .k) s) found))
 
 returns-3 : tie.Need-returns-3
 returns-3 c =
-    let a = c .before .before .before .before .before .before .args in
+    let a = c .before .before .before .before .before .before .before .args in
     let at = a .self .at in
     let s = drop at (now (a .text)) in
     let fits : a .k ≤ length s = rw length-drop (omega arith) in
     let size : at + a .k - at ≡ a .k = omega arith in
-    let names′ = names english (a .list) in
+    let names′ = names (bookIn (now (a .book))) (a .list) in
     let found = sym (rw size at (c .before .before .match-name .ensures)) ∙ c .enum-told .given .1 in
     rw (letters-match (a .k) names′ s fits) (sym (matched-nothing at names′ (take (a .k) s) found))
 
@@ -91,7 +92,7 @@ match-letters-spec =
     part-match-name-end
     match-name-requires
     enum-known-index
-    add-t18
+    add-t19
     enum-told
     returns-2
     returns-3)

@@ -5,7 +5,8 @@ use lib.ListN.{drop, length-drop}
 use mathlib.Core.Path.{sym, _∙_}
 use native.Mathlib.Omega.{arith}
 use Rattle.names.proofs.tables.Answers.{found-name, found-within}
-use Rattle.meaning.specs.Names.{names, english}
+use Rattle.meaning.specs.Names.{names}
+use Rattle.meaning.specs.OpenedBooks.{bookIn}
 use Rattle.meaning.specs.Readers.{matchName}
 use Rattle.parse.proofs.cursor.Moves.{matched-name, matched-nothing}
 use Rattle.pattern.proofs.parts.Walks.{rest-all}
@@ -27,12 +28,12 @@ match-name-requires c κs = search needs
 enum-known-index : tie.Need-enum-known-index
 enum-known-index c = search needs
 
-add-t13 : tie.Need-add-t13
-add-t13 c =
-    let a = c .before .before .before .before .before .before .args in
+add-t14 : tie.Need-add-t14
+add-t14 c =
+    let a = c .before .before .before .before .before .before .before .args in
     let at = a .self .at in
     let rest = rest-all at (now (a .text)) in
-    let names′ = names english (a .list) in
+    let names′ = names (bookIn (now (a .book))) (a .list) in
     let found = sym (rw rest at (c .before .before .before .match-name .ensures)) ∙ c .before .index .given .1 in
     let s = drop at (now (a .text)) in
     omega (arith, found-within names′ s (found-name (matchName names′ s) found) .1, length-drop at (now (a .text)))
@@ -42,19 +43,19 @@ enum-told c = search needs
 
 returns : tie.Need-returns
 returns c =
-    let a = c .before .before .before .before .before .before .args in
+    let a = c .before .before .before .before .before .before .before .args in
     let at = a .self .at in
     let rest = rest-all at (now (a .text)) in
-    let names′ = names english (a .list) in
+    let names′ = names (bookIn (now (a .book))) (a .list) in
     let found = sym (rw rest at (c .before .before .before .match-name .ensures)) ∙ c .before .index .given .1 in
     sym (matched-name at names′ (drop at (now (a .text))) found)
 
 returns-2 : tie.Need-returns-2
 returns-2 c =
-    let a = c .before .before .before .before .before .args in
+    let a = c .before .before .before .before .before .before .args in
     let at = a .self .at in
     let rest = rest-all at (now (a .text)) in
-    let names′ = names english (a .list) in
+    let names′ = names (bookIn (now (a .book))) (a .list) in
     let found = sym (rw rest at (c .before .before .match-name .ensures)) ∙ c .enum-told .given .1 in
     sym (matched-nothing at names′ (drop at (now (a .text))) found)
 
@@ -67,7 +68,7 @@ match-name-spec =
     part-match-name-end
     match-name-requires
     enum-known-index
-    add-t13
+    add-t14
     enum-told
     returns
     returns-2)

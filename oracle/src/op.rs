@@ -1,0 +1,121 @@
+//! The ops of the line protocol, each with its choices.
+
+use crate::choices::{Books, Choices};
+use crate::walk::Pair;
+
+#[derive(Clone, Copy, Debug, PartialEq, Eq)]
+pub enum Op {
+    Split,
+    Write,
+    WriteDate,
+    Read,
+    ReadDate,
+    ReadStrict,
+    ReadDateStrict,
+    ReadSecond,
+    ReadDateSecond,
+    ReadStrictSecond,
+    ReadDateStrictSecond,
+    ParseOffset,
+    DayOf,
+    DayNumber,
+    Book,
+    BookWrite,
+}
+
+impl Op {
+    pub const ALL: [Op; 16] = [
+        Op::Split,
+        Op::Write,
+        Op::WriteDate,
+        Op::Read,
+        Op::ReadDate,
+        Op::ReadStrict,
+        Op::ReadDateStrict,
+        Op::ReadSecond,
+        Op::ReadDateSecond,
+        Op::ReadStrictSecond,
+        Op::ReadDateStrictSecond,
+        Op::ParseOffset,
+        Op::DayOf,
+        Op::DayNumber,
+        Op::Book,
+        Op::BookWrite,
+    ];
+
+    pub fn name(self) -> &'static str {
+        match self {
+            Op::Split => "split",
+            Op::Write => "write",
+            Op::WriteDate => "write_date",
+            Op::Read => "read",
+            Op::ReadDate => "read_date",
+            Op::ReadStrict => "read_strict",
+            Op::ReadDateStrict => "read_date_strict",
+            Op::ReadSecond => "read_second",
+            Op::ReadDateSecond => "read_date_second",
+            Op::ReadStrictSecond => "read_strict_second",
+            Op::ReadDateStrictSecond => "read_date_strict_second",
+            Op::ParseOffset => "parse_offset",
+            Op::DayOf => "day_of",
+            Op::DayNumber => "day_number",
+            Op::Book => "book",
+            Op::BookWrite => "book_write",
+        }
+    }
+
+    /// What a read is asked for; none where it is no read.
+    pub fn choices(self) -> Option<Choices> {
+        let (full, date) = (Choices::of(Pair::Full), Choices::of(Pair::Date));
+        Some(match self {
+            Op::Read => full,
+            Op::ReadDate => date,
+            Op::ReadStrict => full.strict(),
+            Op::ReadDateStrict => date.strict(),
+            Op::ReadSecond => full.second(),
+            Op::ReadDateSecond => date.second(),
+            Op::ReadStrictSecond => full.strict().second(),
+            Op::ReadDateStrictSecond => date.strict().second(),
+            Op::Split | Op::Write | Op::WriteDate => return None,
+            Op::ParseOffset | Op::DayOf | Op::DayNumber => return None,
+            Op::Book | Op::BookWrite => return None,
+        })
+    }
+
+    pub(crate) fn of_read(choices: Choices) -> Op {
+        let of_these = |op: &Op| op.choices() == Some(choices);
+        let op = Op::ALL.into_iter().find(of_these);
+        op.expect("each choice of a read has its op")
+    }
+
+    /// The first word of its requests.
+    pub(crate) fn word(self) -> &'static str {
+        match self.choices().map(|choices| choices.pair) {
+            Some(Pair::Full) => Op::Read.name(),
+            Some(Pair::Date) => Op::ReadDate.name(),
+            None => self.name(),
+        }
+    }
+
+    pub fn named(name: &str) -> Option<Op> {
+        Op::ALL.into_iter().find(|op| op.name() == name)
+    }
+
+    /// Those that are asked where none is named: without a book all but those of books, with English those that take one.
+    pub fn usual(books: Option<Books>) -> Vec<Op> {
+        let is_usual = |op: &Op| match books {
+            None => !op.is_of_a_book(),
+            Some(Books::English) => op.takes_a_book(),
+            Some(Books::Random) => op.takes_a_book() || op.is_of_a_book(),
+        };
+        Op::ALL.into_iter().filter(is_usual).collect()
+    }
+
+    fn takes_a_book(self) -> bool {
+        matches!(self, Op::Write | Op::WriteDate) || self.choices().is_some()
+    }
+
+    fn is_of_a_book(self) -> bool {
+        matches!(self, Op::Book | Op::BookWrite)
+    }
+}

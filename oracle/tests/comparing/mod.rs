@@ -1,0 +1,157 @@
+//! A comparer on programs that answer, and how it finds out those that answer otherwise.
+
+use harness::check::{verdict, CheckRequest};
+use harness::choices::{Books, Edition};
+use harness::expected::expected;
+use harness::generator::{CheckGenerator, Generator, Random};
+use harness::request::{Op, Request};
+use std::fs;
+use std::path::Path;
+use std::process::Command;
+
+/// How many requests a comparer has unless there is another count.
+pub const COUNT: usize = 300;
+
+/// A comparer, and so many requests of its seed 1, with these books, with their right answers.
+pub struct Comparer {
+    path: &'static str,
+    books: Option<Books>,
+    pub requests: Vec<String>,
+    pub answers: Vec<String>,
+}
+
+pub struct Outcome {
+    pub status: Option<i32>,
+    pub printed: String,
+}
+
+pub fn compare_with(books: Option<Books>, count: usize) -> Comparer {
+    let requests = || requests(books, count);
+    Comparer {
+        path: env!("CARGO_BIN_EXE_compare"),
+        books,
+        requests: requests().map(|request| request.to_string()).collect(),
+        answers: requests().map(|request| right(&request)).collect(),
+    }
+}
+
+pub fn requests(books: Option<Books>, count: usize) -> impl Iterator<Item = Request> {
+    Generator::with(books, 1, Op::usual(books)).take(count)
+}
+
+pub fn right(request: &Request) -> String {
+    expected(request).line().to_string()
+}
+
+pub fn compare_check_with(books: Option<Books>) -> Comparer {
+    Comparer {
+        path: env!("CARGO_BIN_EXE_compare_check"),
+        books,
+        requests: checks(books).map(|request| request.to_string()).collect(),
+        answers: verdicts(checks(books)),
+    }
+}
+
+pub fn checks(books: Option<Books>) -> impl Iterator<Item = CheckRequest> {
+    CheckGenerator::with(books, 1, Edition::ALL.to_vec()).take(COUNT)
+}
+
+/// With the random records of the comparer's own, so that a no shows the same record.
+pub fn verdicts(requests: impl Iterator<Item = CheckRequest>) -> Vec<String> {
+    let mut random = Random::new(1);
+    requests
+        .map(|request| verdict(&request, &mut random).to_string())
+        .collect()
+}
+
+impl Comparer {
+    /// How the comparison with a shell's script ends.
+    pub fn with(&self, words: &[&str]) -> Outcome {
+        let books: &[&str] = match self.books {
+            None => &[],
+            Some(Books::English) => &["--books", "english"],
+            Some(Books::Random) => &["--books", "random"],
+        };
+        let run = Command::new(self.path)
+            .args(["--seed", "1", "--count", &self.requests.len().to_string()])
+            .args(books)
+            .args(["--", "sh", "-c"])
+            .args(words)
+            .output()
+            .expect("the comparer runs");
+        Outcome {
+            status: run.status.code(),
+            printed: String::from_utf8(run.stdout).expect("it prints text"),
+        }
+    }
+
+    /// With a program that gives these answers, whatever is asked.
+    pub fn with_answers(&self, name: &str, answers: &[String], last: &str) -> Outcome {
+        let comparer = Path::new(self.path)
+            .file_name()
+            .expect("a program has a name");
+        let file = Path::new(env!("CARGO_TARGET_TMPDIR")).join(format!(
+            "{}-{name}-{:?}",
+            comparer.to_string_lossy(),
+            self.books
+        ));
+        let lines: String = answers.iter().map(|answer| format!("{answer}\n")).collect();
+        fs::write(&file, lines).expect("the file can be written");
+        let script = format!("cat >/dev/null; cat \"$0\"; {last}");
+        self.with(&[&script, &file.to_string_lossy()])
+    }
+}
+
+impl Outcome {
+    /// The last number of the table's last row.
+    pub fn differences(&self) -> usize {
+        let all = self.printed.lines().find(|line| line.starts_with("all "));
+        let last = all.and_then(|line| line.split_whitespace().last());
+        last.and_then(|word| word.parse().ok())
+            .expect("the table has a last row")
+    }
+
+    #[track_caller]
+    pub fn is_a_failure(&self, differences: usize) {
+        assert_eq!(self.status, Some(1), "{}", self.printed);
+        assert_eq!(self.differences(), differences, "{}", self.printed);
+    }
+}
+
+#[track_caller]
+pub fn right_answers_pass(comparer: &Comparer) {
+    let outcome = comparer.with_answers("right", &comparer.answers, "");
+    assert_eq!(outcome.status, Some(0), "{}", outcome.printed);
+    assert_eq!(outcome.differences(), 0);
+}
+
+#[track_caller]
+pub fn one_wrong_answer_is_found(comparer: &Comparer, place: usize, wrong: &str) {
+    let mut answers = comparer.answers.clone();
+    answers[place] = wrong.to_string();
+    let outcome = comparer.with_answers("one_wrong", &answers, "");
+    outcome.is_a_failure(1);
+    let (request, right) = (&comparer.requests[place], &comparer.answers[place]);
+    let shown = format!("request  {request}\nexpected {right}\nanswered {wrong}\n");
+    assert!(outcome.printed.starts_with(&shown), "{}", outcome.printed);
+}
+
+/// A program that answers so is found out at each request where that is wrong, of which there are some.
+#[track_caller]
+pub fn is_found_out_with(
+    books: Option<Books>,
+    count: usize,
+    name: &str,
+    answer: impl Fn(&Request) -> String,
+) {
+    let comparer = compare_with(books, count);
+    let answers: Vec<String> = requests(books, count)
+        .map(|request| answer(&request))
+        .collect();
+    let both = answers.iter().zip(&comparer.answers);
+    let wrong = both.filter(|(answer, right)| answer != right).count();
+    assert!(wrong > 0, "it is always right");
+    comparer
+        .with_answers(name, &answers, "")
+        .is_a_failure(wrong);
+}
