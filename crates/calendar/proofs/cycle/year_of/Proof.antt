@@ -31,7 +31,7 @@ add-past c = search needs
 returns : tie.Need-returns
 returns c =
     let day = c .before .before .args .day in
-    (guess-early day ((4 * day + 3) / 1461) (search needs) refl (c .if1 .taken), leap-is (c .before))
+    (guess-early day ((4 * day + 3) / 1461) (search needs) refl (omega (arith, c .if1 .taken)), leap-is (c .before))
 
 year-by-table-requires : tie.Need-year-by-table-requires
 year-by-table-requires c κs = (search needs, refl, leap-is (c .before))
