@@ -1,5 +1,5 @@
 -- Laws of rooms and matches, for the loops of the matcher and of the writer and for the calls over them: what a room holds, rooms
--- that hold some names, a turn over the bytes of a name, and a turn over names.
+-- that hold some names, a turn over the bytes of a name, its first letter, and a turn over names.
 use mathlib.Core.Bool.{Bool, true, false}
 use mathlib.Core.List.{List, [], _∷_}
 use mathlib.Core.Path.{_≡_, refl, ap, sym, _∙_}
@@ -11,7 +11,7 @@ use lib.Dec.{eqb}
 use lib.ListN.{length, take, drop, getD, length-take, length-drop, drop-of-length-le}
 use lib.Seq.{drop-cons, drop-drop, getD-take, getD-drop}
 use Rattle.laws.proofs.OpenedBooks.{count-at}
-use Rattle.laws.proofs.Tests.{when-true, when-false}
+use Rattle.laws.proofs.Tests.{true-is-not-false, when-true, when-false}
 use Rattle.meaning.specs.Bytes.{both, when}
 use Rattle.meaning.specs.OpenedBooks.{nameRoom, nameAt, namesAt}
 use Rattle.meaning.specs.Readers.{begins, firstName, matchName, got, stopped}
@@ -103,6 +103,37 @@ module _ (name s : List ℕ) (j : ℕ) where
   pub all-bytes : length name ≤ j → begins (drop j name) (drop j s) ≡ true
   unfolding begins
   all-bytes h = rw (drop-of-length-le name h)
+
+-- ---- the first letter of a name
+
+pub no-letter : (name s : List ℕ) → length name ≡ 0 → begins (take 1 name) s ≡ true
+unfolding begins
+no-letter [] s h = refl
+no-letter (a ∷ name) s h = absurd (omega arith)
+
+pub no-text : (name s : List ℕ) → 0 < length name → length s ≡ 0 → begins (take 1 name) s ≡ false
+unfolding begins
+no-text [] s h k = absurd (omega arith)
+no-text (a ∷ name) [] h k = refl
+no-text (a ∷ name) (b ∷ s) h k = absurd (omega arith)
+
+pub letter-compared : (name s : List ℕ) → 0 < length name → 0 < length s → begins (take 1 name) s ≡ eqb (getD name 0 0) (getD s 0 0)
+unfolding begins
+letter-compared [] s h k = absurd (omega arith)
+letter-compared (a ∷ name) [] h k = absurd (omega arith)
+letter-compared (a ∷ name) (b ∷ s) h k = both-true (eqb a b) where
+  both-true : (t : Bool) → both t true ≡ t
+  both-true true = refl
+  both-true false = refl
+
+pub other-letter : (name s : List ℕ) → begins (take 1 name) s ≡ false → begins name s ≡ false
+unfolding begins
+other-letter [] s e = e
+other-letter (a ∷ name) [] e = refl
+other-letter (a ∷ name) (b ∷ s) e = only-first (eqb a b) (begins name s) e where
+  only-first : (t u : Bool) → both t true ≡ false → both t u ≡ false
+  only-first true u f = true-is-not-false f
+  only-first false u f = refl
 
 -- ---- a turn over names
 
