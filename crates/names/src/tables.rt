@@ -31,10 +31,10 @@ fn letter_begins(rows: &[u8], index: usize, most: usize, text: &[u8]) -> bool
     requires { ⌜ (most ≤ 20) × (index * 21 + 21 ≤ length (now rows)) ⌝ }
     ensures { λ r. ⌜ r ≡ begins (take 1 (nameIn most (now (rows .entry)) index)) (now (text .entry)) ⌝ }
 {
-    if length_at(rows, index, most) == 0 {
+    if 0 < text.len() && rows[index * ROOM + 1] == text[0] {
         return true;
     }
-    0 < text.len() && rows[index * ROOM + 1] == text[0]
+    length_at(rows, index, most) == 0
 }
 
 // "takes the first name in the table order that begins the text". The letters of lent rows are not known to the compiler, so that

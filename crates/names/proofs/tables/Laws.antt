@@ -44,6 +44,10 @@ room most rows i short h =
           rw (e, getD-take, getD-drop, p);
     }
 
+pub room-letter : (most : ℕ) (rows : List ℕ) (i : ℕ) → Room most rows i → 0 < length (nameIn most rows i)
+    → getD (nameIn most rows i) 0 0 ≡ getD rows (i * nameRoom + 1) 0
+room-letter most rows i r h = let p : i * nameRoom + 1 + 0 ≡ i * nameRoom + 1 = omega arith in rw (r .byte 0 h, p)
+
 -- ---- rooms, one after the other
 
 pub names-at : (most count : ℕ) (rows : List ℕ) (i : ℕ) → i < count → getD (namesAt most count rows) i [] ≡ nameIn most rows i
@@ -106,25 +110,23 @@ module _ (name s : List ℕ) (j : ℕ) where
 
 -- ---- the first letter of a name
 
-pub no-letter : (name s : List ℕ) → length name ≡ 0 → begins (take 1 name) s ≡ true
+pub letter-same : (name s : List ℕ) → 0 < length s → (0 < length name → getD name 0 0 ≡ getD s 0 0) → begins (take 1 name) s ≡ true
 unfolding begins
-no-letter [] s h = refl
-no-letter (a ∷ name) s h = absurd (omega arith)
+letter-same [] s h e = refl
+letter-same (a ∷ name) [] h e = absurd (omega arith)
+letter-same (a ∷ name) (b ∷ s) h e = rw (eq-eqb a b (e (omega arith)))
 
-pub no-text : (name s : List ℕ) → 0 < length name → length s ≡ 0 → begins (take 1 name) s ≡ false
+pub letter-apart : (name s : List ℕ) → 0 < length s → (0 < length name → getD name 0 0 ≡ getD s 0 0 → ⊥) → begins (take 1 name) s ≡ eqb (length name) 0
 unfolding begins
-no-text [] s h k = absurd (omega arith)
-no-text (a ∷ name) [] h k = refl
-no-text (a ∷ name) (b ∷ s) h k = absurd (omega arith)
+letter-apart [] s h e = refl
+letter-apart (a ∷ name) [] h e = absurd (omega arith)
+letter-apart (a ∷ name) (b ∷ s) h e = rw (ne-eqb a b (e (omega arith)), ne-eqb (suc (length name)) 0 (λ z. omega arith))
 
-pub letter-compared : (name s : List ℕ) → 0 < length name → 0 < length s → begins (take 1 name) s ≡ eqb (getD name 0 0) (getD s 0 0)
+pub letter-past : (name s : List ℕ) → length s ≤ 0 → begins (take 1 name) s ≡ eqb (length name) 0
 unfolding begins
-letter-compared [] s h k = absurd (omega arith)
-letter-compared (a ∷ name) [] h k = absurd (omega arith)
-letter-compared (a ∷ name) (b ∷ s) h k = both-true (eqb a b) where
-  both-true : (t : Bool) → both t true ≡ t
-  both-true true = refl
-  both-true false = refl
+letter-past [] s h = refl
+letter-past (a ∷ name) [] h = sym (ne-eqb (suc (length name)) 0 (λ z. omega arith))
+letter-past (a ∷ name) (b ∷ s) h = absurd (omega arith)
 
 pub other-letter : (name s : List ℕ) → begins (take 1 name) s ≡ false → begins name s ≡ false
 unfolding begins
