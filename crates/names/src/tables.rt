@@ -34,7 +34,7 @@ fn letter_begins(rows: &[u8], index: usize, most: usize, text: &[u8]) -> bool
     if 0 < text.len() && rows[index * ROOM + 1] == text[0] {
         return true;
     }
-    length_at(rows, index, most) == 0
+    most == 0 || rows[index * ROOM] == 0
 }
 
 // "takes the first name in the table order that begins the text". The letters of lent rows are not known to the compiler, so that

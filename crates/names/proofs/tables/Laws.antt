@@ -44,10 +44,6 @@ room most rows i short h =
           rw (e, getD-take, getD-drop, p);
     }
 
-pub room-letter : (most : ℕ) (rows : List ℕ) (i : ℕ) → Room most rows i → 0 < length (nameIn most rows i)
-    → getD (nameIn most rows i) 0 0 ≡ getD rows (i * nameRoom + 1) 0
-room-letter most rows i r h = let p : i * nameRoom + 1 + 0 ≡ i * nameRoom + 1 = omega arith in rw (r .byte 0 h, p)
-
 -- ---- rooms, one after the other
 
 pub names-at : (most count : ℕ) (rows : List ℕ) (i : ℕ) → i < count → getD (namesAt most count rows) i [] ≡ nameIn most rows i
@@ -110,23 +106,42 @@ module _ (name s : List ℕ) (j : ℕ) where
 
 -- ---- the first letter of a name
 
-pub letter-same : (name s : List ℕ) → 0 < length s → (0 < length name → getD name 0 0 ≡ getD s 0 0) → begins (take 1 name) s ≡ true
+same-first : (name s : List ℕ) → 0 < length s → (0 < length name → getD name 0 0 ≡ getD s 0 0) → begins (take 1 name) s ≡ true
 unfolding begins
-letter-same [] s h e = refl
-letter-same (a ∷ name) [] h e = absurd (omega arith)
-letter-same (a ∷ name) (b ∷ s) h e = rw (eq-eqb a b (e (omega arith)))
+same-first [] s h e = refl
+same-first (a ∷ name) [] h e = absurd (omega arith)
+same-first (a ∷ name) (b ∷ s) h e = rw (eq-eqb a b (e (omega arith)))
 
-pub letter-apart : (name s : List ℕ) → 0 < length s → (0 < length name → getD name 0 0 ≡ getD s 0 0 → ⊥) → begins (take 1 name) s ≡ eqb (length name) 0
+other-first : (name s : List ℕ) → (0 < length s → 0 < length name → getD name 0 0 ≡ getD s 0 0 → ⊥) → begins (take 1 name) s ≡ eqb (length name) 0
 unfolding begins
-letter-apart [] s h e = refl
-letter-apart (a ∷ name) [] h e = absurd (omega arith)
-letter-apart (a ∷ name) (b ∷ s) h e = rw (ne-eqb a b (e (omega arith)), ne-eqb (suc (length name)) 0 (λ z. omega arith))
+other-first [] s e = refl
+other-first (a ∷ name) [] e = sym (ne-eqb (suc (length name)) 0 (λ z. omega arith))
+other-first (a ∷ name) (b ∷ s) e = rw (ne-eqb a b (e (omega arith) (omega arith)), ne-eqb (suc (length name)) 0 (λ z. omega arith))
 
-pub letter-past : (name s : List ℕ) → length s ≤ 0 → begins (take 1 name) s ≡ eqb (length name) 0
-unfolding begins
-letter-past [] s h = refl
-letter-past (a ∷ name) [] h = sym (ne-eqb (suc (length name)) 0 (λ z. omega arith))
-letter-past (a ∷ name) (b ∷ s) h = absurd (omega arith)
+same-none : (n most k : ℕ) → (most ≡ 0 → ⊥) → k ≡ min n most → eqb n 0 ≡ eqb k 0
+same-none zero most k h e = sym (eq-eqb k 0 (omega arith))
+same-none (suc n) most k h e = ne-eqb (suc n) 0 (λ z. omega arith) ∙ sym (ne-eqb k 0 (λ z. h (omega arith)))
+
+-- the letter as it stands in the room, and where it is another one, the room's size
+module _ (most : ℕ) (rows s : List ℕ) (i : ℕ) (at : Room most rows i) where
+  abbrev own : List ℕ
+  own = nameIn most rows i
+
+  room-letter : 0 < length own → getD own 0 0 ≡ getD rows (i * nameRoom + 1) 0
+  room-letter h = let p : i * nameRoom + 1 + 0 ≡ i * nameRoom + 1 = omega arith in rw (at .byte 0 h, p)
+
+  pub letter-same : 0 < length s → getD rows (i * nameRoom + 1) 0 ≡ getD s 0 0 → begins (take 1 own) s ≡ true
+  letter-same h e = same-first own s h (λ k. room-letter k ∙ e)
+
+  module _ (apart : 0 < length s → getD rows (i * nameRoom + 1) 0 ≡ getD s 0 0 → ⊥) where
+    by-length : begins (take 1 own) s ≡ eqb (length own) 0
+    by-length = other-first own s (λ h k e. apart h (sym (room-letter k) ∙ e))
+
+    pub letter-none : most ≡ 0 → begins (take 1 own) s ≡ true
+    letter-none e = let k : length own ≡ 0 = omega (arith, at .size) in by-length ∙ eq-eqb (length own) 0 k
+
+    pub letter-apart : (most ≡ 0 → ⊥) → begins (take 1 own) s ≡ eqb (getD rows (i * nameRoom) 0) 0
+    letter-apart h = by-length ∙ sym (same-none (getD rows (i * nameRoom) 0) most (length own) h (at .size))
 
 pub other-letter : (name s : List ℕ) → begins (take 1 name) s ≡ false → begins name s ≡ false
 unfolding begins

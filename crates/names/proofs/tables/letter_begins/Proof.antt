@@ -1,12 +1,11 @@
--- Letters that are the same are told at once; where they are not, or the text is empty, a name with no letter is left.
+-- Letters that are the same are told at once; where they are not, or the text is empty, the room tells whether it has any.
 use mathlib.Core.Logic.{⊎-elim}
 use mathlib.Core.Path.{_≡_, sym, _∙_}
 use native.Mathlib.Omega.{arith}
 use borrow.Author.Needs.{needs}
-use borrow.Author.Tests.{eqb-true, eqb-false}
+use borrow.Author.Tests.{eq-eqb, eqb-true, eqb-false}
 use denote.Ref.{now}
-use Rattle.names.specs.Table.{nameIn}
-use Rattle.names.proofs.tables.Laws.{room, room-letter, letter-same, letter-apart, letter-past}
+use Rattle.names.proofs.tables.Laws.{room, letter-same, letter-none, letter-apart}
 use Rattle.names.proofs.tables.letter_begins.Statement.{statement}
 use Rattle.names.proofs.tables.letter_begins.Tie as tie
 
@@ -14,22 +13,20 @@ pub letter-begins-spec : {M : Type 1} → statement M
 letter-begins-spec =
     tie.close
     (tie.spec
-    (λ c. search needs)
-    (λ c. search needs)
-    (λ c. search needs)
-    (λ c. search needs)
-    (λ c.
-    let s = c .before .before .before .before .before .before in
-    let a = s .args in
-    sym (letter-same (nameIn (a .most) (now (a .rows)) (a .index)) (now (a .text)) (omega arith)
-    (λ h. room-letter _ _ _ (room (a .most) (now (a .rows)) (a .index) (s .pre .0) (s .pre .1)) h ∙ eqb-true _ _ (c .if2 .taken))))
-    (λ c κs. search needs)
+    (λ c. search needs) (λ c. search needs) (λ c. search needs) (λ c. search needs)
     (λ c.
     let s = c .before .before .before .before in
     let a = s .args in
-    let at = room (a .most) (now (a .rows)) (a .index) (s .pre .0) (s .pre .1) in
-    rw (c .length-at .ensures) (sym (⊎-elim
-    (λ w. letter-apart (nameIn (a .most) (now (a .rows)) (a .index)) (now (a .text)) (w .0 .taken)
-    (λ h e. eqb-false _ _ (w .3 .left) (sym (room-letter _ _ _ at h) ∙ e)))
-    (λ w. letter-past (nameIn (a .most) (now (a .rows)) (a .index)) (now (a .text)) (w .left))
-    (c .before .if1 .came)))))
+    sym (letter-same _ _ (now (a .text)) _ (room (a .most) (now (a .rows)) (a .index) (s .pre .0) (s .pre .1)) (c .before .before .before .if1 .taken) (eqb-true _ _ (c .if2 .taken))))
+    (λ c. search needs) (λ c. search needs)
+    (λ c.
+    let s = c .before .before in
+    let a = s .args in
+    let apart = ⊎-elim (λ w h e. eqb-false _ _ (w .3 .left) e) (λ w h e. omega arith) (c .before .if1 .came) in
+    eq-eqb _ _ (c .if3 .taken)
+    ∙ sym (letter-none _ _ (now (a .text)) _ (room (a .most) (now (a .rows)) (a .index) (s .pre .0) (s .pre .1)) apart (c .if3 .taken)))
+    (λ c.
+    let s = c .before .before .before in
+    let a = s .args in
+    let apart = ⊎-elim (λ w h e. eqb-false _ _ (w .3 .left) e) (λ w h e. omega arith) (c .before .before .if1 .came) in
+    sym (letter-apart _ _ (now (a .text)) _ (room (a .most) (now (a .rows)) (a .index) (s .pre .0) (s .pre .1)) apart (c .before .if3 .left))))
