@@ -17,9 +17,9 @@
  * opened book that are none, or SHEET_NO_LINE where a text has no line at a place: then nothing is altered.
  *
  * What is altered. Accepted, the first entries of `answer`, as many as the function asks for, are what its comment says, and a
- * writer alters so many bytes of `out` as it answers, as sheet_book_read does of `book`, and sheet_read_list so many entries of each
- * of its rows. Refused, the entries of `answer` are the refusal's details, then zeros, and nothing else is altered; sheet_read_line
- * says first where the line is. Nothing behind them ever is.
+ * writer alters so many bytes of `out` as it answers, as sheet_book_read does of `book`, and sheet_read_list so many entries of
+ * each of its rows. Refused, the entries of `answer` are the refusal's details, then zeros, and nothing else is altered;
+ * sheet_read_line says first where the line is. Nothing behind them ever is.
  *
  * Parts of a pattern and places in a pattern or a text are counted from 0. docs/SPECIFICATION.md says what a pattern means.
  */
@@ -251,11 +251,11 @@ uint32_t sheet_read_by(uint32_t choices, const uint8_t *book, size_t book_len, c
                        const uint8_t *text, size_t text_len, int32_t year, int64_t *answer, size_t answer_len);
 
 /* Reads a list: each line of a text by one pattern, by itself, as sheet_read_by reads a text, with the same choices and books. A
- * newline, the byte 10, ends a line and is not of it; a last line without one counts; an empty text has no line. A carriage return is
- * a byte of its line like any other. A line may have SHEET_LONGEST_TEXT bytes, the text may have any number.
+ * newline, the byte 10, ends a line and is not of it; a last line without one counts; an empty text has no line. A carriage return
+ * is a byte of its line like any other. A line may have SHEET_LONGEST_TEXT bytes, the text may have any number.
  * Line k, counted from 0, gets entry k of the four rows: in `codes` 0 where it was read, else the number of its refusal; in `days`,
- * `months` and `years` the values that were read, and 0 where one was not or where the line was refused. Entries behind those of the
- * last line are not altered. The rows need not have the same length.
+ * `months` and `years` the values that were read, and 0 where one was not or where the line was refused. Entries behind those of
+ * the last line are not altered. The rows need not have the same length.
  * SHEET_NO_SUCH_CHOICE, SHEET_NO_BOOK and SHEET_ROW_TOO_SMALL, for `answer`, come in this order and before all refusals.
  * Answers: how many lines, and 0; a line that is refused spoils no other.
  * Refuses: 1, 2, 3, 14, then 24 where one of the four rows is too short, before any entry of them is altered. */

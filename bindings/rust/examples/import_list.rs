@@ -1,7 +1,8 @@
 //! Imports a list of dates, one a line: import_list PATTERN LIST.txt
 //!
-//! Prints a table with a row for each line of the file, as `arrivals.txt` beside this is one for the pattern `d MMM yyyy`. Literals are
-//! compared. A line that is refused is marked, with the reason in a sentence, and spoils no other; so is a day that is not there.
+//! Prints a table with a row for each line of the file, as `arrivals.txt` beside this is one for the pattern `d MMM yyyy`; the
+//! pattern has a day, a month and a year. Literals are compared. A line that is refused is marked, with the reason in a sentence,
+//! and spoils no other; so is a day that is not there.
 
 use sheet::{Book, Choices, Columns, Line, Refusal};
 use std::process::ExitCode;

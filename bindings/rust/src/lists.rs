@@ -57,10 +57,10 @@ pub struct Rows<'a> {
     pub codes: &'a mut [u32],
 }
 
-/// Reads a list: each line of a text by one pattern, by itself, as [`read`](crate::read()) reads a text. A newline ends a line, a last
-/// line without one counts, and an empty text has no line. A carriage return is a byte of its line like any other, which is left over
-/// behind the last part. Each line may have 2,048 bytes; the text may have any number. Refuses with 1, 2, 3 or 14, the first in this
-/// order; a line that is refused has its number among the codes, and spoils no other.
+/// Reads a list: each line of a text by one pattern, by itself, as [`read`](crate::read()) reads a text. A newline ends a line, a
+/// last line without one counts, and an empty text has no line. A carriage return is a byte of its line like any other, which is
+/// left over behind the last part. Each line may have 2,048 bytes; the text may have any number. Refuses with 1, 2, 3 or 14, the
+/// first in this order; a line that is refused has its number among the codes, and spoils no other.
 ///
 /// ```
 /// # fn main() -> Result<(), sheet::Refusal> {
@@ -101,8 +101,8 @@ pub fn read_list_by(
 }
 
 /// Reads a list into lent rows, and answers how many lines it has: so many cells of each row are its [columns](Columns), and those
-/// behind them are not altered. Otherwise as [`read_list_by`]. Refuses with 1, 2, 3, 14, and with 24 where a row has fewer cells than the
-/// list has lines, the first in this order; then no cell is altered.
+/// behind them are not altered. Otherwise as [`read_list_by`]. Refuses with 1, 2, 3, 14, and with 24 where a row has fewer cells
+/// than the list has lines, the first in this order; then no cell is altered.
 ///
 /// ```
 /// use sheet::{read_list_by_into, Book, Choices, Rows};
@@ -208,9 +208,9 @@ pub struct Lines<'a> {
     read: usize,
 }
 
-/// The lines of a text, each read by one pattern, by itself, as [`read`](crate::read()) reads a text: [`read_list`] line by line, with
-/// the whole answer of each, for an editor that shows a line as it comes. A pattern or a current year that is refused is refused for
-/// each line.
+/// The lines of a text, each read by one pattern, by itself, as [`read`](crate::read()) reads a text: [`read_list`] line by line,
+/// with the whole answer of each, for an editor that shows a line as it comes. A pattern or a current year that is refused is
+/// refused for each line.
 ///
 /// ```
 /// use sheet::ParseUnit;

@@ -35,7 +35,8 @@ pub fn answer(mut words: Words) -> Option<String> {
 }
 
 impl List {
-    /// What is laid into lent rows; where the function that makes its own, or the lines one by one, do not give the same, all answers.
+    /// What is laid into lent rows; where the function that makes its own, or the lines one by one, give something else, all
+    /// answers.
     fn answer(&self, book: Option<&Book>) -> String {
         let lent = agreed(self.lent(book).answer(), self.own(book));
         match self.by_lines(book.unwrap_or(Book::english())) {
