@@ -7,7 +7,7 @@ use lib.IntN.{ℤ, pos}
 use lib.ListN.{replicate}
 use Rattle.meaning.specs.Answers.{number, details, Answer, accepted, readAnswer, listAnswer}
 use Rattle.meaning.specs.Bytes.{bytes}
-use Rattle.meaning.specs.Lists.{lines, Rows, readList, listRows, readLine}
+use Rattle.meaning.specs.Lists.{lines, Rows, rowsOf, readList, listRows, readLine}
 use Rattle.meaning.specs.Names.{english}
 use Rattle.meaning.specs.Readers.{takeNumber}
 use Rattle.meaning.specs.Whole.{plain}
@@ -47,13 +47,12 @@ abbrev _on_in′_ : String → String → ℕ → Question
 p on s in′ n = record { pattern = p; text = s; room = n }
 
 infix 95 _on_in′_
-abbrev rowsOf : List ℕ → List ℕ → List ℕ → List ℕ → Rows
-rowsOf days months years codes =
-    record { days = map pos days; months = map pos months; years = map pos years; codes = codes }
+abbrev cells : List ℕ → List ℕ → List ℕ → List ℕ → Rows
+cells days months years codes = rowsOf (map pos days) (map pos months) (map pos years) codes
 
 -- so many cells, each of them 7
 abbrev sevens : ℕ → Rows
-sevens n = rowsOf (replicate n 7) (replicate n 7) (replicate n 7) (replicate n 7)
+sevens n = cells (replicate n 7) (replicate n 7) (replicate n 7) (replicate n 7)
 
 pub asked : Question → Given
 unfolding readList listRows
@@ -72,8 +71,8 @@ refused why detail room = record { answer = record { number = why; values = pos 
 
 pub table : List (Sample Question Given)
 table =
-    "d/M" on "3/1\nx\n4/2" in′ 3 ↦′ read′ 3 (rowsOf (3 ∷ 0 ∷ 4 ∷ []) (1 ∷ 0 ∷ 2 ∷ []) (0 ∷ 0 ∷ 0 ∷ []) (0 ∷ 9 ∷ 0 ∷ []))
-    ∷ "d/M" on "3/1\n" in′ 2 ↦′ read′ 1 (rowsOf (3 ∷ 7 ∷ []) (1 ∷ 7 ∷ []) (0 ∷ 7 ∷ []) (0 ∷ 7 ∷ []))
+    "d/M" on "3/1\nx\n4/2" in′ 3 ↦′ read′ 3 (cells (3 ∷ 0 ∷ 4 ∷ []) (1 ∷ 0 ∷ 2 ∷ []) (0 ∷ 0 ∷ 0 ∷ []) (0 ∷ 9 ∷ 0 ∷ []))
+    ∷ "d/M" on "3/1\n" in′ 2 ↦′ read′ 1 (cells (3 ∷ 7 ∷ []) (1 ∷ 7 ∷ []) (0 ∷ 7 ∷ []) (0 ∷ 7 ∷ []))
     ∷ "d/M" on "3/1\n\n4/2\n" in′ 2 ↦′ refused 24 0 2
     ∷ "'" on "3" in′ 0 ↦′ refused 3 0 0
     ∷ "d" on "" in′ 0 ↦′ read′ 0 (sevens 0)

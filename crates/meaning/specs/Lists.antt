@@ -52,6 +52,9 @@ pub record Rows : Type 0 where
   pub years : List ℤ
   pub codes : List ℕ
 
+abbrev pub rowsOf : List ℤ → List ℤ → List ℤ → List ℕ → Rows
+rowsOf days months years codes = record { days = days; months = months; years = years; codes = codes }
+
 abbrev pub cell : ParseUnit → Reading → ℤ
 cell unit r = getD (r .values) (unitNumber unit) (pos 0)
 
@@ -61,12 +64,8 @@ codeOf r = readAnswer r .number
 -- "cells past the last line stay"
 abbrev pub laid : List Reading → Rows → Rows
 laid rs rows =
-    record {
-      days = sets (rows .days) 0 (map (cell DayOfMonth) rs);
-      months = sets (rows .months) 0 (map (cell Month) rs);
-      years = sets (rows .years) 0 (map (cell Year) rs);
-      codes = sets (rows .codes) 0 (map codeOf rs);
-    }
+    rowsOf (sets (rows .days) 0 (map (cell DayOfMonth) rs)) (sets (rows .months) 0 (map (cell Month) rs))
+    (sets (rows .years) 0 (map (cell Year) rs)) (sets (rows .codes) 0 (map codeOf rs))
 
 -- "Refusals: 1, 2, 3, 14, then 24 a row shorter than the lines, all before anything is stored."
 

@@ -55,10 +55,8 @@ abbrev pub WritesBook : List ℕ → List ℕ → Wrote → List ℕ → Type 0
 WritesBook row out r after = SameAnswer wroteAnswer r (writeBook row out) × (after ≡ bookOutput row out)
 
 -- a list into four lent rows, and the line at a place of it
-abbrev pub ReadsList : Choices → Book → List ℕ → List ℕ → ℤ → List ℤ → List ℤ → List ℤ → List ℕ → Listed → List ℤ → List ℤ → List ℤ → List ℕ → Type 0
-ReadsList choices book p s current days months years codes r days′ months′ years′ codes′ =
-    let rows : Rows = record { days = days; months = months; years = years; codes = codes } in
-    let after : Rows = record { days = days′; months = months′; years = years′; codes = codes′ } in
+abbrev pub ReadsList : Choices → Book → List ℕ → List ℕ → ℤ → Rows → Listed → Rows → Type 0
+ReadsList choices book p s current rows r after =
     SameAnswer listAnswer r (readList choices book p s current rows) × (after ≡ listRows choices book p s current rows)
 
 abbrev pub ReadsLine : Choices → Book → List ℕ → List ℕ → ℕ → ℤ → LineRead → Type 0
