@@ -25,3 +25,9 @@ pub list-trusted : (edition : Edition) (p s : List ℕ) (current : ℤ) (rows : 
     → trustCheck edition p current ≡ Fine
 list-trusted edition p s current rows fine =
     else-fine (trustCheck edition p current) (rowsCheck s rows) (sym (list-checks edition p s current rows) ∙ fine) .0
+
+-- as they are found: the first that refuses, of two
+pub list-checked : (edition : Edition) (p s : List ℕ) (current : ℤ) (rows : Rows) (n : ℕ) {first second whole : Checked}
+    → first ≡ trustCheck edition p current → n ≡ length (lines s) → second ≡ refuseUnless (hold n rows) ShortRow → whole ≡ (first else second)
+    → whole ≡ listCheck edition p s current rows
+list-checked edition p s current rows n a b c d = d ∙ rw (a, c, b) (sym (list-checks edition p s current rows))
