@@ -25,7 +25,14 @@ fn no_line() -> LineRead
 }
 
 // Reads the line that starts at a place, as it would be read by itself.
-pub fn read_line(choices: Choices, book: &[u8], pattern: &[u8], text: &[u8], at: usize, year: i32) -> LineRead
+pub fn read_line(
+    choices: Choices,
+    book: &[u8],
+    pattern: &[u8],
+    text: &[u8],
+    at: usize,
+    year: i32,
+) -> LineRead
     ensures { λ r. ⌜ ReadsLine choices (bookIn (now (book .entry))) (now (pattern .entry)) (now (text .entry)) at year r ⌝ }
 {
     if text.len() <= at {

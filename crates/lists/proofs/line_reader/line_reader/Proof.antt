@@ -1,6 +1,5 @@
--- `line_reader::made-of` meets its contract: a walk of its MIR, by hand. A `Reader` is made of the slice passed and 0, in the result's local.
--- A `&[u8]` is Copy, so what it owns is had twice: once for text at exit, and once inside the result, beside the facts of at.
--- Assumes nothing.
+-- A walk of the MIR: the record is made of the text and 0 in the result's local. A slice is Copy, so what it owns is had twice: once for
+-- the exit, and once inside the result.
 use mathlib.Core.Path.{refl}
 use Prim.Native.Nat.{ℕ}
 use mathlib.Core.List.{List, [], _∷_}

@@ -1,6 +1,5 @@
--- `line_reader::moved` meets its contract: a walk of its MIR, by hand. A struct is made anew of the slice that the one passed holds, and another number.
--- The struct is Copy: what it owns is had twice, one copy is kept whole for the exit, and the other, with the facts of the number in the place of at's, is what the result owns.
--- Assumes nothing.
+-- A walk of the MIR: a record is made anew of the text that the one passed holds, and another place. The record is Copy: what it owns is
+-- had twice, one copy is kept for the exit, and the other, with the new place's facts, is what the result owns.
 use mathlib.Core.Path.{refl}
 use Prim.Native.Nat.{ℕ, _<_, _^_}
 use mathlib.Core.List.{[], _∷_}

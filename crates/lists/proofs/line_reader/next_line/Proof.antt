@@ -1,6 +1,5 @@
--- `next_line` meets its contract: a walk of its MIR, by hand. The record is taken apart, and `read_line` is called on its text and its place. All that the proof knows of `read_line` is that it meets its contract.
--- All parameters are Copy: what they own is had twice, one copy is kept whole for the exit, and of the other goes to the callee what it asks, in its order: so are the lifetimes' tokens, which come back.
--- Assumes nothing.
+-- A walk of the MIR: the record is taken apart, and `read_line` is called on its text and place. All parameters are Copy: what they own
+-- is had twice, one copy is kept for the exit, and the other goes to the callee in its order, with the lifetimes' tokens, which come back.
 use mathlib.Core.Path.{_≡_, refl}
 use Prim.Native.Nat.{ℕ, _<_, _^_}
 use mathlib.Core.List.{List, [], _∷_}
