@@ -35,15 +35,18 @@ pub fn read_line(
 ) -> LineRead
     ensures { λ r. ⌜ ReadsLine choices (bookIn (now (book .entry))) (now (pattern .entry)) (now (text .entry)) at year r ⌝ }
 {
-    if text.len() <= at {
+    let size = text.len();
+    if size <= at {
         return no_line();
     }
     let end = line_end(text, at);
+    let next = next_line(text, end);
+    let reading = parse_with(choices, book, pattern, &text[at..end], year);
     LineRead {
         there: true,
         start: at,
         end,
-        next: next_line(text, end),
-        reading: parse_with(choices, book, pattern, &text[at..end], year),
+        next,
+        reading,
     }
 }

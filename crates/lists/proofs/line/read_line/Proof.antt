@@ -17,7 +17,7 @@ no-line-requires c κs = search needs
 returns : tie.Need-returns
 returns c =
     let a = c .before .before .before .before .before .args in
-    c .no-line .ensures ∙ sym (no-line-read (a .choices) (bookIn (now (a .book))) (now (a .pattern)) (now (a .text)) (a .year) (a .at) (c .before .if1 .taken))
+    c .no-line .ensures ∙ sym (no-line-read (a .choices) (bookIn (now (a .book))) (now (a .pattern)) (now (a .text)) (a .year) (a .at) (omega arith))
 
 line-end-requires : tie.Need-line-end-requires
 line-end-requires c κs = search needs
