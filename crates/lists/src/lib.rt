@@ -6,7 +6,6 @@ pub mod line_reader;
 pub mod lines;
 pub mod rows;
 
-ghost use mathlib.Core.Path.{_≡_};
 ghost use Rattle.meaning.specs.Lists.{rowsOf};
 ghost use Rattle.meaning.specs.OpenedBooks.{bookIn};
 ghost use Rattle.meaning.specs.Promises.{ReadsList};
@@ -40,7 +39,17 @@ pub fn read_list(
     let of_rows = rows_check(n, days.len(), months.len(), years.len(), codes.len());
     match or_else(of_pattern, of_rows) {
         Checked::Fine => {
-            read_lines(choices, book, pattern, text, year, days, months, years, codes);
+            read_lines(
+                choices,
+                book,
+                pattern,
+                text,
+                year,
+                days,
+                months,
+                years,
+                codes,
+            );
             Listed::Lines(n)
         }
         Checked::Refused(why) => Listed::Refused(why),
