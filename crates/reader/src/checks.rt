@@ -1,4 +1,4 @@
-// What is asked of a text before its parts are read: refusals 1, 2, 3, 14, 6, 7.
+// What is asked before parts are read: refusals 1, 2, 3, 14 of a pattern and a year, and 6, 7 of a text.
 ghost use mathlib.Core.Path.{_≡_};
 ghost use Rattle.meaning.specs.Answers.{textCheck};
 ghost use Rattle.meaning.specs.Trust.{trustCheck};

@@ -29,11 +29,21 @@ no-reading-requires c κs = search needs
 
 returns : tie.Need-returns
 unfolding read
-returns c = ?
+returns c =
+    let start = c .before .before .before .before .before .before .before .before in
+    let a = start .args in
+    let year = rw (toZ-ofZ w32 (a .year) (search needs)) at (c .before .size .ensures) in
+    let fine = sym (c .before .before .before .before .text-check .ensures) ∙ c .before .before .enum-told .given .1 in
+    rw (read-checks (a .choices .edition) (now (a .pattern)) (now (a .text)) (a .year), start .pre, fine, ← year) (c .parse-parts .ensures)
 
 returns-2 : tie.Need-returns-2
 unfolding read
-returns-2 c = ?
+returns-2 c =
+    let start = c .before .before .before .before .before .before .before in
+    let a = start .args in
+    let why = c .before .enum-told2 .given .1 in
+    let refused = sym (c .before .before .before .text-check .ensures) ∙ why in
+    rw (read-checks (a .choices .edition) (now (a .pattern)) (now (a .text)) (a .year), start .pre, refused) (rw why at (c .no-reading .ensures))
 
 pub parse-checked-spec : {M : Type 1} → statement M
 parse-checked-spec =
