@@ -40,7 +40,17 @@ pub fn read_list(
     let of_rows = rows_check(n, days.len(), months.len(), years.len(), codes.len());
     match or_else(of_pattern, of_rows) {
         Checked::Fine => {
-            read_lines(choices, book, pattern, text, year, days, months, years, codes);
+            read_lines(
+                choices,
+                book,
+                pattern,
+                text,
+                year,
+                days,
+                months,
+                years,
+                codes,
+            );
             Listed::Lines(n)
         }
         Checked::Refused(why) => Listed::Refused(why),

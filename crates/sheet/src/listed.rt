@@ -71,7 +71,17 @@ pub extern "C" fn sheet_read_list(
     }
     let choices = choices_of(choices);
     give_listed(
-        read_list(choices, book, pattern, text, year, days, months, years, codes),
+        read_list(
+            choices,
+            book,
+            pattern,
+            text,
+            year,
+            days,
+            months,
+            years,
+            codes,
+        ),
         answer,
     )
 }
@@ -99,5 +109,8 @@ pub extern "C" fn sheet_read_line(
     if answer.len() < 51 {
         return 100;
     }
-    give_line(read_line(choices_of(choices), book, pattern, text, at, year), answer)
+    give_line(
+        read_line(choices_of(choices), book, pattern, text, at, year),
+        answer,
+    )
 }
