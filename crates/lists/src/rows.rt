@@ -1,20 +1,20 @@
 // The four lent rows: whether they hold so many lines, and the lines read into them.
-ghost use mathlib.Core.Bool.{true};
 ghost use mathlib.Core.Path.{_≡_};
 ghost use lib.Dec.{leb};
-ghost use lib.ListN.{length};
+ghost use Rattle.laws.specs.CalendarLine.{Short};
 ghost use Rattle.meaning.specs.Answers.{refuseUnless};
 ghost use Rattle.meaning.specs.Bytes.{both};
-ghost use Rattle.meaning.specs.Lists.{codeOf, hold, laid, lines, readLines, rowsOf};
+ghost use Rattle.meaning.specs.Lists.{cell, codeOf, laid, listCheck, readLines, rowsOf};
 ghost use Rattle.meaning.specs.OpenedBooks.{bookIn};
-ghost use Rattle.meaning.specs.Trust.{trustCheck};
 use crate::lines::line_end;
 use crate::lines::next_line;
 use meaning::Checked;
 use meaning::Choices;
+use meaning::ParseUnit;
 use meaning::Reading;
 use meaning::Refusal;
 use reader::parse_checked;
+use reader::record::unit_number;
 use refusals::tell;
 
 // 24, by the lengths of the rows.
@@ -36,6 +36,16 @@ pub fn rows_check(lines: usize, days: usize, months: usize, years: usize, codes:
     Checked::Fine
 }
 
+// The value of a unit that 32 bits hold, 0 where it was not read.
+fn value_of(reading: Reading, unit: ParseUnit) -> i32
+    requires { ⌜ Short (cell unit reading) ⌝ }
+    ensures { λ r. ⌜ r ≡ cell unit reading ⌝ }
+{
+    let k = unit_number(unit);
+    let values = reading.values;
+    values[k] as i32
+}
+
 // "0 for a line taken, else its refusal number".
 fn code_of(reading: Reading) -> u32
     ensures { λ r. ⌜ r ≡ codeOf reading ⌝ }
@@ -50,7 +60,7 @@ fn code_of(reading: Reading) -> u32
     }
 }
 
-// Each line read by itself, into cell i of each row. The pattern and the year have passed their checks, and the rows hold all lines.
+// Each line read by itself, into its cell of each row, where all checks are fine.
 pub fn read_lines(
     choices: Choices,
     book: &[u8],
@@ -62,8 +72,7 @@ pub fn read_lines(
     years: &mut [i32],
     codes: &mut [u32],
 )
-    requires { ⌜ trustCheck (choices .edition) (now pattern) year ≡ Checked.Fine ⌝ }
-    requires { ⌜ hold (length (lines (now text))) (rowsOf (now days) (now months) (now years) (now codes)) ≡ true ⌝ }
+    requires { ⌜ listCheck (choices .edition) (now pattern) (now text) year (rowsOf (now days) (now months) (now years) (now codes)) ≡ Checked.Fine ⌝ }
     ensures { λ r. ⌜ rowsOf (now (days .exit)) (now (months .exit)) (now (years .exit)) (now (codes .exit)) ≡ laid (readLines choices (bookIn (now (book .entry))) (now (pattern .entry)) (now (text .entry)) year) (rowsOf (now (days .entry)) (now (months .entry)) (now (years .entry)) (now (codes .entry))) ⌝ }
 {
     let mut at = 0;
@@ -71,10 +80,9 @@ pub fn read_lines(
     while at < text.len() {
         let end = line_end(text, at);
         let reading = parse_checked(choices, book, pattern, &text[at..end], year);
-        let values = reading.values;
-        days[i] = values[2] as i32;
-        months[i] = values[1] as i32;
-        years[i] = values[0] as i32;
+        days[i] = value_of(reading, ParseUnit::DayOfMonth);
+        months[i] = value_of(reading, ParseUnit::Month);
+        years[i] = value_of(reading, ParseUnit::Year);
         codes[i] = code_of(reading);
         i += 1;
         at = next_line(text, end);

@@ -1,12 +1,18 @@
+-- One for each newline, and one more where the last byte is none.
+use mathlib.Core.Path.{ap, sym}
+use Prim.Native.Nat.{_<_}
+use native.Mathlib.Omega.{arith}
+use lib.ListN.{length}
 use borrow.Author.Needs.{needs}
+use borrow.Author.Tests.{eq-eqb, ne-eqb}
+use denote.Ref.{now}
+use Rattle.laws.proofs.Lists.{line-none, lines-count}
+use Rattle.lists.proofs.counting.Newlines.{few-newlines}
 use Rattle.lists.proofs.counting.count_lines.Statement.{statement}
 use Rattle.lists.proofs.counting.count_lines.Tie as tie
-use Rattle.lists.proofs.counting.count_lines.Reads as reads
-use Rattle.lists.proofs.counting.count_lines.Lts as lts
-use Rattle.lists.proofs.counting.count_newlines.Reads as count-newlines-reads
 
 returns : tie.Need-returns
-returns c = ?
+returns c = sym (ap length (line-none (now (c .before .before .args .text)) 0 (omega arith)))
 
 count-newlines-requires : tie.Need-count-newlines-requires
 count-newlines-requires c κs = search needs
@@ -18,13 +24,21 @@ shared-slice-read-if2 : tie.Need-shared-slice-read-if2
 shared-slice-read-if2 c = search needs
 
 returns-2 : tie.Need-returns-2
-returns-2 c = ?
+returns-2 c =
+    let s = now (c .before .before .before .before .before .args .text) in
+    let some : 0 < length s = omega arith in
+    let count = rw (eq-eqb _ _ (c .if2 .taken)) at (lines-count s some) in
+    omega (arith, count, c .before .before .count-newlines .ensures)
 
 add-result : tie.Need-add-result
-add-result c = ?
+add-result c = omega (arith, few-newlines (now (c .before .before .before .before .before .args .text)), c .before .before .count-newlines .ensures)
 
 returns-3 : tie.Need-returns-3
-returns-3 c = ?
+returns-3 c =
+    let s = now (c .before .before .before .before .before .args .text) in
+    let some : 0 < length s = omega arith in
+    let count = rw (ne-eqb _ _ (c .if2 .left)) at (lines-count s some) in
+    omega (arith, count, c .before .before .count-newlines .ensures)
 
 pub count-lines-spec : {M : Type 1} → statement M
 count-lines-spec =

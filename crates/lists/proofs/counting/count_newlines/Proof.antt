@@ -9,7 +9,6 @@ use borrow.Author.Tests.{eq-eqb, ne-eqb}
 use denote.Ref.{now}
 use Rattle.laws.proofs.Lists.{newlines-further, newlines-none}
 use Rattle.laws.specs.Lists.{newlines}
-use Rattle.lists.proofs.counting.Newlines.{few-newlines}
 use Rattle.lists.proofs.counting.count_newlines.Statement.{statement}
 use Rattle.lists.proofs.counting.count_newlines.Tie as tie
 

@@ -1,5 +1,5 @@
 -- What is told of a refusal begins with its number.
-use mathlib.Core.Path.{ap, sym, _∙_}
+use mathlib.Core.Path.{ap, _∙_}
 use borrow.Author.Needs.{needs}
 use Rattle.lists.proofs.rows.code_of.Statement.{statement}
 use Rattle.lists.proofs.rows.code_of.Tie as tie

@@ -1,109 +1,192 @@
+-- Each turn reads the line at a place and stores its cells.
+use Prim.Native.Nat.{_-_}
+use native.Mathlib.Omega.{arith}
+use lib.ListN.{length}
+use borrow.Author.Needs.{needs}
+use denote.Ref.{now}
+use mir.Syntax.{w32}
+use mir.Val.{toZ}
+use mir.ValLaws.{toZ-ofZ}
+use Rattle.laws.proofs.Lists.{end-inside, list-room}
+use Rattle.laws.proofs.Values.{value-short, few-months}
+use Rattle.meaning.specs.Lists.{rowsOf}
+use Rattle.meaning.specs.OpenedBooks.{bookIn}
+use Rattle.lists.proofs.Checks.{list-trusted}
+use Rattle.lists.proofs.rows.Stored.{Unfinished, nothing-read, cell-left, line-stored, all-read}
 use Rattle.lists.proofs.rows.read_lines.Statement.{statement}
 use Rattle.lists.proofs.rows.read_lines.Tie as tie
-use Rattle.lists.proofs.rows.read_lines.Reads as reads
-use Rattle.lists.proofs.rows.read_lines.Lts as lts
-use Rattle.lists.proofs.lines.line_end.Reads as line-end-reads
-use Rattle.lists.proofs.lines.next_line.Reads as next-line-reads
-use Rattle.lists.proofs.rows.code_of.Reads as code-of-reads
-use Rattle.reader.proofs.parse_checked.Reads as parse-checked-reads
 
 abbrev Inv-loop : tie.InvT-loop
 Inv-loop choices book pattern text year days₀ months₀ years₀ codes₀ at₀ i₀ days months years codes at i =
-    ?
+    Unfinished choices (bookIn book) pattern text (toZ w32 year) (rowsOf days₀ months₀ years₀ codes₀) (rowsOf days months years codes) at i
 
 abbrev μ-loop : tie.MeasureT-loop
-μ-loop choices book pattern text year days₀ months₀ years₀ codes₀ at₀ i₀ days months years codes at i =
-    ?
+μ-loop choices book pattern text year days₀ months₀ years₀ codes₀ at₀ i₀ days months years codes at i = length text - at
 
 loop-holds : tie.Need-loop-holds Inv-loop μ-loop
-loop-holds c = ?
+loop-holds c = nothing-read _ _ _ _ _ _
 
 line-end-requires : tie.Need-line-end-requires Inv-loop μ-loop
-line-end-requires c κs = ?
+line-end-requires c κs = search needs
 
 sub-parse-checked : tie.Need-sub-parse-checked Inv-loop μ-loop
-sub-parse-checked c = ?
+sub-parse-checked c = omega (arith, c .line-end .ensures)
 
 part-parse-checked-start : tie.Need-part-parse-checked-start Inv-loop μ-loop
-part-parse-checked-start c = ?
+part-parse-checked-start c = omega (arith, c .line-end .ensures)
 
 part-parse-checked-end : tie.Need-part-parse-checked-end Inv-loop μ-loop
-part-parse-checked-end c = ?
+part-parse-checked-end c =
+    let l = c .before .before in
+    omega (arith, c .line-end .ensures, end-inside (now (l .before .before .before .before .before .args .text)) (l .loop .at) (l .loop .inv .inside))
 
 parse-checked-requires : tie.Need-parse-checked-requires Inv-loop μ-loop
-parse-checked-requires c κs = ?
+parse-checked-requires c κs =
+    let start = c .before .before .before .before .before .before .before .before in
+    let a = start .args in
+    rw (toZ-ofZ w32 (a .year) (start .fits .year)) (list-trusted (a .choices .edition) (now (a .pattern)) (now (a .text)) (a .year) _ (start .pre))
 
-array-copy-out-days : tie.Need-array-copy-out-days Inv-loop μ-loop
-array-copy-out-days c = ?
-
-cast-days : tie.Need-cast-days Inv-loop μ-loop
-cast-days c = ?
+value-of-requires : tie.Need-value-of-requires Inv-loop μ-loop
+value-of-requires c κs =
+    let l = c .before .before .before .before in
+    let a = l .before .before .before .before .before .args in
+    rw (c .parse-checked .ensures) (value-short (a .choices) _ (few-months (now (a .book))) (now (a .pattern)) _ _ 2 (omega arith))
 
 mul-months : tie.Need-mul-months Inv-loop μ-loop
-mul-months c = ?
+mul-months c =
+    let l = c .before .before .before .before .before in
+    let start = l .before .before .before .before .before in
+    let a = start .args in
+    let left = cell-left _ _ _ _ _ _ _ _ _ (l .loop .inv) (c .before .before .before .before .loop-test .taken) (list-room (a .choices) (bookIn (now (a .book))) (now (a .pattern)) (now (a .text)) (a .year) _ (start .pre)) in
+    omega (arith, left .days, l .loop .inv .days .long)
 
 slice-set-from-months : tie.Need-slice-set-from-months Inv-loop μ-loop
-slice-set-from-months c = ?
+slice-set-from-months c =
+    let l = c .before .before .before .before .before in
+    let start = l .before .before .before .before .before in
+    let a = start .args in
+    let left = cell-left _ _ _ _ _ _ _ _ _ (l .loop .inv) (c .before .before .before .before .loop-test .taken) (list-room (a .choices) (bookIn (now (a .book))) (now (a .pattern)) (now (a .text)) (a .year) _ (start .pre)) in
+    left .days
 
-array-copy-out-months : tie.Need-array-copy-out-months Inv-loop μ-loop
-array-copy-out-months c = ?
-
-cast-months : tie.Need-cast-months Inv-loop μ-loop
-cast-months c = ?
+value-of-requires-2 : tie.Need-value-of-requires-2 Inv-loop μ-loop
+value-of-requires-2 c κs =
+    let l = c .before .before .before .before .before in
+    let a = l .before .before .before .before .before .args in
+    rw (c .before .parse-checked .ensures) (value-short (a .choices) _ (few-months (now (a .book))) (now (a .pattern)) _ _ 1 (omega arith))
 
 mul-years : tie.Need-mul-years Inv-loop μ-loop
-mul-years c = ?
+mul-years c =
+    let l = c .before .before .before .before .before .before in
+    let start = l .before .before .before .before .before in
+    let a = start .args in
+    let left = cell-left _ _ _ _ _ _ _ _ _ (l .loop .inv) (c .before .before .before .before .before .loop-test .taken) (list-room (a .choices) (bookIn (now (a .book))) (now (a .pattern)) (now (a .text)) (a .year) _ (start .pre)) in
+    omega (arith, left .months, l .loop .inv .months .long)
 
 slice-set-from-years : tie.Need-slice-set-from-years Inv-loop μ-loop
-slice-set-from-years c = ?
+slice-set-from-years c =
+    let l = c .before .before .before .before .before .before in
+    let start = l .before .before .before .before .before in
+    let a = start .args in
+    let left = cell-left _ _ _ _ _ _ _ _ _ (l .loop .inv) (c .before .before .before .before .before .loop-test .taken) (list-room (a .choices) (bookIn (now (a .book))) (now (a .pattern)) (now (a .text)) (a .year) _ (start .pre)) in
+    left .months
 
-array-copy-out-years : tie.Need-array-copy-out-years Inv-loop μ-loop
-array-copy-out-years c = ?
+value-of-requires-3 : tie.Need-value-of-requires-3 Inv-loop μ-loop
+value-of-requires-3 c κs =
+    let l = c .before .before .before .before .before .before in
+    let a = l .before .before .before .before .before .args in
+    rw (c .before .before .parse-checked .ensures) (value-short (a .choices) _ (few-months (now (a .book))) (now (a .pattern)) _ _ 0 (omega arith))
 
-cast-years : tie.Need-cast-years Inv-loop μ-loop
-cast-years c = ?
-
-mul-t15 : tie.Need-mul-t15 Inv-loop μ-loop
-mul-t15 c = ?
+mul-t14 : tie.Need-mul-t14 Inv-loop μ-loop
+mul-t14 c =
+    let l = c .before .before .before .before .before .before .before in
+    let start = l .before .before .before .before .before in
+    let a = start .args in
+    let left = cell-left _ _ _ _ _ _ _ _ _ (l .loop .inv) (c .before .before .before .before .before .before .loop-test .taken) (list-room (a .choices) (bookIn (now (a .book))) (now (a .pattern)) (now (a .text)) (a .year) _ (start .pre)) in
+    omega (arith, left .years, l .loop .inv .years .long)
 
 slice-set-from-years-2 : tie.Need-slice-set-from-years-2 Inv-loop μ-loop
-slice-set-from-years-2 c = ?
+slice-set-from-years-2 c =
+    let l = c .before .before .before .before .before .before .before in
+    let start = l .before .before .before .before .before in
+    let a = start .args in
+    let left = cell-left _ _ _ _ _ _ _ _ _ (l .loop .inv) (c .before .before .before .before .before .before .loop-test .taken) (list-room (a .choices) (bookIn (now (a .book))) (now (a .pattern)) (now (a .text)) (a .year) _ (start .pre)) in
+    left .years
 
 code-of-requires : tie.Need-code-of-requires Inv-loop μ-loop
-code-of-requires c κs = ?
+code-of-requires c κs = search needs
 
 mul-codes : tie.Need-mul-codes Inv-loop μ-loop
-mul-codes c = ?
+mul-codes c =
+    let l = c .before .before .before .before .before .before .before .before in
+    let start = l .before .before .before .before .before in
+    let a = start .args in
+    let left = cell-left _ _ _ _ _ _ _ _ _ (l .loop .inv) (c .before .before .before .before .before .before .before .loop-test .taken) (list-room (a .choices) (bookIn (now (a .book))) (now (a .pattern)) (now (a .text)) (a .year) _ (start .pre)) in
+    omega (arith, left .codes, l .loop .inv .codes .long)
 
 slice-write-codes : tie.Need-slice-write-codes Inv-loop μ-loop
-slice-write-codes c = ?
+slice-write-codes c =
+    let l = c .before .before .before .before .before .before .before .before in
+    let start = l .before .before .before .before .before in
+    let a = start .args in
+    let left = cell-left _ _ _ _ _ _ _ _ _ (l .loop .inv) (c .before .before .before .before .before .before .before .loop-test .taken) (list-room (a .choices) (bookIn (now (a .book))) (now (a .pattern)) (now (a .text)) (a .year) _ (start .pre)) in
+    left .codes
 
 add-i : tie.Need-add-i Inv-loop μ-loop
-add-i c = ?
+add-i c =
+    let l = c .before .before .before .before .before .before .before .before in
+    let start = l .before .before .before .before .before in
+    let a = start .args in
+    let left = cell-left _ _ _ _ _ _ _ _ _ (l .loop .inv) (c .before .before .before .before .before .before .before .loop-test .taken) (list-room (a .choices) (bookIn (now (a .book))) (now (a .pattern)) (now (a .text)) (a .year) _ (start .pre)) in
+    omega (arith, left .codes, l .loop .inv .codes .long)
 
 next-line-requires : tie.Need-next-line-requires Inv-loop μ-loop
-next-line-requires c κs = ?
+next-line-requires c κs =
+    let l = c .before .before .before .before .before .before .before .before in
+    omega (arith, c .before .before .before .before .before .before .line-end .ensures, end-inside (now (l .before .before .before .before .before .args .text)) (l .loop .at) (l .loop .inv .inside))
 
 loop-less : tie.Need-loop-less Inv-loop μ-loop
-loop-less c = ?
+loop-less c = omega (arith, c .next-line .ensures, c .before .before .before .before .before .before .before .line-end .ensures, c .before .before .before .before .before .before .before .before .loop-test .taken)
 
 loop-again : tie.Need-loop-again Inv-loop μ-loop
-loop-again c = ?
+loop-again c =
+    let l = c .before .before .before .before .before .before .before .before .before in
+    let end = c .before .before .before .before .before .before .before .line-end .ensures in
+    let line = c .before .before .before .before .before .parse-checked in
+    let day = c .before .before .before .before .value-of in
+    let month = c .before .before .before .value-of2 in
+    let year = c .before .before .value-of3 in
+    let code = c .before .code-of in
+    let taken = c .before .before .before .before .before .before .before .before .loop-test .taken in
+    rw (
+      toZ-ofZ w32 (day .result) (search needs),
+      day .ensures,
+      toZ-ofZ w32 (month .result) (search needs),
+      month .ensures,
+      toZ-ofZ w32 (year .result) (search needs),
+      year .ensures,
+      code .ensures,
+      c .next-line .ensures,
+      end,
+    )
+    (line-stored _ _ _ _ _ _ _ _ _ (l .loop .inv) taken (line .result) (rw end at (line .ensures)))
 
 same-length : tie.Need-same-length Inv-loop μ-loop
-same-length c = ?
+same-length c = c .before .loop .inv .days .long
 
 same-length-2 : tie.Need-same-length-2 Inv-loop μ-loop
-same-length-2 c = ?
+same-length-2 c = c .before .loop .inv .months .long
 
 same-length-3 : tie.Need-same-length-3 Inv-loop μ-loop
-same-length-3 c = ?
+same-length-3 c = c .before .loop .inv .years .long
 
 same-length-4 : tie.Need-same-length-4 Inv-loop μ-loop
-same-length-4 c = ?
+same-length-4 c = c .before .loop .inv .codes .long
 
 returns : tie.Need-returns Inv-loop μ-loop
-returns c = ?
+returns c =
+    let l = c .before in
+    let start = l .before .before .before .before .before in
+    rw (toZ-ofZ w32 (start .args .year) (start .fits .year)) at (all-read _ _ _ _ _ _ _ _ _ (l .loop .inv) (c .loop-test .left))
 
 pub read-lines-spec : {M : Type 1} → statement M
 read-lines-spec =
@@ -117,17 +200,14 @@ read-lines-spec =
     part-parse-checked-start
     part-parse-checked-end
     parse-checked-requires
-    array-copy-out-days
-    cast-days
+    value-of-requires
     mul-months
     slice-set-from-months
-    array-copy-out-months
-    cast-months
+    value-of-requires-2
     mul-years
     slice-set-from-years
-    array-copy-out-years
-    cast-years
-    mul-t15
+    value-of-requires-3
+    mul-t14
     slice-set-from-years-2
     code-of-requires
     mul-codes
