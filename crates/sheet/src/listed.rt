@@ -13,7 +13,7 @@ use crate::entries::lay;
 use crate::readings::choices_of;
 use crate::readings::give_reading;
 use crate::readings::is_book;
-use lists::read_line;
+use lists::line::read_line;
 use lists::read_list;
 use meaning::LineRead;
 use meaning::Listed;
