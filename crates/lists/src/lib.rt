@@ -6,7 +6,6 @@ pub mod line_reader;
 pub mod lines;
 pub mod rows;
 
-ghost use mathlib.Core.Path.{_≡_};
 ghost use Rattle.meaning.specs.Lists.{rowsOf};
 ghost use Rattle.meaning.specs.OpenedBooks.{bookIn};
 ghost use Rattle.meaning.specs.Promises.{ReadsList};

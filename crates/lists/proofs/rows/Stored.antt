@@ -41,6 +41,7 @@ abbrev lineAt : List ℕ → ℕ → List ℕ
 lineAt s at = take (lineEnd s at - at) (drop at s)
 
 pub record Unfinished (choices : Choices) (book : Book) (p s : List ℕ) (current : ℤ) (old rows : Rows) (at i : ℕ) : Type 0 where
+  pub room : Room (length (lines s)) old
   pub inside : at ≤ length s
   pub count : i + length (lines (drop at s)) ≡ length (lines s)
   pub days : Stored (cell DayOfMonth) (readFrom choices book p s current 0) (readFrom choices book p s current at) (old .days) (rows .days) i
@@ -49,9 +50,10 @@ pub record Unfinished (choices : Choices) (book : Book) (p s : List ℕ) (curren
   pub codes : Stored codeOf (readFrom choices book p s current 0) (readFrom choices book p s current at) (old .codes) (rows .codes) i
 
 module _ (choices : Choices) (book : Book) (p s : List ℕ) (current : ℤ) (old : Rows) where
-  pub nothing-read : Unfinished choices book p s current old old 0 0
-  nothing-read =
+  pub nothing-read : Room (length (lines s)) old → Unfinished choices book p s current old old 0 0
+  nothing-read r =
       record {
+        room = r;
         inside = omega arith;
         count = omega arith;
         days = none-stored (cell DayOfMonth) _ (old .days);
@@ -61,16 +63,15 @@ module _ (choices : Choices) (book : Book) (p s : List ℕ) (current : ℤ) (old
       }
 
   -- a line is left, and so is its cell in each row
-  pub cell-left : (rows : Rows) (at i : ℕ) → Unfinished choices book p s current old rows at i → at < length s → Room (length (lines s)) old
-      → Room (suc i) rows
-  cell-left rows at i u h r =
+  pub cell-left : (rows : Rows) (at i : ℕ) → Unfinished choices book p s current old rows at i → at < length s → Room (suc i) rows
+  cell-left rows at i u h =
       let some : 0 < length (lines (drop at s)) = rw (line-there s at h) (omega arith) in
       let left : suc i ≤ length (lines s) = omega (arith, u .count) in
       record {
-        days = omega (arith, r .days, u .days .long);
-        months = omega (arith, r .months, u .months .long);
-        years = omega (arith, r .years, u .years .long);
-        codes = omega (arith, r .codes, u .codes .long);
+        days = omega (arith, u .room .days, u .days .long);
+        months = omega (arith, u .room .months, u .months .long);
+        years = omega (arith, u .room .years, u .years .long);
+        codes = omega (arith, u .room .codes, u .codes .long);
       }
 
   pub line-stored : (rows : Rows) (at i : ℕ) → Unfinished choices book p s current old rows at i → at < length s
@@ -83,6 +84,7 @@ module _ (choices : Choices) (book : Book) (p s : List ℕ) (current : ℤ) (old
       let next = readFrom choices book p s current (nextLine s (lineEnd s at)) in
       let this : readFrom choices book p s current at ≡ read choices book p (lineAt s at) current ∷ next = rw there in
       record {
+        room = u .room;
         inside = omega arith;
         count = omega (arith, u .count, ap length there);
         days = one-stored (cell DayOfMonth) _ (old .days) _ next (rows .days) i (cell DayOfMonth r) (ap (cell DayOfMonth) e) (rw this at (u .days));

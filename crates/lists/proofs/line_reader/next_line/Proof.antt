@@ -30,7 +30,7 @@ use denote.Builtin.{u8, usize, i32}
 use denote.Ref.{RefT, now}
 use denote.Signature.{plain, namedLft}
 use denote.Slice.{sliceVal, ShrSlice, slice-vals, shr-slice-tells, shr-slice-lawful, shr-slice-copy}
-use denote.Steps.{owned, peeks, heard, nothing}
+use denote.Steps.{owned, peeks, heard}
 use denote.Struct.Declared.{Declared}
 use denote.Struct.Laws as LL
 use denote.Struct.Rest.{all-own, ownAt, rest, own-open, own-out}

@@ -24,7 +24,10 @@ abbrev μ-loop : tie.MeasureT-loop
 μ-loop choices book pattern text year days₀ months₀ years₀ codes₀ at₀ i₀ days months years codes at i = length text - at
 
 loop-holds : tie.Need-loop-holds Inv-loop μ-loop
-loop-holds c = nothing-read _ _ _ _ _ _
+loop-holds c =
+    let start = c .before .before .before .before in
+    let a = start .args in
+    nothing-read _ _ _ _ _ _ (list-room (a .choices) (bookIn (now (a .book))) (now (a .pattern)) (now (a .text)) (a .year) _ (start .pre))
 
 line-end-requires : tie.Need-line-end-requires Inv-loop μ-loop
 line-end-requires c κs = search needs
@@ -48,69 +51,51 @@ parse-checked-requires c κs =
 
 value-of-requires : tie.Need-value-of-requires Inv-loop μ-loop
 value-of-requires c κs =
-    let l = c .before .before .before .before in
-    let a = l .before .before .before .before .before .args in
-    rw (c .parse-checked .ensures) (value-short (a .choices) _ (few-months (now (a .book))) (now (a .pattern)) _ _ 2 (omega arith))
+    rw (c .parse-checked .ensures) (value-short _ _ (few-months _) _ _ _ _ (omega arith))
 
 mul-months : tie.Need-mul-months Inv-loop μ-loop
 mul-months c =
     let l = c .before .before .before .before .before in
     let start = l .before .before .before .before .before in
-    let a = start .args in
-    let left = cell-left _ _ _ _ _ _ _ _ _ (l .loop .inv) (c .before .before .before .before .loop-test .taken) (list-room (a .choices) (bookIn (now (a .book))) (now (a .pattern)) (now (a .text)) (a .year) _ (start .pre)) in
+    let left = cell-left _ _ _ _ _ _ _ _ _ (l .loop .inv) (c .before .before .before .before .loop-test .taken) in
     omega (arith, left .days, l .loop .inv .days .long)
 
 slice-set-from-months : tie.Need-slice-set-from-months Inv-loop μ-loop
 slice-set-from-months c =
     let l = c .before .before .before .before .before in
-    let start = l .before .before .before .before .before in
-    let a = start .args in
-    let left = cell-left _ _ _ _ _ _ _ _ _ (l .loop .inv) (c .before .before .before .before .loop-test .taken) (list-room (a .choices) (bookIn (now (a .book))) (now (a .pattern)) (now (a .text)) (a .year) _ (start .pre)) in
-    left .days
+    cell-left _ _ _ _ _ _ _ _ _ (l .loop .inv) (c .before .before .before .before .loop-test .taken) .days
 
 value-of-requires-2 : tie.Need-value-of-requires-2 Inv-loop μ-loop
 value-of-requires-2 c κs =
-    let l = c .before .before .before .before .before in
-    let a = l .before .before .before .before .before .args in
-    rw (c .before .parse-checked .ensures) (value-short (a .choices) _ (few-months (now (a .book))) (now (a .pattern)) _ _ 1 (omega arith))
+    rw (c .before .parse-checked .ensures) (value-short _ _ (few-months _) _ _ _ _ (omega arith))
 
 mul-years : tie.Need-mul-years Inv-loop μ-loop
 mul-years c =
     let l = c .before .before .before .before .before .before in
     let start = l .before .before .before .before .before in
-    let a = start .args in
-    let left = cell-left _ _ _ _ _ _ _ _ _ (l .loop .inv) (c .before .before .before .before .before .loop-test .taken) (list-room (a .choices) (bookIn (now (a .book))) (now (a .pattern)) (now (a .text)) (a .year) _ (start .pre)) in
+    let left = cell-left _ _ _ _ _ _ _ _ _ (l .loop .inv) (c .before .before .before .before .before .loop-test .taken) in
     omega (arith, left .months, l .loop .inv .months .long)
 
 slice-set-from-years : tie.Need-slice-set-from-years Inv-loop μ-loop
 slice-set-from-years c =
     let l = c .before .before .before .before .before .before in
-    let start = l .before .before .before .before .before in
-    let a = start .args in
-    let left = cell-left _ _ _ _ _ _ _ _ _ (l .loop .inv) (c .before .before .before .before .before .loop-test .taken) (list-room (a .choices) (bookIn (now (a .book))) (now (a .pattern)) (now (a .text)) (a .year) _ (start .pre)) in
-    left .months
+    cell-left _ _ _ _ _ _ _ _ _ (l .loop .inv) (c .before .before .before .before .before .loop-test .taken) .months
 
 value-of-requires-3 : tie.Need-value-of-requires-3 Inv-loop μ-loop
 value-of-requires-3 c κs =
-    let l = c .before .before .before .before .before .before in
-    let a = l .before .before .before .before .before .args in
-    rw (c .before .before .parse-checked .ensures) (value-short (a .choices) _ (few-months (now (a .book))) (now (a .pattern)) _ _ 0 (omega arith))
+    rw (c .before .before .parse-checked .ensures) (value-short _ _ (few-months _) _ _ _ _ (omega arith))
 
 mul-t14 : tie.Need-mul-t14 Inv-loop μ-loop
 mul-t14 c =
     let l = c .before .before .before .before .before .before .before in
     let start = l .before .before .before .before .before in
-    let a = start .args in
-    let left = cell-left _ _ _ _ _ _ _ _ _ (l .loop .inv) (c .before .before .before .before .before .before .loop-test .taken) (list-room (a .choices) (bookIn (now (a .book))) (now (a .pattern)) (now (a .text)) (a .year) _ (start .pre)) in
+    let left = cell-left _ _ _ _ _ _ _ _ _ (l .loop .inv) (c .before .before .before .before .before .before .loop-test .taken) in
     omega (arith, left .years, l .loop .inv .years .long)
 
 slice-set-from-years-2 : tie.Need-slice-set-from-years-2 Inv-loop μ-loop
 slice-set-from-years-2 c =
     let l = c .before .before .before .before .before .before .before in
-    let start = l .before .before .before .before .before in
-    let a = start .args in
-    let left = cell-left _ _ _ _ _ _ _ _ _ (l .loop .inv) (c .before .before .before .before .before .before .loop-test .taken) (list-room (a .choices) (bookIn (now (a .book))) (now (a .pattern)) (now (a .text)) (a .year) _ (start .pre)) in
-    left .years
+    cell-left _ _ _ _ _ _ _ _ _ (l .loop .inv) (c .before .before .before .before .before .before .loop-test .taken) .years
 
 code-of-requires : tie.Need-code-of-requires Inv-loop μ-loop
 code-of-requires c κs = search needs
@@ -119,24 +104,19 @@ mul-codes : tie.Need-mul-codes Inv-loop μ-loop
 mul-codes c =
     let l = c .before .before .before .before .before .before .before .before in
     let start = l .before .before .before .before .before in
-    let a = start .args in
-    let left = cell-left _ _ _ _ _ _ _ _ _ (l .loop .inv) (c .before .before .before .before .before .before .before .loop-test .taken) (list-room (a .choices) (bookIn (now (a .book))) (now (a .pattern)) (now (a .text)) (a .year) _ (start .pre)) in
+    let left = cell-left _ _ _ _ _ _ _ _ _ (l .loop .inv) (c .before .before .before .before .before .before .before .loop-test .taken) in
     omega (arith, left .codes, l .loop .inv .codes .long)
 
 slice-write-codes : tie.Need-slice-write-codes Inv-loop μ-loop
 slice-write-codes c =
     let l = c .before .before .before .before .before .before .before .before in
-    let start = l .before .before .before .before .before in
-    let a = start .args in
-    let left = cell-left _ _ _ _ _ _ _ _ _ (l .loop .inv) (c .before .before .before .before .before .before .before .loop-test .taken) (list-room (a .choices) (bookIn (now (a .book))) (now (a .pattern)) (now (a .text)) (a .year) _ (start .pre)) in
-    left .codes
+    cell-left _ _ _ _ _ _ _ _ _ (l .loop .inv) (c .before .before .before .before .before .before .before .loop-test .taken) .codes
 
 add-i : tie.Need-add-i Inv-loop μ-loop
 add-i c =
     let l = c .before .before .before .before .before .before .before .before in
     let start = l .before .before .before .before .before in
-    let a = start .args in
-    let left = cell-left _ _ _ _ _ _ _ _ _ (l .loop .inv) (c .before .before .before .before .before .before .before .loop-test .taken) (list-room (a .choices) (bookIn (now (a .book))) (now (a .pattern)) (now (a .text)) (a .year) _ (start .pre)) in
+    let left = cell-left _ _ _ _ _ _ _ _ _ (l .loop .inv) (c .before .before .before .before .before .before .before .loop-test .taken) in
     omega (arith, left .codes, l .loop .inv .codes .long)
 
 next-line-requires : tie.Need-next-line-requires Inv-loop μ-loop
