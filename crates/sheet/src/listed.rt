@@ -100,7 +100,7 @@ pub extern "C" fn sheet_read_line(
 ) -> u32
     ensures { λ r. ⌜ SheetReadsLine choices (now (book .entry)) (now (pattern .entry)) (now (text .entry)) at year (now (answer .entry)) r (now (answer .exit)) ⌝ }
 {
-    if 7 < choices {
+    if choices > 7 {
         return 101;
     }
     if !is_book(book) {
