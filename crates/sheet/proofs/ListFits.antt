@@ -1,27 +1,24 @@
--- The answers to lists fit a row: a text has at most as many lines as bytes, and the places of a line are inside it.
+-- The answers to lists fit a row: a text has at most as many lines as bytes.
 use mathlib.Core.List.{List, [], _∷_}
-use Prim.Native.Nat.{ℕ, suc, _+_, _-_, _≤_, _<_}
+use Prim.Native.Nat.{ℕ, suc, _≤_}
 use native.Mathlib.Omega.{arith}
-use lib.Dec.{eqb, ltb}
+use lib.Dec.{eqb}
 use lib.IntN.{ℤ}
-use lib.ListN.{length, take, drop, length-take, length-drop}
-use borrow.Author.Tests.{ltb-true, ltb-false}
+use lib.ListN.{length}
 use mir.Syntax.{w32}
 use mir.Val.{SFits}
-use Rattle.laws.proofs.Lists.{line-read, no-line-read}
 use Rattle.laws.proofs.Tests.{by-test}
-use Rattle.laws.specs.Lists.{lineEnd}
 use Rattle.meaning.specs.Answers.{_else_, refuseUnless, patternCheck, currentYearCheck, details}
-use Rattle.meaning.specs.Lists.{newline, before, lines, Rows, hold, listCheck, listedBy, readList, readLine}
+use Rattle.meaning.specs.Lists.{newline, before, lines, Rows, hold, listCheck, listedBy, readList}
 use Rattle.meaning.specs.Names.{Book}
 use Rattle.meaning.specs.declared.Checked.{Checked}
 use Rattle.meaning.specs.declared.Checked.the-variants.{Fine, Refused}
 use Rattle.meaning.specs.declared.Choices.{Choices}
 use Rattle.meaning.specs.declared.Edition.{Edition}
 use Rattle.meaning.specs.declared.Refusal.the-variants.{ShortRow}
-use Rattle.sheet.proofs.Fits.{pattern-fits, year-fits, read-fits}
+use Rattle.sheet.proofs.Fits.{pattern-fits, year-fits}
 use Rattle.sheet.proofs.entries.Fits.{else-fits, unless-fits}
-use Rattle.sheet.specs.Fits.{NumberFits, CheckedFits, LineFits, ListedFits}
+use Rattle.sheet.specs.Fits.{NumberFits, CheckedFits, ListedFits}
 
 -- how many lines
 
@@ -49,20 +46,8 @@ list-check-fits edition p s current rows h y =
     (λ _. else-fits (currentYearCheck edition current) (refuseUnless held ShortRow) (year-fits edition current y)
     (λ _. unless-fits held ShortRow (omega arith, tt)))
 
-module _ (choices : Choices) (book : Book) (p s : List ℕ) (current : ℤ) (h : NumberFits (length p)) (k : NumberFits (length s)) (y : SFits w32 current) where
-  pub list-fits : (rows : Rows) → ListedFits (readList choices book p s current rows)
-  unfolding readList
-  list-fits rows =
-      listed-by-fits (listCheck (choices .edition) p s current rows) (length (lines s))
-      (list-check-fits (choices .edition) p s current rows h y) (omega (arith, few-lines s))
-
-  pub line-fits : (at : ℕ) → LineFits (readLine choices book p s at current)
-  line-fits at =
-      by-test (ltb at (length s))
-      (λ e.
-      let inside : at < length s = ltb-true at (length s) e in
-      let line = take (lineEnd s at - at) (drop at s) in
-      let short : at + length line ≤ length s = omega (arith, length-take (lineEnd s at - at) (drop at s), length-drop at s) in
-      rw (line-read choices book p s current at inside)
-      (omega arith, omega arith, omega arith, read-fits choices book p line current h (omega arith) y))
-      (λ e. rw (no-line-read choices book p s current at (ltb-false at (length s) e)) (omega arith, omega arith, omega arith, (omega arith, tt)))
+pub list-fits : (choices : Choices) (book : Book) (p s : List ℕ) (current : ℤ) → NumberFits (length p) → NumberFits (length s) → SFits w32 current → (rows : Rows) → ListedFits (readList choices book p s current rows)
+unfolding readList
+list-fits choices book p s current h k y rows =
+    listed-by-fits (listCheck (choices .edition) p s current rows) (length (lines s))
+    (list-check-fits (choices .edition) p s current rows h y) (omega (arith, few-lines s))

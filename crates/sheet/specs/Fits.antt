@@ -7,7 +7,6 @@ use Rattle.meaning.specs.declared.Checked.{Checked}
 use Rattle.meaning.specs.declared.Checked.the-variants.{Fine, Refused}
 use Rattle.meaning.specs.declared.DayNumber.{DayNumber}
 use Rattle.meaning.specs.declared.DayNumber.the-variants as day
-use Rattle.meaning.specs.declared.LineRead.{LineRead}
 use Rattle.meaning.specs.declared.Listed.{Listed}
 use Rattle.meaning.specs.declared.Listed.the-variants as listed
 use Rattle.meaning.specs.declared.Offset.{Offset}
@@ -39,9 +38,6 @@ WroteFits (wrote.Refused why) = WhyFits why
 
 abbrev pub ReadFits : Reading → Type 0
 ReadFits r = NumberFits (r .taken) × CheckedFits (r .checked)
-
-abbrev pub LineFits : LineRead → Type 0
-LineFits l = NumberFits (l .start) × NumberFits (l .end) × NumberFits (l .next) × ReadFits (l .reading)
 
 abbrev pub ListedFits : Listed → Type 0
 ListedFits (listed.Lines n) = NumberFits n

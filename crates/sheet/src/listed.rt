@@ -1,21 +1,23 @@
 // Lists, for C and Rust: a pasted text read into four rows, and the line at a place of it.
-ghost use Prim.Native.Nat.{_≤_};
+ghost use Prim.Native.Nat.{_≤_, _<_};
 ghost use lib.ListN.{length};
 ghost use Rattle.meaning.specs.Answers.{listAnswer};
-ghost use Rattle.meaning.specs.Lists.{rowsOf};
-ghost use Rattle.sheet.specs.Fits.{LineFits, ListedFits};
+ghost use Rattle.meaning.specs.Lists.{rowsOf, readLine};
+ghost use Rattle.meaning.specs.OpenedBooks.{bookIn};
+ghost use Rattle.sheet.specs.Fits.{ListedFits};
 ghost use Rattle.sheet.specs.Rows.{inRow, inLine, Given};
 ghost use Rattle.sheet.specs.Sheet.{SheetReadsList, SheetReadsLine};
 use crate::answers::give_count;
 use crate::answers::give_refusal;
 use crate::entries::entry;
 use crate::entries::lay;
+use crate::read;
 use crate::readings::choices_of;
-use crate::readings::give_reading;
 use crate::readings::is_book;
-use lists::line::read_line;
+use lists::lines::line_end;
+use lists::lines::next_line;
 use lists::read_list;
-use meaning::LineRead;
+use meaning::Choices;
 use meaning::Listed;
 
 fn give_listed(listed: Listed, row: &mut [i64]) -> u32
@@ -28,19 +30,27 @@ fn give_listed(listed: Listed, row: &mut [i64]) -> u32
     }
 }
 
-fn give_line(line: LineRead, row: &mut [i64]) -> u32
-    requires { ⌜ (51 ≤ length (now row)) × LineFits line ⌝ }
-    ensures { λ r. ⌜ Given (inLine line) (now (row .entry)) (now (row .exit)) r ⌝ }
+// A line that is there: where it starts and ends and the next one starts, and behind these its reading.
+fn give_line(
+    choices: Choices,
+    book: &[u8],
+    pattern: &[u8],
+    text: &[u8],
+    at: usize,
+    year: i32,
+    row: &mut [i64],
+) -> u32
+    requires { ⌜ (at < length (now text)) × (51 ≤ length (now row)) ⌝ }
+    ensures { λ r. ⌜ Given (inLine (readLine choices (bookIn (now (book .entry))) (now (pattern .entry)) (now (text .entry)) at year)) (now (row .entry)) (now (row .exit)) r ⌝ }
 {
-    if !line.there {
-        return 103;
-    }
-    let start = entry(line.start as u64);
-    let end = entry(line.end as u64);
-    let next = entry(line.next as u64);
-    let reading = line.reading;
-    lay(&[start, end, next], row, 0);
-    give_reading(reading, &mut row[3..])
+    let end = line_end(text, at);
+    let next = next_line(text, end);
+    lay(
+        &[entry(at as u64), entry(end as u64), entry(next as u64)],
+        row,
+        0,
+    );
+    read(choices, book, pattern, &text[at..end], year, &mut row[3..])
 }
 
 // A list read with a reader's choices and the names of a lent book: day, month, year and code of each line into the four rows. The row
@@ -109,8 +119,8 @@ pub extern "C" fn sheet_read_line(
     if answer.len() < 51 {
         return 100;
     }
-    give_line(
-        read_line(choices_of(choices), book, pattern, text, at, year),
-        answer,
-    )
+    if text.len() <= at {
+        return 103;
+    }
+    give_line(choices_of(choices), book, pattern, text, at, year, answer)
 }

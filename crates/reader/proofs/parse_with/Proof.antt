@@ -1,10 +1,10 @@
--- What the checks of the pattern and the year say, and else the reading of the text.
+-- All checks, those of the pattern and the year first.
 use borrow.Author.Needs.{needs}
 use denote.Ref.{now}
 use mathlib.Core.Path.{sym, _∙_}
 use mir.Syntax.{w32}
 use mir.ValLaws.{toZ-ofZ}
-use Rattle.laws.proofs.Checks.{read-checks}
+use Rattle.laws.proofs.Checks.{else-fine, text-short, read-checks}
 use Rattle.laws.proofs.Told.{by-whole}
 use Rattle.meaning.specs.Whole.{read}
 use Rattle.reader.proofs.parse_with.Statement.{statement}
@@ -13,39 +13,36 @@ use Rattle.reader.proofs.parse_with.Tie as tie
 once-check-requires : tie.Need-once-check-requires
 once-check-requires c κs = search needs
 
-enum-told : tie.Need-enum-told
-enum-told c = search needs
+text-check-requires : tie.Need-text-check-requires
+text-check-requires c κs = search needs
 
-parse-checked-requires : tie.Need-parse-checked-requires
-parse-checked-requires c κs = sym (c .before .before .once-check .ensures) ∙ c .enum-told .given .1
+or-else-requires : tie.Need-or-else-requires
+or-else-requires c κs = search needs
 
-enum-told-2 : tie.Need-enum-told-2
-enum-told-2 c = search needs
-
-no-reading-requires : tie.Need-no-reading-requires
-no-reading-requires c κs = search needs
+parse-by-requires : tie.Need-parse-by-requires
+parse-by-requires c κs fine =
+    let of-text = c .before in
+    let of-pattern = of-text .before in
+    text-short _
+    (sym (of-text .text-check .ensures)
+    ∙ else-fine (of-pattern .once-check .result) (of-text .text-check .result) (sym (c .or-else .ensures) ∙ fine) .1)
 
 returns : tie.Need-returns
-returns c =
-    let a = c .before .before .before .before .before .before .before .args in
-    by-whole (rw (toZ-ofZ w32 (a .year) (search needs)) at (c .parse-checked .ensures))
-
-returns-2 : tie.Need-returns-2
 unfolding read
-returns-2 c =
-    let a = c .before .before .before .before .before .before .before .args in
-    let checked = rw (toZ-ofZ w32 (a .year) (search needs)) at (c .before .before .before .once-check .ensures) in
-    let why = c .before .enum-told2 .given .1 in
-    by-whole (rw (read-checks (a .choices .edition) (now (a .pattern)) (now (a .text)) (a .year), ← checked, why) (rw why at (c .no-reading .ensures)))
+returns c =
+    let s = c .before .before .before .before .before .before .before in
+    let a = s .args in
+    let same = toZ-ofZ w32 (a .year) (search needs) in
+    let of-pattern = rw same at (c .before .before .before .once-check .ensures) in
+    let reads = rw (same, c .before .or-else .ensures, of-pattern, c .before .before .text-check .ensures) at (c .parse-by .ensures) in
+    by-whole (rw (read-checks (a .choices .edition) (now (a .pattern)) (now (a .text)) (a .year)) reads)
 
 pub parse-with-spec : {M : Type 1} → statement M
 parse-with-spec =
     tie.close
     (tie.spec
     once-check-requires
-    enum-told
-    parse-checked-requires
-    enum-told-2
-    no-reading-requires
-    returns
-    returns-2)
+    text-check-requires
+    or-else-requires
+    parse-by-requires
+    returns)
