@@ -14,6 +14,7 @@ pub trait Ask {
 
 #[derive(Default)]
 pub struct MendingTally {
+    asked: usize,
     mended: usize,
     unchanged: usize,
     refused: usize,
@@ -22,7 +23,10 @@ pub struct MendingTally {
     faults: usize,
 }
 
-/// A pattern that was mended, with what is asked of it next and how each answer has to begin.
+/// How the check says no; any record may follow.
+const NO: &str = "no ";
+
+/// A pattern that was mended, with what is asked of it next, and what each answer has to be.
 struct Held {
     request: String,
     answer: String,
@@ -32,6 +36,7 @@ struct Held {
 impl MendingTally {
     /// Mends these patterns, and asks of each mended one what has to hold.
     pub fn hold(&mut self, program: &mut impl Ask, mends: &[Request]) -> std::io::Result<()> {
+        self.asked += mends.len();
         let first = mends
             .iter()
             .flat_map(|mend| [with_room(mend).to_string(), check_of(mend)]);
@@ -50,9 +55,10 @@ impl MendingTally {
             asked,
         } in &held
         {
-            for (next, start) in asked {
+            for (next, expected) in asked {
                 let said = answers.next().unwrap_or_default();
-                if !said.starts_with(start.as_str()) {
+                let is_right = said == *expected || expected == NO && said.starts_with(NO);
+                if !is_right {
                     self.note(request, answer, &format!("{next} is answered {said}"));
                 }
             }
@@ -66,7 +72,7 @@ impl MendingTally {
         if answer.starts_with("refused ") {
             self.refused += 1;
             // Where the check is refused so is the mending, and else with 30 alone.
-            let right = answer == verdict || answer == "refused 30 0" && verdict.starts_with("no ");
+            let right = answer == verdict || answer == "refused 30 0" && verdict.starts_with(NO);
             if !right {
                 self.note(&request, answer, &format!("the check says {verdict}"));
             }
@@ -130,7 +136,7 @@ fn of_mended(mend: &Request, mended: &Mended) -> Vec<(String, String)> {
     ];
     for change in &mended.changes {
         if let Some(one_undone) = mended.undone(std::slice::from_ref(change)) {
-            asked.push((check_of(&with(&one_undone)), "no ".to_string()));
+            asked.push((check_of(&with(&one_undone)), NO.to_string()));
         }
     }
     asked
@@ -182,6 +188,7 @@ fn check_of(mend: &Request) -> String {
 impl fmt::Display for MendingTally {
     fn fmt(&self, f: &mut fmt::Formatter<'_>) -> fmt::Result {
         let Self {
+            asked,
             mended,
             unchanged,
             refused,
@@ -190,7 +197,6 @@ impl fmt::Display for MendingTally {
             ..
         } = self;
         self.differences.print_first(f)?;
-        let all = mended + unchanged + refused;
-        writeln!(f, "{all} patterns: {mended} mended by {changes} changes, {unchanged} not altered, {refused} refused; {faults} faults")
+        writeln!(f, "{asked} patterns: {mended} mended by {changes} changes, {unchanged} not altered, {refused} refused; {faults} faults")
     }
 }
