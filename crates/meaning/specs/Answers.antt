@@ -22,7 +22,7 @@ use Rattle.meaning.specs.declared.Offset.{Offset}
 use Rattle.meaning.specs.declared.Offset.the-variants as offset
 use Rattle.meaning.specs.declared.Reading.{Reading}
 use Rattle.meaning.specs.declared.Refusal.{Refusal}
-use Rattle.meaning.specs.declared.Refusal.the-variants.{PatternTooLong, PatternByte, LoneQuote, FieldRange, NoRoom, TextTooLong, TextByte, InPart, OffsetLength, OffsetRange, CurrentYear, TextLeft, NoSuchDay, NoDayNumber, BookMark, BookVersion, BookCut, BookName}
+use Rattle.meaning.specs.declared.Refusal.the-variants.{PatternTooLong, PatternByte, LoneQuote, FieldRange, NoRoom, TextTooLong, TextByte, InPart, OffsetLength, OffsetRange, CurrentYear, TextLeft, NoSuchDay, NoDayNumber, BookMark, BookVersion, BookCut, BookName, MendedTooLong}
 use Rattle.meaning.specs.declared.Split.{Split}
 use Rattle.meaning.specs.declared.Trouble.{Trouble}
 use Rattle.meaning.specs.declared.Trouble.the-variants.{TooFew, NoNumber, NoName, NoSign, LiteralDiffers, PlusSign}
@@ -58,6 +58,7 @@ number BookMark = 20
 number BookVersion = 21
 number BookCut = 22
 number (BookName which) = 23
+number MendedTooLong = 30
 
 -- what is returned with the number, in the table's order
 unfoldable pub details : Refusal → List ℤ
@@ -79,6 +80,7 @@ details BookMark = pos 0 ∷ []
 details BookVersion = pos 0 ∷ []
 details BookCut = pos 0 ∷ []
 details (BookName which) = pos which ∷ []
+details MendedTooLong = pos 0 ∷ []
 
 -- an answer's number, 0 where it is accepted, and what is returned with it
 pub record Answer : Type 0 where
