@@ -5,8 +5,9 @@ use mathlib.Core.List.{List, [], _∷_, _++_}
 use Prim.Native.Char.{Char, code}
 use Prim.Native.Nat.{ℕ, _+_, _-_, _*_}
 use lib.Dec.{eqb, leb}
+use lib.IntN.{ℤ, pos}
 use lib.ListN.{length, take, drop, replicate}
-use Rattle.meaning.specs.Answers.{within, roomCheck}
+use Rattle.meaning.specs.Answers.{Answer, answerBy, within, roomCheck}
 use Rattle.meaning.specs.Bytes.{when, both, quote}
 use Rattle.meaning.specs.Readers.{begins}
 use Rattle.meaning.specs.Splitting.{Content, run, quotes, quoted, unclosed, lengthOf}
@@ -18,6 +19,7 @@ use Rattle.meaning.specs.declared.Checked.{Checked}
 use Rattle.meaning.specs.declared.Checked.the-variants.{Fine, Refused}
 use Rattle.meaning.specs.declared.Edition.{Edition}
 use Rattle.meaning.specs.declared.Edition.the-variants.{First, Second}
+use Rattle.meaning.specs.declared.Mended.{Mended}
 use Rattle.meaning.specs.declared.Undone.{Undone}
 use Rattle.meaning.specs.declared.Undone.the-variants as undone
 
@@ -83,6 +85,16 @@ changesOf cs = record { listed = cs ++ replicate (128 - length cs) noChange; use
 
 abbrev pub changesIn : Changes → List Change
 changesIn c = take (c .used) (c .listed)
+
+-- four numbers for each change
+unfoldable pub changeNumbers : List Change → List ℤ
+changeNumbers [] = []
+changeNumbers (c ∷ cs) = pos (c .place) ∷ pos (c .byte) ∷ pos (c .before) ∷ pos (c .after) ∷ changeNumbers cs
+
+-- the length of the mended pattern, how many changes, and each
+abbrev pub mendedAnswer : Mended → Answer
+mendedAnswer r =
+    answerBy (r .checked) (pos (r .length) ∷ pos (r .changes .used) ∷ changeNumbers (changesIn (r .changes)))
 
 -- Undoing. A change fits a pattern, of which the bytes before a place are done with, where it stands behind them; it only adds.
 unfoldable pub fits : List ℕ → ℕ → Change → Bool

@@ -8,7 +8,8 @@ use lib.IntN.{ℤ}
 use lib.ListN.{length, replicate}
 use Rattle.meaning.specs.Answers.{_else_, refuseUnless, roomCheck}
 use Rattle.meaning.specs.Bytes.{when}
-use Rattle.meaning.specs.Mending.{space, partBytes, mendPart, change, listed, ownChange, changesOf}
+use Rattle.meaning.specs.Mending.{space, partBytes, mendPart, change, listed, ownChange, changesOf, mendedAnswer}
+use Rattle.meaning.specs.Promises.{SameAnswer}
 use Rattle.meaning.specs.Splitting.{Content, joinByte, contents, lengthOf}
 use Rattle.meaning.specs.Trust.{trustCheck}
 use Rattle.meaning.specs.Whole.{outputBy}
@@ -100,3 +101,7 @@ mend edition p current out = mendedBy (mendCheck edition p current (length out))
 unfoldable pub mendOutput : Edition → List ℕ → ℤ → List ℕ → List ℕ
 unfolding mendCheck
 mendOutput edition p current out = outputBy (mendCheck edition p current (length out)) (mended edition p) out
+
+-- what a mending promises of its answer r, and of the output afterwards
+abbrev pub Mends : Edition → List ℕ → ℤ → List ℕ → Mended → List ℕ → Type 0
+Mends edition p current out r after = SameAnswer mendedAnswer r (mend edition p current out) × (after ≡ mendOutput edition p current out)
