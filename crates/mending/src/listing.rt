@@ -44,11 +44,12 @@ fn with_change(list: Changes, change: Change) -> Changes
     if change.before == change.after {
         return list;
     }
+    let used = list.used;
     let mut listed = list.listed;
-    listed[list.used] = change;
+    listed[used] = change;
     Changes {
         listed: listed,
-        used: list.used + 1,
+        used: used + 1,
     }
 }
 

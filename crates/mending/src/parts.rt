@@ -79,13 +79,13 @@ fn closing(place: usize, after: usize) -> Change
 // A part's own change, where it stands at a place of the mended pattern.
 pub fn own_change(edition: Edition, pattern: &[u8], part: Part, at: usize) -> Change
     requires { ⌜ Next (now pattern) (part .start) part ⌝ }
-    requires { ⌜ at ≤ 2048 ⌝ }
-    requires { ⌜ length (now pattern) ≤ 256 ⌝ }
+    requires { ⌜ at + length (now pattern) ≤ 512 ⌝ }
     ensures { λ r. ⌜ r ≡ mending.ownChange edition at (contentOf (now (pattern .entry)) part) ⌝ }
 {
+    let kind = part.kind;
     let start = part.start;
     let n = part.length;
-    match part.kind {
+    match kind {
         Kind::Run => {
             let b = pattern[start];
             Change {
@@ -111,9 +111,11 @@ fn mended_need(edition: Edition, pattern: &[u8], part: Part) -> Need
     requires { ⌜ Next (now pattern) (part .start) part ⌝ }
     ensures { λ r. ⌜ r ≡ stepNeed edition (stepOf Pair.Full (mending.mendPart edition (contentOf (now (pattern .entry)) part))) ⌝ }
 {
-    match part.kind {
+    let kind = part.kind;
+    let start = part.start;
+    match kind {
         Kind::Run => {
-            let b = pattern[part.start];
+            let b = pattern[start];
             let n = mended_count(edition, b, part.length);
             step_need(edition, run_step(Pair::Full, b, n), pattern)
         }

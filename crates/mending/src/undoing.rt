@@ -102,9 +102,10 @@ pub fn put_undone(pattern: &[u8], changes: Changes, out: &mut [u8]) -> usize
     let mut i = 0;
     while i < used {
         let change = changes.listed[i];
-        to = put_bytes(&pattern[at..change.place], out, to);
+        let place = change.place;
+        to = put_bytes(&pattern[at..place], out, to);
         to = put_times(change.byte, change.before, out, to);
-        at = change.place + change.after;
+        at = place + change.after;
         i += 1;
     }
     put_bytes(&pattern[at..], out, to)
