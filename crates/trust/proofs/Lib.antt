@@ -8,6 +8,7 @@ pub mod Fitting
 pub mod Halves
 pub mod MendedHolds
 pub mod MendedNeeds
+pub mod MendedParts
 pub mod MendingSamples
 pub mod NameRules
 pub mod ReadBack
