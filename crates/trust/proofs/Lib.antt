@@ -6,6 +6,7 @@ pub mod CurrentYear
 pub mod Fails
 pub mod Fitting
 pub mod Halves
+pub mod MendedAccepted
 pub mod MendedHolds
 pub mod MendedNeeds
 pub mod MendedParts
