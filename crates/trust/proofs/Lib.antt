@@ -10,6 +10,7 @@ pub mod MendedAccepted
 pub mod MendedHolds
 pub mod MendedNeeds
 pub mod MendedParts
+pub mod Mending
 pub mod MendingSamples
 pub mod NameRules
 pub mod ReadBack
