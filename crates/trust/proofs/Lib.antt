@@ -10,6 +10,7 @@ pub mod MendedAccepted
 pub mod MendedHolds
 pub mod MendedNeeds
 pub mod MendedParts
+pub mod MendedSizes
 pub mod Mending
 pub mod MendingSamples
 pub mod NameRules
@@ -21,6 +22,7 @@ pub mod Sound
 pub mod Steps
 pub mod Table
 pub mod Turns
+pub mod Undoing
 pub mod Verdicts
 pub mod Walks
 pub mod Witness
