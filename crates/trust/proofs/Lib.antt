@@ -14,6 +14,7 @@ pub mod MendedSizes
 pub mod Mending
 pub mod MendingSamples
 pub mod NameRules
+pub mod Needless
 pub mod ReadBack
 pub mod RealDays
 pub mod RulesAhead

@@ -115,7 +115,7 @@ well-spaced c k cs held h none w =
     by-test (mayBeSpaced c) (λ m. (held, spaced-apart c k cs m h, spaces-well k cs w))
     (λ m. rw (none m) (unfold joinSpaces in (held, h, w)))
 
-mended-starts : (edition : Edition) (cs : List Content) → startOf (mendedParts edition cs) ≡ startOf cs
+pub mended-starts : (edition : Edition) (cs : List Content) → startOf (mendedParts edition cs) ≡ startOf cs
 unfolding mendedParts
 mended-starts edition [] = refl
 mended-starts edition (c ∷ cs) = change-starts edition c cs (joinSpaces (gap edition c cs) (mendedParts edition cs))

@@ -37,7 +37,7 @@ use Rattle.trust.specs.Needs.{stepNeed}
 
 -- the checks of the mended pattern
 
-mended-good : (edition : Edition) (cs : List Content) → every isGood cs ≡ true → every isGood (mendedParts edition cs) ≡ true
+pub mended-good : (edition : Edition) (cs : List Content) → every isGood cs ≡ true → every isGood (mendedParts edition cs) ≡ true
 unfolding mendedParts every
 mended-good edition [] h = refl
 mended-good edition (c ∷ cs) h =
@@ -53,10 +53,10 @@ mended-accepted edition p a short =
     rw (mended-joined edition cs)
     (good-accepted (mendedParts edition cs) (mended-well edition cs w) (mended-good edition cs (accepted-good p a w)) (rw (mended-joined edition cs) at short))
 
--- a pattern that is accepted as the checked one is, and whose parts hold
-pub holds-trusted : (edition : Edition) (p q : List ℕ) (current : ℤ) → trustCheck edition p current ≡ Fine → Accepted q → trustCheck edition q current ≡ Fine
+-- a pattern that is accepted passes the checks in the same year
+pub accepted-checks : (edition : Edition) (p q : List ℕ) (current : ℤ) → trustCheck edition p current ≡ Fine → Accepted q → trustCheck edition q current ≡ Fine
 unfolding trustCheck
-holds-trusted edition p q current h a = rw (fine-pattern q a) (else-fine (patternCheck p) (currentYearCheck edition current) h .1)
+accepted-checks edition p q current h a = rw (fine-pattern q a) (else-fine (patternCheck p) (currentYearCheck edition current) h .1)
 
 -- The check says yes to the mended pattern.
 pub mended-trusted : (edition : Edition) (p : List ℕ) (current : ℤ) → trustCheck edition p current ≡ Fine → length (mended edition p) ≤ 256
@@ -64,7 +64,7 @@ pub mended-trusted : (edition : Edition) (p : List ℕ) (current : ℤ) → trus
 unfolding verdictOf steps
 mended-trusted edition p current h short =
     let a = pattern-fine p (unfold trustCheck in else-fine (patternCheck p) (currentYearCheck edition current) h .0) in
-    rw (holds-trusted edition p (mended edition p) current h (mended-accepted edition p a short), mended-parts edition p)
+    rw (accepted-checks edition p (mended edition p) current h (mended-accepted edition p a short), mended-parts edition p)
     (holds-yes edition 0 (fullSteps (mendedParts edition (contents p))) (mended-holds edition (contents p) (parts-stand-well p)))
 
 pub mended-says : (edition : Edition) (p : List ℕ) (current : ℤ) → trustCheck edition p current ≡ Fine → length (mended edition p) ≤ 256

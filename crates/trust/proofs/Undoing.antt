@@ -104,7 +104,7 @@ undo-closed p at s r e u =
     let closed = undo-one p place quote 0 1 r (omega arith) inside here (rw next at u) in
     undo-plain p at (partBytes (unclosed s)) (quote ∷ r) open′ (rw (part-length (unclosed s)) closed)
 
-undo-own : (edition : Edition) (p : List ℕ) (at : ℕ) (c : Content) (r : List ℕ) {cs : List Change} {text : List ℕ} → at ≤ length p
+pub undo-own : (edition : Edition) (p : List ℕ) (at : ℕ) (c : Content) (r : List ℕ) {cs : List Change} {text : List ℕ} → at ≤ length p
     → drop at p ≡ partBytes (mendPart edition c) ++ r → Undoing p (at + lengthOf (mendPart edition c)) cs text
     → Undoing p at (listed (ownChange edition at c) ++ cs) (partBytes c ++ text)
 unfolding ownChange mendPart
@@ -116,25 +116,48 @@ undo-own edition p at (unclosed s) r inside e u =
     by-test (endsInQuote s) (λ q. rw q (undo-closed p at s r (rw q at e) (rw q at u)))
     (λ q. rw q (undo-plain p at (partBytes (unclosed s)) r (rw q at e) (rw (part-length (unclosed s)) (rw q at u))))
 
-undo-mended : (edition : Edition) (p : List ℕ) (at : ℕ) (cs : List Content) → at ≤ length p → drop at p ≡ mendedBytes edition cs
-    → Undoing p at (changesFrom edition at cs) (joined cs)
-unfolding changesFrom mendedBytes joined
-undo-mended edition p at [] inside e = rw e at (undo-none p at)
-undo-mended edition p at (c ∷ cs) inside e =
+-- where the mended bytes of a part and of those behind it stand
+pub record Standing (edition : Edition) (p : List ℕ) (at : ℕ) (c : Content) (cs : List Content) : Type 0 where
+  pub whole : drop at p ≡ partBytes (mendPart edition c) ++ (replicate (gap edition c cs) space ++ mendedBytes edition cs)
+  pub spaces : drop (at + lengthOf (mendPart edition c)) p ≡ replicate (gap edition c cs) space ++ mendedBytes edition cs
+  pub rest : drop (at + lengthOf (mendPart edition c) + gap edition c cs) p ≡ mendedBytes edition cs
+  pub near : at + lengthOf (mendPart edition c) ≤ length p
+  pub far : at + lengthOf (mendPart edition c) + gap edition c cs ≤ length p
+
+pub standing : (edition : Edition) (p : List ℕ) (at : ℕ) (c : Content) (cs : List Content) → at ≤ length p → drop at p ≡ mendedBytes edition (c ∷ cs)
+    → Standing edition p at c cs
+unfolding mendedBytes
+standing edition p at c cs inside e =
     let m = mendPart edition c in
     let k = gap edition c cs in
-    let behind = at + lengthOf m in
-    let whole : drop at p ≡ partBytes m ++ (replicate k space ++ mendedBytes edition cs) = e ∙ append-assoc (partBytes m) (replicate k space) (mendedBytes edition cs) in
-    let spaces = behind-part p at m (replicate k space ++ mendedBytes edition cs) whole in
-    let rest : drop (behind + k) p ≡ mendedBytes edition cs = sym (drop-drop k behind p) ∙ rw spaces (drop-at (replicate k space) (mendedBytes edition cs) k (length-replicate k space)) in
-    let long : length (drop at p) ≡ lengthOf m + (k + length (mendedBytes edition cs)) =
-    ap length whole ∙ omega (arith, length-append (partBytes m) (replicate k space ++ mendedBytes edition cs), part-length m, length-append (replicate k space) (mendedBytes edition cs), length-replicate k space) in
-    let far : behind + k ≤ length p = omega (arith, long, length-drop at p, inside) in
-    let near : behind ≤ length p = omega (arith, far) in
-    let later = undo-mended edition p (behind + k) cs far rest in
-    let spaced = undo-listed p behind space 0 k (mendedBytes edition cs) (omega arith) near spaces later in
+    let text = mendedBytes edition cs in
+    let whole : drop at p ≡ partBytes m ++ (replicate k space ++ text) = e ∙ append-assoc (partBytes m) (replicate k space) text in
+    let spaces = behind-part p at m (replicate k space ++ text) whole in
+    let long : length (drop at p) ≡ lengthOf m + (k + length text) =
+    ap length whole ∙ omega (arith, length-append (partBytes m) (replicate k space ++ text), part-length m, length-append (replicate k space) text, length-replicate k space) in
+    record {
+      whole = whole;
+      spaces = spaces;
+      rest = sym (drop-drop k (at + lengthOf m) p) ∙ rw spaces (drop-at (replicate k space) text k (length-replicate k space));
+      near = omega (arith, long, length-drop at p, inside);
+      far = omega (arith, long, length-drop at p, inside);
+    }
+
+undo-mended : (edition : Edition) (p : List ℕ) (at : ℕ) (cs : List Content) → at ≤ length p → drop at p ≡ mendedBytes edition cs
+    → Undoing p at (changesFrom edition at cs) (joined cs)
+unfolding changesFrom joined
+undo-mended edition p at [] inside e =
+    let none : drop at p ≡ [] = unfold mendedBytes in e in
+    rw none at (undo-none p at)
+undo-mended edition p at (c ∷ cs) inside e =
+    let k = gap edition c cs in
+    let behind = at + lengthOf (mendPart edition c) in
+    let text = mendedBytes edition cs in
+    let s = standing edition p at c cs inside e in
+    let later = undo-mended edition p (behind + k) cs (s .far) (s .rest) in
+    let spaced = undo-listed p behind space 0 k text (omega arith) (s .near) (s .spaces) later in
     rw (append-assoc (listed (ownChange edition at c)) (listed (change behind space 0 k)) (changesFrom edition (behind + k) cs))
-    (undo-own edition p at c (replicate k space ++ mendedBytes edition cs) inside whole spaced)
+    (undo-own edition p at c (replicate k space ++ text) inside (s .whole) spaced)
 
 -- The changes fit the mended pattern, and undone they give the pattern.
 pub changes-undone : (edition : Edition) (p : List ℕ)
