@@ -1,6 +1,6 @@
 -- A pattern and the bytes of its parts: a part is as long as its bytes, and the bytes of all parts are the pattern. That parts are
 -- those of their bytes is in PartsApart.
-use mathlib.Core.Bool.{Bool, true, false}
+use mathlib.Core.Bool.{true, false}
 use mathlib.Core.List.{List, [], _∷_, _++_}
 use mathlib.Core.Path.{_≡_, refl, sym}
 use Prim.Native.Nat.{ℕ, suc, _*_}

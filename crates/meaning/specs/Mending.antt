@@ -1,8 +1,8 @@
 -- Request [12], mend this pattern: the bytes of a part, what a part becomes by itself, each change as a line of a list, and how
 -- listed changes are undone. Behind which parts spaces are put is a matter of the check, in `trust`'s Mending.
-use mathlib.Core.Bool.{Bool, true, false}
+use mathlib.Core.Bool.{Bool, true}
 use mathlib.Core.List.{List, [], _∷_, _++_}
-use Prim.Native.Char.{Char, code}
+use Prim.Native.Char.{code}
 use Prim.Native.Nat.{ℕ, _+_, _-_, _*_}
 use lib.Dec.{eqb, leb}
 use lib.IntN.{ℤ, pos}

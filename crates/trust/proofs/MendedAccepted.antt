@@ -1,12 +1,11 @@
 -- The checks of a pattern by its parts: each has bytes that are allowed, and none is a lone quote. Own changes and spaces keep that.
 use mathlib.Core.Bool.{Bool, true, false, not}
 use mathlib.Core.List.{List, [], _∷_, _++_}
-use mathlib.Core.Path.{_≡_, refl, sym, ap, _∙_}
-use Prim.Native.Char.{Char, code}
+use mathlib.Core.Path.{_≡_, refl, sym, _∙_}
+use Prim.Native.Char.{code}
 use Prim.Native.Nat.{ℕ, zero, suc, _≤_}
 use lib.Dec.{eqb}
 use lib.ListN.{length, replicate}
-use borrow.Author.Tests.{eqb-true}
 use Rattle.meaning.specs.Answers.{within, endsInLoneQuote}
 use Rattle.meaning.specs.Bytes.{both, quote}
 use Rattle.meaning.specs.Mending.{space, escapedBytes, partBytes, mendPart}

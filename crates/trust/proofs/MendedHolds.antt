@@ -5,10 +5,10 @@ use mathlib.Core.List.{List, [], _∷_, map}
 use mathlib.Core.Path.{_≡_, refl, sym, ap, _∙_}
 use Prim.Native.Nat.{ℕ, zero, suc}
 use native.Mathlib.Omega.{arith}
-use lib.Dec.{eqb, ltb}
+use lib.Dec.{eqb}
 use lib.ListN.{length, replicate}
 use borrow.Author.Tests.{eqb-true, le-ltb}
-use Rattle.meaning.specs.Bytes.{when, both, digitAt}
+use Rattle.meaning.specs.Bytes.{when, both}
 use Rattle.meaning.specs.Mending.{space, mendPart}
 use Rattle.meaning.specs.Splitting.{Content, run, quotes, quoted, unclosed, joinByte}
 use Rattle.meaning.specs.Writing.{Step, literal, field, stepOf}
@@ -18,9 +18,9 @@ use Rattle.meaning.specs.declared.Rule.{Rule}
 use Rattle.meaning.specs.declared.Rule.the-variants.{FixedYear}
 use Rattle.meaning.specs.declared.Verdict.the-variants.{Yes, No}
 use Rattle.meaning.specs.declared.Fields.{Fields}
-use Rattle.laws.proofs.PartsApart.{Held, Well}
+use Rattle.laws.proofs.PartsApart.{Well}
 use Rattle.laws.proofs.Table.{stepPasses, step-passes, tablePasses, symbolPasses}
-use Rattle.laws.proofs.Tests.{by-test, true-is-not-false, both-true, both-are, both-no, every}
+use Rattle.laws.proofs.Tests.{by-test, true-is-not-false, both-true, both-are, every}
 use Rattle.trust.proofs.Before.{BeginAlike, meets-alike, not-yes}
 use Rattle.trust.proofs.MendedNeeds.{mendable, mended-mendable, same-first, same-second}
 use Rattle.trust.proofs.Table.{inBoth, in-either}

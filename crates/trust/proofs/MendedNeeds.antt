@@ -4,19 +4,18 @@ use mathlib.Core.Bool.{Bool, true, false}
 use mathlib.Core.List.{List, [], _∷_}
 use mathlib.Core.Logic.{_⊎_, inl, inr, ⊎-elim}
 use mathlib.Core.Path.{_≡_, refl, sym, ap, _∙_}
-use Prim.Native.Char.{Char, code}
+use Prim.Native.Char.{code}
 use Prim.Native.Nat.{ℕ, _≤_}
 use native.Mathlib.Omega.{arith}
 use lib.Dec.{eqb, leb}
 use lib.ListN.{drop}
 use borrow.Author.Tests.{eqb-true, eqb-false, eq-eqb, leb-true, leb-false}
 use Rattle.meaning.specs.Answers.{within}
-use Rattle.meaning.specs.Bytes.{when, both, quote}
-use Rattle.meaning.specs.Mending.{space, mendedCount, mendPart, ownChange}
-use Rattle.meaning.specs.Reading.{mostRead}
-use Rattle.meaning.specs.Rules.{Row, _is_, among, Otherwise, always, fixedYear, pick, Symbol, ruleOf, roleAmong, era, quarter, month, week, day, dayOfYear, weekday, dateSymbols, timeSymbols, dateRole, timeRole, orElse, roleOf}
+use Rattle.meaning.specs.Bytes.{when, both}
+use Rattle.meaning.specs.Mending.{mendedCount, mendPart, ownChange}
+use Rattle.meaning.specs.Rules.{Row, _is_, among, Otherwise, always, fixedYear, pick, Symbol, ruleOf, roleAmong, era, quarter, month, week, day, dayOfYear, weekday, timeSymbols, dateRole, timeRole, orElse, roleOf}
 use Rattle.meaning.specs.Splitting.{Content, run, quotes, quoted, unclosed}
-use Rattle.meaning.specs.Writing.{Step, literal, field, runStep, endsInQuote, stepOf}
+use Rattle.meaning.specs.Writing.{Step, runStep, endsInQuote, stepOf}
 use Rattle.meaning.specs.declared.Edition.{Edition}
 use Rattle.meaning.specs.declared.Edition.the-variants.{First, Second}
 use Rattle.meaning.specs.declared.Pair.the-variants.{Full}

@@ -3,18 +3,18 @@
 use mathlib.Core.Bool.{Bool, true, false}
 use mathlib.Core.List.{List, [], _∷_, _++_, append-assoc}
 use mathlib.Core.Path.{_≡_, refl, sym, ap, _∙_}
-use Prim.Native.Nat.{ℕ, zero, suc, _≤_}
+use Prim.Native.Nat.{ℕ, zero, suc}
 use native.Mathlib.Omega.{arith}
 use lib.Dec.{eqb}
 use lib.ListN.{replicate, getD}
 use borrow.Author.Tests.{eqb-true}
 use Rattle.meaning.specs.Bytes.{when, quote}
-use Rattle.meaning.specs.Mending.{space, partBytes, mendedCount, mendPart}
+use Rattle.meaning.specs.Mending.{space, mendedCount, mendPart}
 use Rattle.meaning.specs.Splitting.{Content, run, quotes, quoted, unclosed, joinByte, contents}
 use Rattle.meaning.specs.Writing.{endsInQuote, stepOf}
 use Rattle.meaning.specs.declared.Edition.{Edition}
 use Rattle.laws.proofs.PartBytes.{joined, byte-joined}
-use Rattle.laws.proofs.PartsApart.{Behind, nothing, byteOf, escapes, opener, startOf, otherThan, noQuotes, noQuoteByte, isEnd, apart, opening, Held, Well, parts-of-joined, well-byte, parts-stand-well}
+use Rattle.laws.proofs.PartsApart.{Behind, nothing, byteOf, escapes, opener, startOf, noQuoteByte, isEnd, apart, opening, Held, Well, parts-of-joined, well-byte, parts-stand-well}
 use Rattle.laws.proofs.Tests.{by-test, true-is-not-false}
 use Rattle.trust.proofs.MendedNeeds.{by-change}
 use Rattle.trust.specs.Check.{meets}

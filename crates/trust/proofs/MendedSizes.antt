@@ -1,14 +1,13 @@
 -- How long a mended pattern can be, and how many changes it can have: one for each two of its bytes at most.
-use mathlib.Core.Bool.{Bool, true, false}
+use mathlib.Core.Bool.{true, false}
 use mathlib.Core.List.{List, [], _∷_, _++_, map}
 use mathlib.Core.Logic.{_⊎_, inl, inr, ⊎-elim}
-use mathlib.Core.Path.{_≡_, refl, sym, ap, _∙_}
-use Prim.Native.Nat.{ℕ, zero, suc, _+_, _*_, _≤_}
+use mathlib.Core.Path.{_≡_, refl, sym, _∙_}
+use Prim.Native.Nat.{ℕ, _+_, _*_, _≤_}
 use native.Mathlib.Omega.{arith}
 use lib.Dec.{eqb}
 use lib.ListN.{length, replicate, length-append, length-replicate}
 use borrow.Author.Tests.{eqb-false}
-use Rattle.meaning.specs.Bytes.{when}
 use Rattle.meaning.specs.Mending.{space, partBytes, mendPart, change, listed, ownChange}
 use Rattle.meaning.specs.Splitting.{Content, run, quotes, quoted, unclosed, contents, lengthOf}
 use Rattle.meaning.specs.Writing.{Step, stepOf}

@@ -1,17 +1,15 @@
 -- Request [12]: the check says yes to the mended pattern, and a pattern to which it says yes stays as it is. That the changes can be
 -- undone is in Undoing, that none is needless in Needless, and which parts the mended pattern has in MendedParts.
-use mathlib.Core.Bool.{Bool, true, false}
-use mathlib.Core.List.{List, [], _∷_, _++_, map}
-use mathlib.Core.Path.{_≡_, refl, sym, ap, _∙_}
+use mathlib.Core.Bool.{true}
+use mathlib.Core.List.{List, [], _∷_}
+use mathlib.Core.Path.{_≡_, refl, sym, _∙_}
 use Prim.Native.Nat.{ℕ, _+_, _≤_}
 use native.Mathlib.Omega.{arith}
 use lib.Dec.{eqb}
 use lib.IntN.{ℤ}
 use lib.ListN.{length}
 use Rattle.meaning.specs.Answers.{patternCheck, currentYearCheck}
-use Rattle.meaning.specs.Books.{Valid}
 use Rattle.meaning.specs.Mending.{mendPart, ownChange}
-use Rattle.meaning.specs.Names.{Book}
 use Rattle.meaning.specs.Splitting.{Content, run, quotes, quoted, unclosed, contents, lengthOf}
 use Rattle.meaning.specs.Trust.{trustCheck, Says}
 use Rattle.meaning.specs.Writing.{stepOf, steps}
@@ -22,8 +20,8 @@ use Rattle.meaning.specs.declared.Pair.the-variants.{Full}
 use Rattle.meaning.specs.declared.Verdict.{Verdict}
 use Rattle.meaning.specs.declared.Verdict.the-variants.{Yes}
 use Rattle.laws.proofs.Checks.{Accepted, else-fine, pattern-fine, fine-pattern}
-use Rattle.laws.proofs.PartBytes.{joined, parts-joined}
-use Rattle.laws.proofs.PartsApart.{Well, parts-stand-well}
+use Rattle.laws.proofs.PartBytes.{parts-joined}
+use Rattle.laws.proofs.PartsApart.{parts-stand-well}
 use Rattle.laws.proofs.Tests.{by-test, true-is-not-false, both-true, both-are, every}
 use Rattle.trust.proofs.Before.{meets-alike}
 use Rattle.trust.proofs.MendedAccepted.{isGood, accepted-good, good-accepted, change-good, spaces-good}

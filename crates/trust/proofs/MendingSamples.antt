@@ -1,7 +1,7 @@
 -- Samples of mending: the mended pattern and its changes, each with its place, byte, and how often it stood and stands there.
 use mathlib.Core.List.{List, [], _∷_}
 use mathlib.Core.Path.{_≡_, refl}
-use Prim.Native.Char.{Char, code}
+use Prim.Native.Char.{code}
 use Prim.Native.String.{String}
 use Rattle.meaning.proofs.Tables.{Sample, _↦′_, Answered}
 use Rattle.meaning.specs.Bytes.{bytes, quote}

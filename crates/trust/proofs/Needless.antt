@@ -1,15 +1,14 @@
 -- Request [12]: no change is needless. With any one of the listed changes undone alone, the check says no.
-use mathlib.Core.Bool.{Bool, true, false}
-use mathlib.Core.List.{List, [], _∷_, _++_, map, append-assoc, append-nil}
+use mathlib.Core.Bool.{true, false}
+use mathlib.Core.List.{List, [], _∷_, _++_, map}
 use mathlib.Core.Path.{_≡_, refl, sym, ap, _∙_}
 use Prim.Native.Nat.{ℕ, zero, suc, _+_, _≤_, _<_}
 use native.Mathlib.Omega.{arith}
 use lib.Dec.{eqb}
 use lib.IntN.{ℤ}
-use lib.ListN.{length, getD, replicate, drop, length-append, length-drop, length-replicate}
+use lib.ListN.{length, getD, replicate, drop, length-append, length-replicate}
 use borrow.Author.Tests.{eqb-false}
 use Rattle.meaning.specs.Answers.{patternCheck, currentYearCheck}
-use Rattle.meaning.specs.Bytes.{both}
 use Rattle.meaning.specs.Mending.{space, partBytes, mendPart, change, listed, ownChange, noChange, allFit, undoneFrom}
 use Rattle.meaning.specs.Splitting.{Content, run, quotes, quoted, unclosed, contents, lengthOf}
 use Rattle.meaning.specs.Trust.{trustCheck}
@@ -23,7 +22,7 @@ use Rattle.meaning.specs.declared.Verdict.the-variants.{No}
 use Rattle.laws.proofs.Checks.{else-fine, pattern-fine}
 use Rattle.laws.proofs.PartBytes.{joined, part-length}
 use Rattle.laws.proofs.PartsApart.{startOf, Well, parts-of-joined, parts-stand-well}
-use Rattle.laws.proofs.Tests.{by-test, true-is-not-false, both-true, both-are, both-no, every, when-is}
+use Rattle.laws.proofs.Tests.{by-test, both-true, both-are, both-no, every}
 use Rattle.trust.proofs.Before.{meets-alike}
 use Rattle.trust.proofs.MendedAccepted.{isGood, accepted-good, good-accepted, change-good, spaces-good}
 use Rattle.trust.proofs.MendedHolds.{holds, fails-no, alike-mended, spaces-hold}

@@ -1,15 +1,14 @@
 -- Request [12]: the changes of a mended pattern fit it, and undone they give the pattern back.
-use mathlib.Core.Bool.{Bool, true, false}
+use mathlib.Core.Bool.{true}
 use mathlib.Core.List.{List, [], _∷_, _++_, append-assoc}
 use mathlib.Core.Path.{_≡_, refl, sym, ap, _∙_}
-use Prim.Native.Char.{Char, code}
-use Prim.Native.Nat.{ℕ, zero, suc, _+_, _-_, _≤_}
+use Prim.Native.Nat.{ℕ, suc, _+_, _-_, _≤_}
 use native.Mathlib.Omega.{arith}
-use lib.Dec.{eqb, leb}
+use lib.Dec.{eqb}
 use lib.ListN.{length, replicate, take, drop, length-append, length-drop, length-replicate, take-append-drop}
-use lib.Seq.{sets, take-add, drop-drop, take-at, drop-at, take-append-seam}
+use lib.Seq.{sets, take-add, drop-drop, drop-at, take-append-seam}
 use borrow.Author.Tests.{eqb-true, eq-eqb, le-leb}
-use Rattle.meaning.specs.Bytes.{when, both, quote}
+use Rattle.meaning.specs.Bytes.{quote}
 use Rattle.meaning.specs.Mending.{space, escapedBytes, partBytes, mendedCount, mendPart, change, listed, ownChange, changesOf, changesIn, fits, allFit, undoneFrom, undo, undoOutput}
 use Rattle.meaning.specs.Readers.{begins}
 use Rattle.meaning.specs.Splitting.{Content, run, quotes, quoted, unclosed, contents, lengthOf}
