@@ -1,9 +1,9 @@
 // The list of the changes.
 ghost use mathlib.Core.List.{[]};
 ghost use mathlib.Core.Path.{_≡_};
-ghost use Prim.Native.Nat.{_≤_, _<_};
+ghost use Prim.Native.Nat.{_+_, _≤_};
 ghost use lib.ListN.{length};
-ghost use Rattle.meaning.specs.Mending.{noChange, changesOf};
+ghost use Rattle.meaning.specs.Mending.{listed, noChange, changesOf};
 ghost use Rattle.mending.specs.Listing.{withChange};
 ghost use Rattle.trust.specs.Mending.{mended, changes};
 use crate::parts::own_change;
@@ -38,7 +38,7 @@ pub fn no_changes() -> Changes
 
 // A list with one more change; as often as before is none.
 fn with_change(list: Changes, change: Change) -> Changes
-    requires { ⌜ list .used < 128 ⌝ }
+    requires { ⌜ list .used + length (listed change) ≤ 128 ⌝ }
     ensures { λ r. ⌜ r ≡ withChange list change ⌝ }
 {
     if change.before == change.after {

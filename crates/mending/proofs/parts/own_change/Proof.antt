@@ -1,4 +1,11 @@
+-- Each kind of part.
+use Prim.Native.Nat.{_+_}
 use borrow.Author.Needs.{needs}
+use denote.Ref.{now}
+use mathlib.Core.Bool.{true, false}
+use mathlib.Core.Path.{sym, _∙_}
+use Rattle.mending.proofs.parts.Laws.{own-run, own-quotes, own-quoted, own-open}
+use Rattle.pattern.proofs.parts.Walks.{rest-all}
 use Rattle.mending.proofs.parts.own_change.Statement.{statement}
 use Rattle.mending.proofs.parts.own_change.Tie as tie
 use Rattle.mending.proofs.parts.own_change.Reads as reads
@@ -77,7 +84,13 @@ closing-requires-3 c κs = search needs
 
 -- src/parts.rt:103:17
 returns : tie.Need-returns
-returns c = ?
+returns c =
+    let s = c .before .before .before .before .before .before .before in
+    let a = s .args in
+    let p = now (a .pattern) in
+    let told = c .before .before .ends-in-quote .ensures in
+    let ends = rw (rest-all (a .part .start + 1) p) at told in
+    c .closing3 .ensures ∙ sym (own-open (a .edition) (a .at) (s .pre .0) (c .before .before .before .before .enum-told4 .given .1) true (sym ends ∙ c .before .if1 .taken))
 
 -- src/parts.rt:105:21
 add-closing-4 : tie.Need-add-closing-4
@@ -89,19 +102,32 @@ closing-requires-4 c κs = search needs
 
 -- src/parts.rt:80:1
 returns-2 : tie.Need-returns-2
-returns-2 c = ?
+returns-2 c =
+    let s = c .before .before .before .before .before in
+    let a = s .args in
+    rw (c .mended-count .ensures) (sym (own-run (a .edition) (a .at) (s .pre .0) (c .before .before .enum-told .given .1)))
 
 -- src/parts.rt:80:1
 returns-3 : tie.Need-returns-3
-returns-3 c = ?
+returns-3 c =
+    let s = c .before .before .before .before in
+    c .closing .ensures ∙ sym (own-quotes (s .args .edition) (s .args .at) (s .pre .0) (c .before .enum-told2 .given .1))
 
 -- src/parts.rt:80:1
 returns-4 : tie.Need-returns-4
-returns-4 c = ?
+returns-4 c =
+    let s = c .before .before .before .before in
+    c .closing2 .ensures ∙ sym (own-quoted (s .args .edition) (s .args .at) (s .pre .0) (c .before .enum-told3 .given .1))
 
 -- src/parts.rt:80:1
 returns-5 : tie.Need-returns-5
-returns-5 c = ?
+returns-5 c =
+    let s = c .before .before .before .before .before .before .before in
+    let a = s .args in
+    let p = now (a .pattern) in
+    let told = c .before .before .ends-in-quote .ensures in
+    let ends = rw (rest-all (a .part .start + 1) p) at told in
+    c .closing4 .ensures ∙ sym (own-open (a .edition) (a .at) (s .pre .0) (c .before .before .before .before .enum-told4 .given .1) false (sym ends ∙ c .before .if1 .left))
 
 pub own-change-spec : {M : Type 1} → statement M
 own-change-spec =

@@ -1,4 +1,10 @@
+-- None where the need is met, else as many as it asks for.
+use Prim.Native.Nat.{_+_}
 use borrow.Author.Needs.{needs}
+use denote.Ref.{now}
+use lib.ListN.{drop}
+use Rattle.mending.proofs.parts.Laws.{gap-is}
+use Rattle.pattern.specs.First.{contentOf}
 use Rattle.mending.proofs.parts.spaces_behind.Statement.{statement}
 use Rattle.mending.proofs.parts.spaces_behind.Tie as tie
 use Rattle.mending.proofs.parts.spaces_behind.Reads as reads
@@ -21,7 +27,12 @@ meets-requires c κs = search needs
 
 -- src/parts.rt:148:9
 returns : tie.Need-returns
-returns c = ?
+returns c =
+    let s = c .before .before .before .before .before in
+    let a = s .args in
+    let need = c .before .before .before .mended-need in
+    let q = drop (a .part .start + a .part .length) (now (a .pattern)) in
+    rw (gap-is (a .edition) (contentOf (now (a .pattern)) (a .part)) q (need .result) (need .ensures), ← c .before .meets .ensures, c .if1 .taken)
 
 -- src/parts.rt:150:5
 spaces-for-requires : tie.Need-spaces-for-requires
@@ -29,7 +40,12 @@ spaces-for-requires c κs = search needs
 
 -- src/parts.rt:142:1
 returns-2 : tie.Need-returns-2
-returns-2 c = ?
+returns-2 c =
+    let s = c .before .before .before .before .before .before in
+    let a = s .args in
+    let need = c .before .before .before .before .mended-need in
+    let q = drop (a .part .start + a .part .length) (now (a .pattern)) in
+    rw (gap-is (a .edition) (contentOf (now (a .pattern)) (a .part)) q (need .result) (need .ensures), ← c .before .before .meets .ensures, c .before .if1 .left) (c .spaces-for .ensures)
 
 pub spaces-behind-spec : {M : Type 1} → statement M
 spaces-behind-spec =

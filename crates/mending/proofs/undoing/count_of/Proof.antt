@@ -1,3 +1,6 @@
+-- As many as are used, of those that there are.
+use lib.Seq.{length-take-le}
+use mathlib.Core.Path.{sym}
 use Rattle.mending.proofs.undoing.count_of.Statement.{statement}
 use Rattle.mending.proofs.undoing.count_of.Tie as tie
 use Rattle.mending.proofs.undoing.count_of.Reads as reads
@@ -5,7 +8,7 @@ use Rattle.mending.proofs.undoing.count_of.Lts as lts
 
 -- src/undoing.rt:53:9
 returns : tie.Need-returns
-returns c = ?
+returns c = sym (length-take-le (c .before .args .changes .used) (c .before .args .changes .listed) ?)
 
 -- src/undoing.rt:49:1
 returns-2 : tie.Need-returns-2
