@@ -9,19 +9,16 @@ use lib.ListN.{length, drop, replicate, length-append, drop-of-length-le}
 use lib.Seq.{set-at, append-snoc}
 use borrow.Author.Tests.{ne-eqb}
 use Rattle.laws.proofs.Tests.{by-test}
-use Rattle.meaning.specs.Mending.{space, mendPart, change, listed, ownChange, noChange, changesOf}
-use Rattle.meaning.specs.Splitting.{contents, lengthOf}
+use Rattle.meaning.specs.Mending.{space, change, listed, noChange, changesOf}
+use Rattle.meaning.specs.Splitting.{contents}
 use Rattle.meaning.specs.declared.Change.{Change}
 use Rattle.meaning.specs.declared.Changes.{Changes}
 use Rattle.meaning.specs.declared.Edition.{Edition}
 use Rattle.meaning.specs.declared.Part.{Part}
-use Rattle.mending.proofs.parts.Laws.{own-length, part-long}
-use Rattle.mending.proofs.walk.Laws.{leftFrom, all-left, added, spaces, length-next}
+use Rattle.mending.proofs.walk.Laws.{leftFrom, all-left, Found, gap-told, long-next, length-next}
 use Rattle.mending.specs.Listing.{withChange}
-use Rattle.pattern.specs.First.{contentOf}
-use Rattle.pattern.specs.Next.{Next}
 use Rattle.trust.proofs.MendedSizes.{few-changes}
-use Rattle.trust.specs.Mending.{gap, mended, changesFrom, changes}
+use Rattle.trust.specs.Mending.{mended, changesFrom, changes}
 
 -- one more change
 
@@ -53,49 +50,52 @@ listed-start edition p list e =
 all-few : (edition : Edition) (p : List ℕ) → length (mended edition p) ≤ 256 → length (changes edition p) ≤ 128
 all-few edition p h = omega (arith, few-changes edition p)
 
-module _ {edition : Edition} {p : List ℕ} {list : Changes} {at place : ℕ} {part : Part} (short : length (mended edition p) ≤ 256)
-    (l : Listed edition p list at place) (n : Next p place part) where
-  abbrev own : Change
-  own = ownChange edition at (contentOf p part)
-
+module _ {edition : Edition} {p : List ℕ} {list : Changes} {at place : ℕ} {part : Part} {own : Change} {spaces : ℕ}
+    (short : length (mended edition p) ≤ 256) (l : Listed edition p list at place) (f : Found edition p at place part own spaces) where
   abbrev behind : ℕ
-  behind = at + part .length + added edition at n
+  behind = at + (part .length + (own .after - own .before))
 
   abbrev between : Change
-  between = change behind space 0 (spaces edition at n)
+  between = change behind space 0 spaces
+
+  abbrev others : List Change
+  others = changesFrom edition (behind + spaces) (contents (drop (place + part .length) p))
 
   -- the changes of this part and of those behind it
-  changes-next : changesFrom edition at (contents (drop place p)) ≡ listed own ++ listed between ++ changesFrom edition (behind + spaces edition at n) (contents (drop (place + part .length) p))
+  changes-next : changesFrom edition at (contents (drop place p)) ≡ listed own ++ listed between ++ others
   unfolding changesFrom
-  changes-next =
-      let e : at + lengthOf (mendPart edition (contentOf p part)) ≡ behind = omega (arith, own-length edition at (contentOf p part), part-long n) in
-      ap (changesFrom edition at) (n .walk) ∙ rw e
+  changes-next = ap (changesFrom edition at) (f .next .walk) ∙ rw (long-next f, gap-told f, ← f .own-told)
 
   room : length (l .so-far) + length (listed own) + length (listed between) ≤ 128
   room =
-      let rest = changesFrom edition (behind + spaces edition at n) (contents (drop (place + part .length) p)) in
-      let all : length (l .so-far) + (length (listed own) + length (listed between) + length rest) ≡ length (changes edition p) =
-      omega (arith, length-append (l .so-far) (listed own ++ listed between ++ rest), length-append (listed own ++ listed between) rest, length-append (listed own) (listed between), ap length (rw changes-next at (l .rest))) in
-      omega (arith, all, all-few edition p short)
+      let all : length (l .so-far ++ (listed own ++ listed between ++ others)) ≡ length (changes edition p) = ap length (rw changes-next at (l .rest)) in
+      omega (arith, all, length-append (l .so-far) (listed own ++ listed between ++ others), length-append (listed own ++ listed between) others, length-append (listed own) (listed between), all-few edition p short)
 
   pub own-room : list .used + length (listed own) ≤ 128
   own-room = rw (l .held) (omega (arith, room))
 
-  pub own-listed : withChange list own ≡ changesOf (l .so-far ++ listed own)
+  own-listed : withChange list own ≡ changesOf (l .so-far ++ listed own)
   own-listed = rw (l .held) (with-one (l .so-far) own (omega (arith, room)))
 
-  pub between-room : withChange list own .used + length (listed between) ≤ 128
-  between-room = rw own-listed (omega (arith, room, length-append (l .so-far) (listed own)))
+  both-room : length (l .so-far ++ listed own) + length (listed between) ≤ 128
+  both-room = omega (arith, room, length-append (l .so-far) (listed own))
 
-  pub listed-turn : Listed edition p (withChange (withChange list own) between) (behind + spaces edition at n) (place + part .length)
+  pub between-room : withChange list own .used + length (listed between) ≤ 128
+  between-room = rw own-listed both-room
+
+  -- the next place is inside
+  pub place-fits : behind + spaces ≤ 256
+  place-fits = omega (arith, l .left, length-next f, short)
+
+  pub listed-turn : Listed edition p (withChange (withChange list own) between) (behind + spaces) (place + part .length)
   listed-turn =
       record {
         so-far = l .so-far ++ listed own ++ listed between;
-        held = rw own-listed (with-one (l .so-far ++ listed own) between (omega (arith, room, length-append (l .so-far) (listed own))));
+        held = rw own-listed (with-one (l .so-far ++ listed own) between both-room);
         rest =
-            rw (append-assoc (l .so-far) (listed own) (listed between), append-assoc (l .so-far) (listed own ++ listed between) (changesFrom edition (behind + spaces edition at n) (contents (drop (place + part .length) p))))
+            rw (append-assoc (l .so-far) (listed own) (listed between), append-assoc (l .so-far) (listed own ++ listed between) others)
             (rw changes-next at (l .rest));
-        left = omega (arith, l .left, length-next edition at n);
+        left = omega (arith, l .left, length-next f);
       }
 
 pub listed-done : {edition : Edition} {p : List ℕ} {list : Changes} {at place : ℕ} → Listed edition p list at place → length p ≤ place → list ≡ changesOf (changes edition p)

@@ -1,14 +1,15 @@
 -- The mended pattern of what is left of a pattern, part by part.
 use mathlib.Core.List.{List, [], _∷_, _++_}
-use mathlib.Core.Path.{_≡_, refl, ap, _∙_}
+use mathlib.Core.Path.{_≡_, refl, sym, ap, _∙_}
 use Prim.Native.Nat.{ℕ, _+_, _-_, _≤_}
 use native.Mathlib.Omega.{arith}
 use lib.ListN.{length, replicate, take, drop, drop-of-length-le}
-use Rattle.meaning.specs.Mending.{space, partBytes, ownChange}
+use Rattle.meaning.specs.Mending.{space, mendPart, ownChange}
 use Rattle.meaning.specs.Splitting.{contents, lengthOf}
+use Rattle.meaning.specs.declared.Change.{Change}
 use Rattle.meaning.specs.declared.Edition.{Edition}
 use Rattle.meaning.specs.declared.Part.{Part}
-use Rattle.mending.proofs.parts.Laws.{own-bytes, own-length, part-bytes, part-long}
+use Rattle.mending.proofs.parts.Laws.{own-grows, own-bytes, own-length, part-bytes, part-long}
 use Rattle.pattern.specs.First.{contentOf}
 use Rattle.pattern.specs.Next.{Next}
 use Rattle.trust.proofs.MendedSizes as sizes
@@ -25,20 +26,31 @@ pub none-left : (edition : Edition) (p : List ℕ) (place : ℕ) → length p �
 unfolding contents mendedBytes
 none-left edition p place h = rw (drop-of-length-le p h)
 
-module _ (edition : Edition) (at : ℕ) {p : List ℕ} {place : ℕ} {part : Part} (n : Next p place part) where
-  abbrev pub added : ℕ
-  added = ownChange edition at (contentOf p part) .after - ownChange edition at (contentOf p part) .before
+-- a part with what the code finds of it: its own change, where it stands at a place, and the spaces behind it
+pub record Found (edition : Edition) (p : List ℕ) (at place : ℕ) (part : Part) (own : Change) (spaces : ℕ) : Type 0 where
+  pub next : Next p place part
+  pub own-told : own ≡ ownChange edition at (contentOf p part)
+  pub spaces-told : spaces ≡ gap edition (contentOf p part) (contents (drop (part .start + part .length) p))
 
-  abbrev pub spaces : ℕ
-  spaces = gap edition (contentOf p part) (contents (drop (place + part .length) p))
+module _ {edition : Edition} {p : List ℕ} {at place : ℕ} {part : Part} {own : Change} {spaces : ℕ} (f : Found edition p at place part own spaces) where
+  pub grows : own .before ≤ own .after
+  grows = rw (f .own-told) (own-grows edition at (contentOf p part))
+
+  pub gap-told : gap edition (contentOf p part) (contents (drop (place + part .length) p)) ≡ spaces
+  gap-told =
+      let e : part .start ≡ place = ap (λ (q : Part). q .start) (f .next .itself) in
+      sym (f .spaces-told ∙ ap (λ (k : ℕ). gap edition (contentOf p part) (contents (drop (k + part .length) p))) e)
 
   pub bytes-next : leftFrom edition p place
-      ≡ take (part .length) (drop place p) ++ replicate added (ownChange edition at (contentOf p part) .byte) ++ replicate spaces space ++ leftFrom edition p (place + part .length)
+      ≡ take (part .length) (drop place p) ++ replicate (own .after - own .before) (own .byte) ++ replicate spaces space ++ leftFrom edition p (place + part .length)
   unfolding mendedBytes
-  bytes-next = ap (mendedBytes edition) (n .walk) ∙ rw (own-bytes edition at (contentOf p part), part-bytes n)
+  bytes-next = ap (mendedBytes edition) (f .next .walk) ∙ rw (f .own-told, gap-told, own-bytes edition at (contentOf p part), part-bytes (f .next))
 
-  pub length-next : length (leftFrom edition p place) ≡ part .length + added + spaces + length (leftFrom edition p (place + part .length))
+  pub long-next : lengthOf (mendPart edition (contentOf p part)) ≡ part .length + (own .after - own .before)
+  long-next = rw (f .own-told) (own-length edition at (contentOf p part) ∙ rw (part-long (f .next)))
+
+  pub length-next : length (leftFrom edition p place) ≡ part .length + (own .after - own .before) + spaces + length (leftFrom edition p (place + part .length))
   length-next =
       let c = contentOf p part in
       let cs = contents (drop (place + part .length) p) in
-      ap (λ l. length (mendedBytes edition l)) (n .walk) ∙ omega (arith, sizes.mended-length edition c cs, own-length edition at c, part-long n)
+      ap (λ l. length (mendedBytes edition l)) (f .next .walk) ∙ omega (arith, sizes.mended-length edition c cs, long-next, gap-told)

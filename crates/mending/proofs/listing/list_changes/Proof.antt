@@ -1,78 +1,84 @@
+-- What is listed and the changes of what is left of the pattern are all changes.
+use Prim.Native.Nat.{_+_, _-_, _≤_}
+use borrow.Author.Needs.{needs}
+use denote.Ref.{now}
+use lib.ListN.{length}
+use native.Mathlib.Omega.{arith}
+use Rattle.mending.proofs.listing.Laws.{Listed, listed-start, own-room, between-room, place-fits, listed-turn, listed-done}
 use Rattle.mending.proofs.listing.list_changes.Statement.{statement}
 use Rattle.mending.proofs.listing.list_changes.Tie as tie
-use Rattle.mending.proofs.listing.list_changes.Reads as reads
-use Rattle.mending.proofs.listing.list_changes.Lts as lts
-use Rattle.mending.proofs.listing.no_changes.Reads as no-changes-reads
-use Rattle.mending.proofs.listing.with_change.Reads as with-change-reads
-use Rattle.mending.proofs.parts.own_change.Reads as own-change-reads
-use Rattle.mending.proofs.parts.spaces_behind.Reads as spaces-behind-reads
-use Rattle.pattern.proofs.parts.next_part.Reads as next-part-reads
+use Rattle.mending.proofs.walk.Laws.{Found, grows}
+use Rattle.pattern.proofs.parts.Next.{next, starts-here}
+use Rattle.pattern.specs.Next.{Next}
 
 abbrev Inv-loop : tie.InvT-loop
-Inv-loop edition pattern list₀ at₀ place₀ list at place = ?
+Inv-loop edition pattern list₀ at₀ place₀ list at place = Listed edition pattern list at place
 
 abbrev μ-loop : tie.MeasureT-loop
-μ-loop edition pattern list₀ at₀ place₀ list at place = ?
+μ-loop edition pattern list₀ at₀ place₀ list at place = length pattern - place
 
--- src/listing.rt:62:9
+-- the part is the pattern's next
+part-next : (c : tie.After-next-part Inv-loop μ-loop) → Next (now (c .before .before .before .before .before .args .pattern)) (c .before .before .loop .place) (c .next-part .result)
+part-next c = next (now (c .before .before .before .before .before .args .pattern)) (c .before .before .loop .place) (c .next-part .result) (c .before .loop-test .taken) (c .next-part .ensures)
+
+-- and what is found of it
+part-found : (c : tie.After-spaces-behind Inv-loop μ-loop)
+    → Found (c .before .before .before .before .before .before .before .args .edition) (now (c .before .before .before .before .before .before .before .args .pattern)) (c .before .before .before .before .loop .at) (c .before .before .before .before .loop .place) (c .before .before .next-part .result) (c .before .own-change .result) (c .spaces-behind .result)
+part-found c = record { next = part-next (c .before .before); own-told = c .before .own-change .ensures; spaces-told = c .spaces-behind .ensures }
+
 no-changes-requires : tie.Need-no-changes-requires Inv-loop μ-loop
-no-changes-requires c κs = ?
+no-changes-requires c κs = search needs
 
--- src/listing.rt:65:5
 loop-holds : tie.Need-loop-holds Inv-loop μ-loop
-loop-holds c = ?
+loop-holds c = listed-start (c .before .before .args .edition) (now (c .before .before .args .pattern)) (c .no-changes .result) (c .no-changes .ensures)
 
--- src/listing.rt:66:13
 next-part-requires : tie.Need-next-part-requires Inv-loop μ-loop
-next-part-requires c κs = ?
+next-part-requires c κs = search needs
 
--- src/listing.rt:67:13
 own-change-requires : tie.Need-own-change-requires Inv-loop μ-loop
-own-change-requires c κs = ?
+own-change-requires c κs = (starts-here (part-next c), omega (arith, c .before .before .loop .inv .left, c .before .before .before .before .before .pre .0, c .before .before .before .before .before .pre .1))
 
--- src/listing.rt:68:13
 spaces-behind-requires : tie.Need-spaces-behind-requires Inv-loop μ-loop
-spaces-behind-requires c κs = ?
+spaces-behind-requires c κs = starts-here (part-next (c .before))
 
--- src/listing.rt:69:9
 with-change-requires : tie.Need-with-change-requires Inv-loop μ-loop
-with-change-requires c κs = ?
+with-change-requires c κs =
+    own-room (c .before .before .before .before .before .before .before .pre .1) (c .before .before .before .before .loop .inv) (part-found c)
 
--- src/listing.rt:70:30
 sub-at : tie.Need-sub-at Inv-loop μ-loop
-sub-at c = ?
+sub-at c = grows (part-found (c .before .before))
 
--- src/listing.rt:70:15
+-- every place is inside
+fits : (c : tie.After-struct-known2 Inv-loop μ-loop) → c .before .before .before .before .before .before .before .loop .at + (c .before .before .before .before .before .next-part .result .length + (c .before .before .before .before .own-change .result .after - c .before .before .before .before .own-change .result .before)) + c .before .before .before .spaces-behind .result ≤ 256
+fits c = place-fits (c .before .before .before .before .before .before .before .before .before .before .pre .1) (c .before .before .before .before .before .before .before .loop .inv) (part-found (c .before .before .before))
+
 add-at : tie.Need-add-at Inv-loop μ-loop
-add-at c = ?
+add-at c = omega (arith, fits c)
 
--- src/listing.rt:70:9
 add-at-2 : tie.Need-add-at-2 Inv-loop μ-loop
-add-at-2 c = ?
+add-at-2 c = omega (arith, fits c)
 
--- src/listing.rt:71:9
 with-change-requires-2 : tie.Need-with-change-requires-2 Inv-loop μ-loop
-with-change-requires-2 c κs = ?
+with-change-requires-2 c κs =
+    rw (c .before .before .with-change .ensures)
+    (between-room (c .before .before .before .before .before .before .before .before .before .before .pre .1) (c .before .before .before .before .before .before .before .loop .inv) (part-found (c .before .before .before)))
 
--- src/listing.rt:80:9
 add-at-3 : tie.Need-add-at-3 Inv-loop μ-loop
-add-at-3 c = ?
+add-at-3 c = omega (arith, fits (c .before))
 
--- src/listing.rt:81:9
 add-place : tie.Need-add-place Inv-loop μ-loop
-add-place c = ?
+add-place c = omega (arith, part-next (c .before .before .before .before .before .before .before) .fits)
 
--- src/listing.rt:65:5
 loop-less : tie.Need-loop-less Inv-loop μ-loop
-loop-less c = ?
+loop-less c = let n = part-next (c .before .before .before .before .before .before .before) in omega (arith, n .some, n .fits)
 
--- src/listing.rt:65:5
 loop-again : tie.Need-loop-again Inv-loop μ-loop
-loop-again c = ?
+loop-again c =
+    rw (c .before .with-change2 .ensures, c .before .before .before .before .with-change .ensures)
+    (listed-turn (c .before .before .before .before .before .before .before .before .before .before .before .before .pre .1) (c .before .before .before .before .before .before .before .before .before .loop .inv) (part-found (c .before .before .before .before .before)))
 
--- src/listing.rt:57:1
 returns : tie.Need-returns Inv-loop μ-loop
-returns c = ?
+returns c = listed-done (c .before .loop .inv) (c .loop-test .left)
 
 pub list-changes-spec : {M : Type 1} → statement M
 list-changes-spec =

@@ -8,7 +8,7 @@ use Rattle.mending.proofs.undoing.count_of.Lts as lts
 
 -- src/undoing.rt:53:9
 returns : tie.Need-returns
-returns c = sym (length-take-le (c .before .args .changes .used) (c .before .args .changes .listed) ?)
+returns c = ?
 
 -- src/undoing.rt:49:1
 returns-2 : tie.Need-returns-2
