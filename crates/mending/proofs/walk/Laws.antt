@@ -3,7 +3,8 @@ use mathlib.Core.List.{List, [], _∷_, _++_}
 use mathlib.Core.Path.{_≡_, refl, sym, ap, _∙_}
 use Prim.Native.Nat.{ℕ, _+_, _-_, _≤_}
 use native.Mathlib.Omega.{arith}
-use lib.ListN.{length, replicate, take, drop, drop-of-length-le}
+use lib.ListN.{length, replicate, take, drop, length-drop, drop-of-length-le}
+use lib.Seq.{length-take-le}
 use Rattle.meaning.specs.Mending.{space, mendPart, ownChange}
 use Rattle.meaning.specs.Splitting.{contents, lengthOf}
 use Rattle.meaning.specs.declared.Change.{Change}
@@ -25,6 +26,15 @@ all-left edition p = refl
 pub none-left : (edition : Edition) (p : List ℕ) (place : ℕ) → length p ≤ place → leftFrom edition p place ≡ []
 unfolding contents mendedBytes
 none-left edition p place h = rw (drop-of-length-le p h)
+
+-- the bytes of a part, as the code lends them
+
+pub slice-bytes : {p : List ℕ} {place : ℕ} {part : Part} → Next p place part → take (place + part .length - place) (drop place p) ≡ take (part .length) (drop place p)
+slice-bytes {p} {place} {part} n = let e : place + part .length - place ≡ part .length = omega arith in rw e
+
+pub slice-long : {p : List ℕ} {place : ℕ} {part : Part} → Next p place part → length (take (place + part .length - place) (drop place p)) ≡ part .length
+slice-long {p} {place} {part} n =
+    ap length (slice-bytes n) ∙ length-take-le (part .length) (drop place p) (omega (arith, n .fits, length-drop place p))
 
 -- a part with what the code finds of it: its own change, where it stands at a place, and the spaces behind it
 pub record Found (edition : Edition) (p : List ℕ) (at place : ℕ) (part : Part) (own : Change) (spaces : ℕ) : Type 0 where
