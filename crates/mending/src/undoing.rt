@@ -1,7 +1,7 @@
 // Listed changes undone: whether they fit the pattern, how long it was, and its bytes.
 ghost use mathlib.Core.Bool.{true};
 ghost use mathlib.Core.Path.{_≡_};
-ghost use Prim.Native.Nat.{_≤_, min};
+ghost use Prim.Native.Nat.{_≤_};
 ghost use lib.ListN.{length, drop, replicate};
 ghost use Rattle.laws.specs.Laid.{Laid};
 ghost use Rattle.meaning.specs.Mending as mending;
@@ -47,7 +47,7 @@ fn fits(pattern: &[u8], at: usize, change: Change) -> bool
 
 // How many entries of a list are changes.
 fn count_of(changes: Changes) -> usize
-    ensures { λ r. ⌜ r ≡ length (mending.changesIn changes) ⌝ }
+    ensures { λ r. ⌜ (r ≡ length (mending.changesIn changes)) × (r ≤ 128) ⌝ }
 {
     if changes.used < 128 {
         return changes.used;

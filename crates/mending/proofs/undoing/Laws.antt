@@ -6,7 +6,7 @@ use Prim.Native.Nat.{ℕ, zero, suc, _+_, _-_, _≤_, _<_, min}
 use native.Mathlib.Numerals.{add-one}
 use native.Mathlib.Omega.{arith}
 use lib.Dec.{eqb, leb}
-use lib.ListN.{length, getD, take, drop, replicate, length-take, length-drop, length-replicate, length-append}
+use lib.ListN.{length, getD, take, drop, replicate, length-take, length-drop, length-replicate, length-append, drop-of-length-le}
 use lib.Seq.{drop-cons, getD-take, length-take-le}
 use borrow.Author.Tests.{eq-eqb, ne-eqb, leb-true}
 use Rattle.laws.proofs.Checks.{within-is}
@@ -79,7 +79,56 @@ count-used used l e h = length-take-le used l (omega (arith, e))
 pub count-all : (used : ℕ) (l : List Change) → length l ≡ 128 → 128 ≤ used → length (take used l) ≡ 128
 count-all used l e h = length-take used l ∙ omega (arith, e)
 
+pub count-few : (changes : Changes) → length (changes .listed) ≡ 128 → length (changesIn changes) ≤ 128
+count-few changes e = omega (arith, e, length-take (changes .used) (changes .listed))
+
 pub change-next : (changes : Changes) (i : ℕ) → i < length (changesIn changes) → drop i (changesIn changes) ≡ getD (changes .listed) i noChange ∷ drop (i + 1) (changesIn changes)
 change-next changes i h =
     let few : i < changes .used = omega (arith, h, length-take (changes .used) (changes .listed)) in
     drop-cons (changesIn changes) i noChange h ∙ rw (getD-take (changes .used) (changes .listed) i noChange few, add-one i)
+
+module _ (p : List ℕ) (at : ℕ) (changes : Changes) (i : ℕ) (h : i < length (changesIn changes)) where
+  abbrev this : Change
+  this = getD (changes .listed) i noChange
+
+  pub fits-not : fits p at this ≡ false → allFit p at (drop i (changesIn changes)) ≡ false
+  unfolding allFit
+  fits-not e = rw (change-next changes i h, e)
+
+  pub fits-on : fits p at this ≡ true → allFit p (this .place + this .after) (drop (i + 1) (changesIn changes)) ≡ allFit p at (drop i (changesIn changes))
+  unfolding allFit
+  fits-on e = rw (change-next changes i h, e)
+
+  pub fits-here : allFit p at (drop i (changesIn changes)) ≡ true → Fitting p at this
+  unfolding allFit
+  fits-here e =
+      let all : allFit p at (this ∷ drop (i + 1) (changesIn changes)) ≡ true = rw (change-next changes i h) at e in
+      fits-is p at this (both-true (fits p at this) (allFit p (this .place + this .after) (drop (i + 1) (changesIn changes))) all .0)
+
+  pub fits-later : allFit p at (drop i (changesIn changes)) ≡ true → allFit p (this .place + this .after) (drop (i + 1) (changesIn changes)) ≡ true
+  unfolding allFit
+  fits-later e =
+      let all : allFit p at (this ∷ drop (i + 1) (changesIn changes)) ≡ true = rw (change-next changes i h) at e in
+      both-true (fits p at this) (allFit p (this .place + this .after) (drop (i + 1) (changesIn changes))) all .1
+
+  pub undone-next : undoneFrom p at (drop i (changesIn changes))
+      ≡ take (this .place - at) (drop at p) ++ replicate (this .before) (this .byte) ++ undoneFrom p (this .place + this .after) (drop (i + 1) (changesIn changes))
+  unfolding undoneFrom
+  undone-next = rw (change-next changes i h)
+
+  pub undone-long : Fitting p at this → length (undoneFrom p at (drop i (changesIn changes)))
+      ≡ this .place - at + this .before + length (undoneFrom p (this .place + this .after) (drop (i + 1) (changesIn changes)))
+  undone-long f =
+      let kept = take (this .place - at) (drop at p) in
+      let stood = replicate (this .before) (this .byte) in
+      let rest = undoneFrom p (this .place + this .after) (drop (i + 1) (changesIn changes)) in
+      let long : length kept ≡ this .place - at = length-take-le (this .place - at) (drop at p) (omega (arith, f .inside, f .behind, length-drop at p)) in
+      ap length undone-next ∙ omega (arith, length-append (kept ++ stood) rest, length-append kept stood, long, length-replicate (this .before) (this .byte))
+
+pub fits-all : (p : List ℕ) (at : ℕ) (cs : List Change) (i : ℕ) → length cs ≤ i → allFit p at (drop i cs) ≡ true
+unfolding allFit
+fits-all p at cs i h = rw (drop-of-length-le cs h)
+
+pub undone-last : (p : List ℕ) (at : ℕ) (cs : List Change) (i : ℕ) → length cs ≤ i → undoneFrom p at (drop i cs) ≡ drop at p
+unfolding undoneFrom
+undone-last p at cs i h = rw (drop-of-length-le cs h)
