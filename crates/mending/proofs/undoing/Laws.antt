@@ -116,14 +116,16 @@ module _ (p : List ℕ) (at : ℕ) (changes : Changes) (i : ℕ) (h : i < length
   unfolding undoneFrom
   undone-next = rw (change-next changes i h)
 
+  pub kept-long : Fitting p at this → length (take (this .place - at) (drop at p)) ≡ this .place - at
+  kept-long f = length-take-le (this .place - at) (drop at p) (omega (arith, f .inside, f .behind, length-drop at p))
+
   pub undone-long : Fitting p at this → length (undoneFrom p at (drop i (changesIn changes)))
       ≡ this .place - at + this .before + length (undoneFrom p (this .place + this .after) (drop (i + 1) (changesIn changes)))
   undone-long f =
       let kept = take (this .place - at) (drop at p) in
       let stood = replicate (this .before) (this .byte) in
       let rest = undoneFrom p (this .place + this .after) (drop (i + 1) (changesIn changes)) in
-      let long : length kept ≡ this .place - at = length-take-le (this .place - at) (drop at p) (omega (arith, f .inside, f .behind, length-drop at p)) in
-      ap length undone-next ∙ omega (arith, length-append (kept ++ stood) rest, length-append kept stood, long, length-replicate (this .before) (this .byte))
+      ap length undone-next ∙ omega (arith, length-append (kept ++ stood) rest, length-append kept stood, kept-long f, length-replicate (this .before) (this .byte))
 
 pub fits-all : (p : List ℕ) (at : ℕ) (cs : List Change) (i : ℕ) → length cs ≤ i → allFit p at (drop i cs) ≡ true
 unfolding allFit
