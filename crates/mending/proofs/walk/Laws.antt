@@ -1,9 +1,9 @@
 -- The mended pattern of what is left of a pattern, part by part.
-use mathlib.Core.List.{List, [], _∷_, _++_}
+use mathlib.Core.List.{List, [], _++_}
 use mathlib.Core.Path.{_≡_, refl, sym, ap, _∙_}
 use Prim.Native.Nat.{ℕ, _+_, _-_, _≤_}
 use native.Mathlib.Omega.{arith}
-use lib.ListN.{length, replicate, take, drop, length-drop, drop-of-length-le}
+use lib.ListN.{length, replicate, take, drop, length-append, length-replicate, length-drop, drop-of-length-le}
 use lib.Seq.{length-take-le}
 use Rattle.meaning.specs.Mending.{space, mendPart, ownChange}
 use Rattle.meaning.specs.Splitting.{contents, lengthOf}
@@ -35,6 +35,13 @@ slice-bytes {p} {place} {part} n = let e : place + part .length - place ≡ part
 pub slice-long : {p : List ℕ} {place : ℕ} {part : Part} → Next p place part → length (take (place + part .length - place) (drop place p)) ≡ part .length
 slice-long {p} {place} {part} n =
     ap length (slice-bytes n) ∙ length-take-le (part .length) (drop place p) (omega (arith, n .fits, length-drop place p))
+
+-- what is laid of a part is as long as it, what is added and the spaces
+pub text-long : {p : List ℕ} {place : ℕ} {part : Part} → Next p place part → (b k spaces : ℕ)
+    → length (take (part .length) (drop place p) ++ replicate k b ++ replicate spaces space) ≡ part .length + k + spaces
+text-long {p} {place} {part} n b k spaces =
+    let own = take (part .length) (drop place p) in
+    omega (arith, length-append (own ++ replicate k b) (replicate spaces space), length-append own (replicate k b), length-replicate k b, length-replicate spaces space, length-take-le (part .length) (drop place p) (omega (arith, n .fits, length-drop place p)))
 
 -- a part with what the code finds of it: its own change, where it stands at a place, and the spaces behind it
 pub record Found (edition : Edition) (p : List ℕ) (at place : ℕ) (part : Part) (own : Change) (spaces : ℕ) : Type 0 where

@@ -4,10 +4,10 @@ use borrow.Author.Needs.{needs}
 use denote.Ref.{now}
 use lib.ListN.{length}
 use lib.Seq.{sets}
-use mathlib.Core.Path.{_≡_, refl, ap, _∙_}
+use mathlib.Core.Path.{_≡_, refl, _∙_}
 use native.Mathlib.Omega.{arith}
 use Rattle.laws.proofs.Laid.{sets-append}
-use Rattle.mending.proofs.walk.Laws.{leftFrom, all-left, none-left, Found, grows, slice-bytes, slice-long, bytes-next, length-next}
+use Rattle.mending.proofs.walk.Laws.{leftFrom, all-left, none-left, Found, grows, slice-bytes, slice-long, text-long, bytes-next, length-next}
 use Rattle.pattern.proofs.parts.Next.{next, starts-here}
 use Rattle.pattern.specs.Next.{Next}
 use Rattle.trust.specs.Mending.{mended}
@@ -72,9 +72,11 @@ loop-again c =
     let f = part-found (c .before .before .before .before .before .before) in
     let L = c .before .before .before .before .before .before .before .before .before .before .loop in
     let wrote = c .before .before .put-part in
+    let own = c .before .before .before .before .before .before .before .own-change .result in
+    let spaces = c .before .before .before .before .before .before .spaces-behind .result in
     let laid = rw (slice-bytes (f .next)) at (wrote .ensures) in (
       rw (laid .held, laid .end, ← sets-append, ← bytes-next f) (L .inv .0),
-      omega (arith, wrote .ensures .end, ap length (bytes-next f), L .inv .1),
+      omega (arith, laid .end, text-long (f .next) (own .byte) (own .after - own .before) spaces, length-next f, L .inv .1),
       wrote .kept .1 .1 .1 .0 ∙ L .inv .2,
     )
 
