@@ -37,7 +37,8 @@ fn refused(why: Refusal) -> Mended
     }
 }
 
-// Mends a pattern for an edition, in a current year: the refusals 1, 2, 3, 14, 30, 5; else the mended pattern lies in the output.
+// Mends a pattern for an edition, in a current year: the refusals 1, 2, 3, 14, 30, 5; else the mended pattern lies in the output,
+// and what was changed is listed.
 pub fn mend(edition: Edition, pattern: &[u8], year: i32, out: &mut [u8]) -> Mended
     ensures { λ r. ⌜ Mends edition (now (pattern .entry)) year (now (out .entry)) r (now (out .exit)) ⌝ }
 {
@@ -58,17 +59,17 @@ pub fn mend(edition: Edition, pattern: &[u8], year: i32, out: &mut [u8]) -> Mend
     }
 }
 
-// Undoes listed changes of a pattern, from the first on: the pattern before them lies in the output, if each fits the pattern; else 5 where the output is too
-// small.
+// Undoes listed changes of a pattern: the pattern as it was lies in the output, where each change fits the pattern and there is
+// room, else refusal 5.
 pub fn undo(pattern: &[u8], changes: Changes, out: &mut [u8]) -> Undone
     ensures { λ r. ⌜ Undoes (now (pattern .entry)) (changesIn changes) (now (out .entry)) r (now (out .exit)) ⌝ }
 {
     if !all_fit(pattern, changes) {
         return Undone::Misfit;
     }
-    let n = undone_length(pattern, changes);
-    if out.len() < n {
-        return Undone::Refused(Refusal::NoRoom(n));
+    let length = undone_length(pattern, changes);
+    if out.len() < length {
+        return Undone::Refused(Refusal::NoRoom(length));
     }
     Undone::Length(put_undone(pattern, changes, out))
 }

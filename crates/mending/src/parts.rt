@@ -1,6 +1,6 @@
 // What a part becomes: its own change, and how many spaces are put behind it.
 ghost use mathlib.Core.Path.{_≡_};
-ghost use Prim.Native.Nat.{_+_, _≤_, _<_};
+ghost use Prim.Native.Nat.{_+_, _≤_};
 ghost use lib.ListN.{length, drop};
 ghost use Rattle.meaning.specs.Mending as mending;
 ghost use Rattle.meaning.specs.Splitting.{contents};
