@@ -47,9 +47,12 @@ abbrev pub ListedFits : Listed → Type 0
 ListedFits (listed.Lines n) = NumberFits n
 ListedFits (listed.Refused why) = WhyFits why
 
-abbrev pub AllChangesFit : List Change → Type 0
+abbrev pub ChangeFits : Change → Type 0
+ChangeFits c = NumberFits (c .place) × NumberFits (c .before) × NumberFits (c .after)
+
+unfoldable pub AllChangesFit : List Change → Type 0
 AllChangesFit [] = Unit
-AllChangesFit (c ∷ cs) = (NumberFits (c .place) × NumberFits (c .before) × NumberFits (c .after)) × AllChangesFit cs
+AllChangesFit (c ∷ cs) = ChangeFits c × AllChangesFit cs
 
 abbrev pub MendedFits : Mended → Type 0
 MendedFits r = NumberFits (r .length) × NumberFits (r .changes .used) × AllChangesFit (r .changes .listed) × CheckedFits (r .checked)

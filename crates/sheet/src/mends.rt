@@ -7,7 +7,7 @@ ghost use lib.IntN.{natAbs};
 ghost use lib.ListN.{length};
 ghost use lib.Seq.{sets};
 ghost use Rattle.meaning.specs.Mending.{change, changeNumbers, changesIn};
-ghost use Rattle.sheet.specs.Fits.{NumberFits, AllChangesFit, MendedFits, UndoneFits};
+ghost use Rattle.sheet.specs.Fits.{ChangeFits, AllChangesFit, MendedFits, UndoneFits};
 ghost use Rattle.sheet.specs.Rows.{inRow, Given, laid, mendedCounts, mendNumbers, isCount, isByte, isChange, areChanges, changesHeld, inUndone};
 ghost use Rattle.sheet.specs.Sheet.{SheetMends, SheetUndoes};
 use crate::answers::give_count;
@@ -25,7 +25,7 @@ use mending::mend;
 use mending::undo;
 
 fn lay_change(change: Change, row: &mut [i64], at: usize)
-    requires { ⌜ (at + 4 ≤ length (now row)) × NumberFits (change .place) × NumberFits (change .before) × NumberFits (change .after) ⌝ }
+    requires { ⌜ (at + 4 ≤ length (now row)) × ChangeFits change ⌝ }
     ensures { λ _. ⌜ now (row .exit) ≡ sets (now (row .entry)) at (changeNumbers (change ∷ [])) ⌝ }
 {
     let place = entry(change.place as u64);
