@@ -8,7 +8,7 @@ use mathlib.Core.Path.{refl, sym, _∙_}
 use mir.Syntax.{w32}
 use mir.ValLaws.{toZ-ofZ}
 use Rattle.meaning.specs.OpenedBooks.{bookIn}
-use Rattle.sheet.proofs.ListFits.{line-fits}
+use Rattle.laws.proofs.Lists.{no-line-read}
 use Rattle.sheet.specs.Rows.{choicesOf}
 use Rattle.sheet.proofs.listed.sheet_read_line.Statement.{statement}
 use Rattle.sheet.proofs.listed.sheet_read_line.Tie as tie
@@ -33,31 +33,32 @@ returns-3 c =
     rw (le-leb (a .choices) 7 (omega arith), sym (m .before .is-book .ensures) ∙ not-false (m .before .is-book .result) (m .if2 .left), lt-leb 51 (length (now (a .answer))) (omega arith))
     (record { number = refl; row = refl })
 
+returns-4 : tie.Need-returns-4
+returns-4 c =
+    let room = c .before in
+    let m = room .before in
+    let a = m .before .before .before .before .before .before .args in
+    rw (le-leb (a .choices) 7 (omega arith), sym (m .before .is-book .ensures) ∙ not-false (m .before .is-book .result) (m .if2 .left), le-leb 51 (length (now (a .answer))) (omega (arith, room .if3 .left)), no-line-read (choicesOf (a .choices)) (bookIn (now (a .book))) (now (a .pattern)) (now (a .text)) (a .year) (a .at) (omega arith))
+    (record { number = refl; row = refl })
+
 choices-of-requires : tie.Need-choices-of-requires
 choices-of-requires c κs = search needs
 
-read-line-requires : tie.Need-read-line-requires
-read-line-requires c κs = search needs
-
 give-line-requires : tie.Need-give-line-requires
-give-line-requires c κs =
-    let s = c .before .before .before .before .before .before .before .before .before .before in
-    let a = s .args in
-    let reads = rw (toZ-ofZ w32 (a .year) (s .fits .year), c .before .before .choices-of .ensures) at (c .before .read-line .ensures) in
-    (search needs, rw reads (line-fits (choicesOf (a .choices)) (bookIn (now (a .book))) (now (a .pattern)) (now (a .text)) (a .year) (omega (arith, s .good .1 .1 .0 .1)) (omega (arith, s .good .1 .1 .1 .0 .1)) (s .fits .year) (a .at)))
+give-line-requires c κs = search needs
 
 same-length : tie.Need-same-length
 same-length c = search needs
 
-returns-4 : tie.Need-returns-4
-returns-4 c =
+returns-5 : tie.Need-returns-5
+returns-5 c =
     let room = c .before .before .before .before .before in
     let m = room .before in
     let s = m .before .before .before .before .before .before in
     let a = s .args in
-    let reads = rw (toZ-ofZ w32 (a .year) (s .fits .year), c .before .before .before .before .choices-of .ensures) at (c .before .before .before .read-line .ensures) in
-    rw (le-leb (a .choices) 7 (omega arith), sym (m .before .is-book .ensures) ∙ not-false (m .before .is-book .result) (m .if2 .left), le-leb 51 (length (now (a .answer))) (omega (arith, room .if3 .left)), ← reads)
-    (c .before .give-line .ensures)
+    let line = rw (toZ-ofZ w32 (a .year) (s .fits .year), c .before .before .before .choices-of .ensures) at (c .before .give-line .ensures) in
+    rw (le-leb (a .choices) 7 (omega arith), sym (m .before .is-book .ensures) ∙ not-false (m .before .is-book .result) (m .if2 .left), le-leb 51 (length (now (a .answer))) (omega (arith, room .if3 .left)))
+    line
 
 pub sheet-read-line-spec : {M : Type 1} → statement M
 sheet-read-line-spec =
@@ -67,8 +68,8 @@ sheet-read-line-spec =
     is-book-requires
     returns-2
     returns-3
+    returns-4
     choices-of-requires
-    read-line-requires
     give-line-requires
     same-length
-    returns-4)
+    returns-5)
