@@ -1,1 +1,2 @@
 mod Changes
+mod Counts

@@ -3,10 +3,10 @@ use mathlib.Core.Bool.{Bool, true, false}
 use mathlib.Core.List.{List, [], _∷_, _++_, map}
 use mathlib.Core.Option.{Option, none, some}
 use mathlib.Core.Path.{_≡_}
-use Prim.Native.Nat.{ℕ, _-_, _/_, _%_}
+use Prim.Native.Nat.{ℕ, _+_, _-_, _/_, _%_}
 use lib.Dec.{eqb, leb}
 use lib.IntN.{ℤ, pos, negsuc, natAbs}
-use lib.ListN.{length, replicate}
+use lib.ListN.{length, getD, replicate}
 use lib.Seq.{sets}
 use Rattle.meaning.specs.Answers.{Answer, accepted, refused, answerBy, readAnswer, bytesCheck}
 use Rattle.meaning.specs.Bytes.{when, both}
@@ -153,6 +153,18 @@ changesHeld (place ∷ []) = []
 changesHeld (place ∷ byte ∷ []) = []
 changesHeld (place ∷ byte ∷ before ∷ []) = []
 changesHeld (place ∷ byte ∷ before ∷ after ∷ zs) = change (natAbs place) (natAbs byte) (natAbs before) (natAbs after) ∷ changesHeld zs
+
+-- the four numbers at a place of a row
+
+abbrev pub entryAt : List ℤ → ℕ → ℤ
+entryAt zs at = getD zs at (pos 0)
+
+abbrev pub isChangeAt : List ℤ → ℕ → Bool
+isChangeAt zs at = isChange (entryAt zs at) (entryAt zs (at + 1)) (entryAt zs (at + 2)) (entryAt zs (at + 3))
+
+abbrev pub changeAt : List ℤ → ℕ → Change
+changeAt zs at =
+    change (natAbs (entryAt zs at)) (natAbs (entryAt zs (at + 1))) (natAbs (entryAt zs (at + 2))) (natAbs (entryAt zs (at + 3)))
 
 -- an undoing of the changes of a row; and in a row of two numbers, where a misfit is 104 and no number
 abbrev pub undoneBy : List ℕ → List ℤ → List ℕ → Undone

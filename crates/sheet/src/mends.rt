@@ -3,12 +3,11 @@ ghost use mathlib.Core.Bool.{true};
 ghost use mathlib.Core.List.{_∷_, []};
 ghost use mathlib.Core.Path.{_≡_};
 ghost use Prim.Native.Nat.{_+_, _≤_};
-ghost use lib.IntN.{natAbs};
 ghost use lib.ListN.{length};
 ghost use lib.Seq.{sets};
-ghost use Rattle.meaning.specs.Mending.{change, changeNumbers, changesIn};
+ghost use Rattle.meaning.specs.Mending.{changeNumbers, changesIn};
 ghost use Rattle.sheet.specs.Fits.{ChangeFits, AllChangesFit, MendedFits, UndoneFits};
-ghost use Rattle.sheet.specs.Rows.{inRow, Given, laid, mendedCounts, mendNumbers, isCount, isByte, isChange, areChanges, changesHeld, inUndone};
+ghost use Rattle.sheet.specs.Rows.{inRow, Given, laid, mendedCounts, mendNumbers, isCount, isByte, areChanges, changesHeld, isChangeAt, changeAt, inUndone};
 ghost use Rattle.sheet.specs.Sheet.{SheetMends, SheetUndoes};
 use crate::answers::give_count;
 use crate::answers::give_refusal;
@@ -108,22 +107,31 @@ fn is_byte(number: i64) -> bool
     true
 }
 
-fn is_change(place: i64, byte: i64, before: i64, after: i64) -> bool
-    ensures { λ r. ⌜ r ≡ isChange place byte before after ⌝ }
+fn is_change(row: &[i64], at: usize) -> bool
+    requires { ⌜ at + 4 ≤ length (now row) ⌝ }
+    ensures { λ r. ⌜ r ≡ isChangeAt (now (row .entry)) at ⌝ }
 {
-    is_count(place) && is_byte(byte) && is_count(before) && is_count(after)
+    if !is_count(row[at]) {
+        return false;
+    }
+    if !is_byte(row[at + 1]) {
+        return false;
+    }
+    if !is_count(row[at + 2]) {
+        return false;
+    }
+    is_count(row[at + 3])
 }
 
-// The change that four numbers are.
-fn change_of(place: i64, byte: i64, before: i64, after: i64) -> Change
-    requires { ⌜ isChange place byte before after ≡ true ⌝ }
-    ensures { λ r. ⌜ r ≡ change (natAbs place) (natAbs byte) (natAbs before) (natAbs after) ⌝ }
+fn change_at(row: &[i64], at: usize) -> Change
+    requires { ⌜ (at + 4 ≤ length (now row)) × (isChangeAt (now row) at ≡ true) ⌝ }
+    ensures { λ r. ⌜ r ≡ changeAt (now (row .entry)) at ⌝ }
 {
     Change {
-        place: place as usize,
-        byte: byte as u8,
-        before: before as usize,
-        after: after as usize,
+        place: row[at] as usize,
+        byte: row[at + 1] as u8,
+        before: row[at + 2] as usize,
+        after: row[at + 3] as usize,
     }
 }
 
@@ -136,7 +144,7 @@ fn are_changes(row: &[i64]) -> bool
     }
     let mut at = 0;
     while at < row.len() {
-        if !is_change(row[at], row[at + 1], row[at + 2], row[at + 3]) {
+        if !is_change(row, at) {
             return false;
         }
         at += 4;
@@ -153,8 +161,7 @@ fn changes_held(row: &[i64]) -> Changes
     let mut listed = empty.listed;
     let mut used = 0;
     while 4 * used < row.len() {
-        let at = 4 * used;
-        let change = change_of(row[at], row[at + 1], row[at + 2], row[at + 3]);
+        let change = change_at(row, 4 * used);
         listed[used] = change;
         used += 1;
     }

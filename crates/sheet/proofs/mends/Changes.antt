@@ -1,19 +1,19 @@
 -- The rows of changes: laid one by one, looked at, and read into a list.
-use mathlib.Core.Bool.{Bool, true, false}
+use mathlib.Core.Bool.{true, false}
 use mathlib.Core.List.{List, [], _∷_, _++_, append-nil}
 use mathlib.Core.Path.{_≡_, refl, sym, ap, _∙_}
 use Prim.Native.Nat.{ℕ, suc, _+_, _*_, _%_, _≤_, _<_}
 use native.Mathlib.Numerals.{add-one}
 use native.Mathlib.Omega.{arith}
-use lib.IntN.{ℤ, pos, natAbs}
+use lib.IntN.{ℤ, pos}
 use lib.ListN.{length, getD, take, drop, set, length-drop, drop-of-length-le}
 use lib.Seq.{sets, drop-cons, take-suc-set, append-snoc}
 use Rattle.laws.proofs.Laid.{sets-append}
 use Rattle.laws.proofs.Tests.{by-test, true-is-not-false, both-true}
 use Rattle.meaning.specs.Bytes.{both}
-use Rattle.meaning.specs.Mending.{change, noChange, changeNumbers}
+use Rattle.meaning.specs.Mending.{noChange, changeNumbers}
 use Rattle.meaning.specs.declared.Change.{Change}
-use Rattle.sheet.specs.Rows.{isChange, areChanges, changesHeld}
+use Rattle.sheet.specs.Rows.{isChange, areChanges, changesHeld, entryAt, isChangeAt, changeAt}
 
 -- laid: what lies in the row and what is still to be laid are all the changes
 
@@ -29,16 +29,6 @@ unfolding changeNumbers
 changes-end row cs i h = rw (drop-of-length-le cs h)
 
 -- looked at: the four numbers at a place
-
-abbrev pub entryAt : List ℤ → ℕ → ℤ
-entryAt row at = getD row at (pos 0)
-
-abbrev pub isChangeAt : List ℤ → ℕ → Bool
-isChangeAt row at = isChange (entryAt row at) (entryAt row (at + 1)) (entryAt row (at + 2)) (entryAt row (at + 3))
-
-abbrev pub changeAt : List ℤ → ℕ → Change
-changeAt row at =
-    change (natAbs (entryAt row at)) (natAbs (entryAt row (at + 1))) (natAbs (entryAt row (at + 2))) (natAbs (entryAt row (at + 3)))
 
 module _ (row : List ℤ) (at : ℕ) (h : at + 4 ≤ length row) where
   four : drop at row ≡ entryAt row at ∷ entryAt row (at + 1) ∷ entryAt row (at + 2) ∷ entryAt row (at + 3) ∷ drop (at + 4) row
