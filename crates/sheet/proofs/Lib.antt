@@ -4,4 +4,5 @@ pub mod Fits
 mod Halves
 pub mod Laying
 mod ListFits
+mod MendFits
 pub mod Rooms

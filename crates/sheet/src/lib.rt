@@ -4,6 +4,7 @@ pub mod answers;
 pub mod days;
 pub mod entries;
 pub mod listed;
+pub mod mends;
 pub mod named;
 pub mod readings;
 pub mod splits;
