@@ -1,6 +1,6 @@
 -- A promise that equates a result with a definition determines it: two results that it allows coincide, and so do two outputs.
 -- Then the promise of each public function; that of the check is `answers-coincide` in `trust`, that of the day of a number
--- `days-coincide` in `DayNumbers`.
+-- `days-coincide` in `DayNumbers`, that of a mending `mends-coincide` in `trust`.
 use mathlib.Core.Bool.{Bool}
 use mathlib.Core.List.{List}
 use mathlib.Core.Path.{_≡_, sym, _∙_}
@@ -8,7 +8,8 @@ use Prim.Native.Nat.{ℕ}
 use lib.IntN.{ℤ}
 use Rattle.meaning.specs.Answers.{Answer}
 use Rattle.meaning.specs.Names.{Book}
-use Rattle.meaning.specs.Promises.{SameAnswer, Splits, Writes, Reads, ParsesOffset, TellsRead, NumbersDay, OpensBook, WritesBook}
+use Rattle.meaning.specs.Promises.{SameAnswer, Splits, Writes, Reads, ParsesOffset, TellsRead, NumbersDay, OpensBook, WritesBook, Undoes}
+use Rattle.meaning.specs.declared.Change.{Change}
 use Rattle.meaning.specs.declared.Choices.{Choices}
 use Rattle.meaning.specs.declared.DayNumber.{DayNumber}
 use Rattle.meaning.specs.declared.Fields.{Fields}
@@ -17,6 +18,7 @@ use Rattle.meaning.specs.declared.Pair.{Pair}
 use Rattle.meaning.specs.declared.ParseUnit.{ParseUnit}
 use Rattle.meaning.specs.declared.Reading.{Reading}
 use Rattle.meaning.specs.declared.Split.{Split}
+use Rattle.meaning.specs.declared.Undone.{Undone}
 use Rattle.meaning.specs.declared.Wrote.{Wrote}
 
 pub determined : {A : Type 0} {d r s : A} → r ≡ d → s ≡ d → r ≡ s
@@ -56,3 +58,7 @@ opened-coincide s out w v = (same-determined (w .0) (v .0), determined (w .1) (v
 
 pub books-coincide : (row out : List ℕ) {r t : Wrote} {after after′ : List ℕ} → WritesBook row out r after → WritesBook row out t after′ → (r ≡ t) × (after ≡ after′)
 books-coincide row out w v = (same-determined (w .0) (v .0), determined (w .1) (v .1))
+
+-- mending::undo
+pub undoes-coincide : (p : List ℕ) (cs : List Change) (out : List ℕ) {r t : Undone} {after after′ : List ℕ} → Undoes p cs out r after → Undoes p cs out t after′ → (r ≡ t) × (after ≡ after′)
+undoes-coincide p cs out w v = (determined (w .0) (v .0), determined (w .1) (v .1))
