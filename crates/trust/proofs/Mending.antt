@@ -5,21 +5,26 @@ use mathlib.Core.List.{List, [], _∷_}
 use mathlib.Core.Path.{_≡_, refl, sym, _∙_}
 use Prim.Native.Nat.{ℕ, _+_, _≤_}
 use native.Mathlib.Omega.{arith}
-use lib.Dec.{eqb}
+use lib.Dec.{eqb, leb}
 use lib.IntN.{ℤ}
 use lib.ListN.{length}
-use Rattle.meaning.specs.Answers.{patternCheck, currentYearCheck}
+use borrow.Author.Tests.{leb-true}
+use Rattle.meaning.specs.Answers.{_else_, refuseUnless, roomCheck, patternCheck, currentYearCheck}
 use Rattle.meaning.specs.Mending.{mendPart, ownChange}
 use Rattle.meaning.specs.Splitting.{Content, run, quotes, quoted, unclosed, contents, lengthOf}
 use Rattle.meaning.specs.Trust.{trustCheck, Says}
 use Rattle.meaning.specs.Writing.{stepOf, steps}
+use Rattle.meaning.specs.declared.Change.{Change}
 use Rattle.meaning.specs.declared.Checked.{Checked}
 use Rattle.meaning.specs.declared.Checked.the-variants.{Fine, Refused}
 use Rattle.meaning.specs.declared.Edition.{Edition}
+use Rattle.meaning.specs.declared.Mended.{Mended}
 use Rattle.meaning.specs.declared.Pair.the-variants.{Full}
+use Rattle.meaning.specs.declared.Refusal.the-variants.{NoRoom, MendedTooLong}
 use Rattle.meaning.specs.declared.Verdict.{Verdict}
 use Rattle.meaning.specs.declared.Verdict.the-variants.{Yes}
-use Rattle.laws.proofs.Checks.{Accepted, else-fine, pattern-fine, fine-pattern}
+use Rattle.laws.proofs.Checks.{Accepted, else-fine, fine-unless, pattern-fine, fine-pattern}
+use Rattle.laws.proofs.Determined.{determined, same-determined}
 use Rattle.laws.proofs.PartBytes.{parts-joined}
 use Rattle.laws.proofs.PartsApart.{parts-stand-well}
 use Rattle.laws.proofs.Tests.{by-test, true-is-not-false, both-true, both-are, every}
@@ -30,7 +35,7 @@ use Rattle.trust.proofs.MendedNeeds.{isSame, same-part, changed-fails, 
 use Rattle.trust.proofs.MendedParts.{mended-joined, mended-well, mended-parts}
 use Rattle.trust.proofs.Verdicts.{verdict-says}
 use Rattle.trust.specs.Check.{meets, firstFailing, verdictBy, verdictOf}
-use Rattle.trust.specs.Mending.{fullSteps, gap, mended, changesFrom, changes, joinSpaces, mendedParts}
+use Rattle.trust.specs.Mending.{fullSteps, gap, mended, changesFrom, changes, joinSpaces, mendedParts, mendCheck, mendedBy, mend, Mends}
 use Rattle.trust.specs.Needs.{stepNeed}
 
 -- the checks of the mended pattern
@@ -113,3 +118,24 @@ unfolding verdictOf mended changes steps
 trusted-stays edition p current h =
     let hold = yes-holds edition 0 (fullSteps (contents p)) (checked-yes (trustCheck edition p current) (firstFailing edition 0 (fullSteps (contents p))) h) in
     (mended-joined edition (contents p) ∙ rw (parts-stay edition (contents p) hold) (parts-joined p), nothing-listed edition 0 (contents p) hold)
+
+checked-so : (c : Checked) (t : List ℕ) (cs : List Change) → mendedBy c t cs .checked ≡ c
+checked-so Fine t cs = refl
+checked-so (Refused why) t cs = refl
+
+-- Of a mending that is accepted, what the laws above ask for.
+pub accepted-mending : (edition : Edition) (p : List ℕ) (current : ℤ) (out : List ℕ) → (mend edition p current out) .checked ≡ Fine
+    → (trustCheck edition p current ≡ Fine) × (length (mended edition p) ≤ 256) × (length (mended edition p) ≤ length out)
+unfolding mend mendCheck
+accepted-mending edition p current out h =
+    let n = length (mended edition p) in
+    let long = refuseUnless (leb n 256) MendedTooLong in
+    let room = roomCheck (length out) n in
+    let a = else-fine (trustCheck edition p current) (long else room) (sym (checked-so (trustCheck edition p current else long else room) (mended edition p) (changes edition p)) ∙ h) in
+    let b = else-fine long room (a .1) in
+    (a .0, leb-true n 256 (fine-unless (leb n 256) MendedTooLong (b .0)), leb-true n (length out) (fine-unless (leb n (length out)) (NoRoom n) (b .1)))
+
+-- mending::mend
+pub mends-coincide : (edition : Edition) (p : List ℕ) (current : ℤ) (out : List ℕ) {r s : Mended} {after after′ : List ℕ}
+    → Mends edition p current out r after → Mends edition p current out s after′ → (r ≡ s) × (after ≡ after′)
+mends-coincide edition p current out w v = (same-determined (w .0) (v .0), determined (w .1) (v .1))

@@ -2,6 +2,7 @@
 use mathlib.Core.List.{List, [], _∷_}
 use mathlib.Core.Path.{_≡_, refl}
 use Prim.Native.Char.{code}
+use Prim.Native.Nat.{ℕ}
 use Prim.Native.String.{String}
 use Rattle.meaning.proofs.Tables.{Sample, _↦′_, Answered}
 use Rattle.meaning.specs.Bytes.{bytes, quote}
@@ -10,7 +11,6 @@ use Rattle.meaning.specs.declared.Change.{Change}
 use Rattle.meaning.specs.declared.Edition.{Edition}
 use Rattle.meaning.specs.declared.Edition.the-variants.{First, Second}
 use Rattle.trust.specs.Mending.{mended, changes}
-use Prim.Native.Nat.{ℕ}
 
 pub record Mending : Type 0 where
   pub pattern : List ℕ

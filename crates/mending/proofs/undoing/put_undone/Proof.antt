@@ -79,7 +79,7 @@ put-times-requires c κs =
     omega (arith, room (c .before .before .before .before .before .before .before), kept (c .before .before .before .before .before .before .before), wrote .ensures .end, wrote .kept .1 .0)
 
 add-at : tie.Need-add-at Inv-loop μ-loop
-add-at c = omega (arith, fit (c .before .before .before .before .before .before .before .before .before .before .before) .inside)
+add-at c = let f = fit (c .before .before .before .before .before .before .before .before .before .before .before) in omega (arith, f .adds, f .inside)
 
 add-i : tie.Need-add-i Inv-loop μ-loop
 add-i c = omega (arith, few (c .before .before .before .before .before .before .before .before .before .before .before))
