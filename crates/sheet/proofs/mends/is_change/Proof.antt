@@ -1,10 +1,27 @@
+-- The tests of the four numbers, one by one.
+use Prim.Native.Nat.{_+_}
+use borrow.Author.Tests.{not-true, not-false}
+use denote.Ref.{now}
+use mathlib.Core.Path.{_≡_, sym, ap, _∙_}
+use mir.Syntax.{w64}
+use mir.ValLaws.{toZ-ofZ}
+use Rattle.sheet.specs.Rows.{isCount, isByte, entryAt}
 use borrow.Author.Needs.{needs}
 use Rattle.sheet.proofs.mends.is_change.Statement.{statement}
 use Rattle.sheet.proofs.mends.is_change.Tie as tie
-use Rattle.sheet.proofs.mends.is_change.Reads as reads
-use Rattle.sheet.proofs.mends.is_change.Lts as lts
-use Rattle.sheet.proofs.mends.is_byte.Reads as is-byte-reads
-use Rattle.sheet.proofs.mends.is_count.Reads as is-count-reads
+
+-- what each call says of its number
+module _ (c : tie.After-is-count) where
+  place-told : c .is-count .result ≡ isCount (entryAt (now (c .before .before .args .row)) (c .before .before .args .at))
+  place-told = c .is-count .ensures ∙ ap isCount (toZ-ofZ w64 _ (record { sfits = c .before .is-count-arg .given }))
+
+module _ (c : tie.After-is-byte) where
+  byte-told : c .is-byte .result ≡ isByte (entryAt (now (c .before .before .before .before .before .args .row)) (c .before .before .before .before .before .args .at + 1))
+  byte-told = c .is-byte .ensures ∙ ap isByte (toZ-ofZ w64 _ (record { sfits = c .before .is-byte-arg .given }))
+
+module _ (c : tie.After-is-count2) where
+  before-told : c .is-count2 .result ≡ isCount (entryAt (now (c .before .before .before .before .before .before .before .before .args .row)) (c .before .before .before .before .before .before .before .before .args .at + 2))
+  before-told = c .is-count2 .ensures ∙ ap isCount (toZ-ofZ w64 _ (record { sfits = c .before .is-count-arg2 .given }))
 
 mul-is-count : tie.Need-mul-is-count
 mul-is-count c = search needs
@@ -16,7 +33,7 @@ is-count-requires : tie.Need-is-count-requires
 is-count-requires c κs = search needs
 
 returns : tie.Need-returns
-returns c = ?
+returns c = rw (sym (place-told (c .before)) ∙ not-true (c .before .is-count .result) (c .if1 .taken))
 
 add-is-byte : tie.Need-add-is-byte
 add-is-byte c = search needs
@@ -31,7 +48,9 @@ is-byte-requires : tie.Need-is-byte-requires
 is-byte-requires c κs = search needs
 
 returns-2 : tie.Need-returns-2
-returns-2 c = ?
+returns-2 c =
+    let first = c .before .before .before in
+    rw (sym (place-told (first .before)) ∙ not-false (first .before .is-count .result) (first .if1 .left), sym (byte-told (c .before)) ∙ not-true (c .before .is-byte .result) (c .if2 .taken))
 
 add-is-count : tie.Need-add-is-count
 add-is-count c = search needs
@@ -46,7 +65,10 @@ is-count-requires-2 : tie.Need-is-count-requires-2
 is-count-requires-2 c κs = search needs
 
 returns-3 : tie.Need-returns-3
-returns-3 c = ?
+returns-3 c =
+    let second = c .before .before .before in
+    let first = second .before .before .before in
+    rw (sym (place-told (first .before)) ∙ not-false (first .before .is-count .result) (first .if1 .left), sym (byte-told (second .before)) ∙ not-false (second .before .is-byte .result) (second .if2 .left), sym (before-told (c .before)) ∙ not-true (c .before .is-count2 .result) (c .if3 .taken))
 
 add-is-count-2 : tie.Need-add-is-count-2
 add-is-count-2 c = search needs
@@ -61,7 +83,12 @@ is-count-requires-3 : tie.Need-is-count-requires-3
 is-count-requires-3 c κs = search needs
 
 returns-4 : tie.Need-returns-4
-returns-4 c = ?
+returns-4 c =
+    let third = c .before .before in
+    let second = third .before .before .before in
+    let first = second .before .before .before in
+    rw (sym (place-told (first .before)) ∙ not-false (first .before .is-count .result) (first .if1 .left), sym (byte-told (second .before)) ∙ not-false (second .before .is-byte .result) (second .if2 .left), sym (before-told (third .before)) ∙ not-false (third .before .is-count2 .result) (third .if3 .left))
+    (c .is-count3 .ensures ∙ ap isCount (toZ-ofZ w64 _ (record { sfits = c .before .is-count-arg3 .given })))
 
 pub is-change-spec : {M : Type 1} → statement M
 is-change-spec =
