@@ -41,11 +41,13 @@ returns c =
     let used = changes .before .before .entry2 in
     let length = changes .before .before .before .entry in
     let fine = changes .before .before .before .before .enum-told .given .1 in
-    rw fine
-    (record {
-      number = refl;
-      row = c .before .lay .ensures ∙ rw (stored (length .result) (length .ok), length .ensures, stored (used .result) (used .ok), used .ensures);
-    }, changes .lay-changes .ensures)
+    rw fine (
+      record {
+        number = refl;
+        row = c .before .lay .ensures ∙ rw (stored (length .result) (length .ok), length .ensures, stored (used .result) (used .ok), used .ensures);
+      },
+      changes .lay-changes .ensures,
+    )
 
 same-length-3 : tie.Need-same-length-3
 same-length-3 c = search needs

@@ -11,17 +11,28 @@ use Rattle.sheet.proofs.mends.is_change.Statement.{statement}
 use Rattle.sheet.proofs.mends.is_change.Tie as tie
 
 -- what each call says of its number
-module _ (c : tie.After-is-count) where
-  place-told : c .is-count .result ≡ isCount (entryAt (now (c .before .before .args .row)) (c .before .before .args .at))
-  place-told = c .is-count .ensures ∙ ap isCount (toZ-ofZ w64 _ (record { sfits = c .before .is-count-arg .given }))
 
-module _ (c : tie.After-is-byte) where
-  byte-told : c .is-byte .result ≡ isByte (entryAt (now (c .before .before .before .before .before .args .row)) (c .before .before .before .before .before .args .at + 1))
-  byte-told = c .is-byte .ensures ∙ ap isByte (toZ-ofZ w64 _ (record { sfits = c .before .is-byte-arg .given }))
+place-told : (c : tie.After-is-count) → c .is-count .result ≡ isCount (entryAt (now (c .before .before .args .row)) (c .before .before .args .at))
+place-told c =
+    let a = c .before .before .args in
+    let z = entryAt (now (a .row)) (a .at) in
+    c .is-count .ensures ∙ ap isCount (toZ-ofZ w64 z (record { sfits = c .before .is-count-arg .given }))
 
-module _ (c : tie.After-is-count2) where
-  before-told : c .is-count2 .result ≡ isCount (entryAt (now (c .before .before .before .before .before .before .before .before .args .row)) (c .before .before .before .before .before .before .before .before .args .at + 2))
-  before-told = c .is-count2 .ensures ∙ ap isCount (toZ-ofZ w64 _ (record { sfits = c .before .is-count-arg2 .given }))
+byte-told : (c : tie.After-is-byte) →
+    let a = c .before .before .before .before .before .args in
+    c .is-byte .result ≡ isByte (entryAt (now (a .row)) (a .at + 1))
+byte-told c =
+    let a = c .before .before .before .before .before .args in
+    let z = entryAt (now (a .row)) (a .at + 1) in
+    c .is-byte .ensures ∙ ap isByte (toZ-ofZ w64 z (record { sfits = c .before .is-byte-arg .given }))
+
+before-told : (c : tie.After-is-count2) →
+    let a = c .before .before .before .before .before .before .before .before .args in
+    c .is-count2 .result ≡ isCount (entryAt (now (a .row)) (a .at + 2))
+before-told c =
+    let a = c .before .before .before .before .before .before .before .before .args in
+    let z = entryAt (now (a .row)) (a .at + 2) in
+    c .is-count2 .ensures ∙ ap isCount (toZ-ofZ w64 z (record { sfits = c .before .is-count-arg2 .given }))
 
 mul-is-count : tie.Need-mul-is-count
 mul-is-count c = search needs
@@ -87,8 +98,10 @@ returns-4 c =
     let third = c .before .before in
     let second = third .before .before .before in
     let first = second .before .before .before in
+    let a = first .before .before .before .args in
+    let z = entryAt (now (a .row)) (a .at + 3) in
     rw (sym (place-told (first .before)) ∙ not-false (first .before .is-count .result) (first .if1 .left), sym (byte-told (second .before)) ∙ not-false (second .before .is-byte .result) (second .if2 .left), sym (before-told (third .before)) ∙ not-false (third .before .is-count2 .result) (third .if3 .left))
-    (c .is-count3 .ensures ∙ ap isCount (toZ-ofZ w64 _ (record { sfits = c .before .is-count-arg3 .given })))
+    (c .is-count3 .ensures ∙ ap isCount (toZ-ofZ w64 z (record { sfits = c .before .is-count-arg3 .given })))
 
 pub is-change-spec : {M : Type 1} → statement M
 is-change-spec =
