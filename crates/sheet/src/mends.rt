@@ -83,7 +83,11 @@ pub extern "C" fn sheet_mend(
     if changes.len() < 512 || answer.len() < 2 {
         return 100;
     }
-    give_mended(mend(edition_of(choices), pattern, year, out), changes, answer)
+    give_mended(
+        mend(edition_of(choices), pattern, year, out),
+        changes,
+        answer,
+    )
 }
 
 fn is_count(number: i64) -> bool

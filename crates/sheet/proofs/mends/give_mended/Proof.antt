@@ -1,3 +1,6 @@
+-- The two counts and the changes where the check passes, and else the refusal alone.
+use mathlib.Core.Path.{refl, _∙_}
+use Rattle.sheet.proofs.entries.Stored.{stored}
 use borrow.Author.Needs.{needs}
 use Rattle.sheet.proofs.mends.give_mended.Statement.{statement}
 use Rattle.sheet.proofs.mends.give_mended.Tie as tie
@@ -24,7 +27,7 @@ enum-known-checked : tie.Need-enum-known-checked
 enum-known-checked c = search needs
 
 give-refusal-requires : tie.Need-give-refusal-requires
-give-refusal-requires c κs = ?
+give-refusal-requires c κs = (search needs, search needs, rw (c .before .before .checked .given .1) at (c .before .before .before .before .pre .2 .3))
 
 same-length : tie.Need-same-length
 same-length c = search needs
@@ -33,13 +36,24 @@ same-length-2 : tie.Need-same-length-2
 same-length-2 c = search needs
 
 returns : tie.Need-returns
-returns c = ?
+returns c =
+    let changes = c .before .before .before .before .before in
+    let used = changes .before .before .entry2 in
+    let length = changes .before .before .before .entry in
+    let fine = changes .before .before .before .before .enum-told .given .1 in
+    rw fine (
+      record {
+        number = refl;
+        row = c .before .lay .ensures ∙ rw (stored (length .result) (length .ok), length .ensures, stored (used .result) (used .ok), used .ensures);
+      },
+      changes .lay-changes .ensures,
+    )
 
 same-length-3 : tie.Need-same-length-3
 same-length-3 c = search needs
 
 returns-2 : tie.Need-returns-2
-returns-2 c = ?
+returns-2 c = rw (c .before .before .before .before .checked .given .1) (c .before .give-refusal .ensures, refl)
 
 pub give-mended-spec : {M : Type 1} → statement M
 give-mended-spec =

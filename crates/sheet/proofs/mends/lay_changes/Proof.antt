@@ -2,7 +2,7 @@
 use Prim.Native.Nat.{_-_, _*_, _≤_, _<_}
 use borrow.Author.Needs.{needs}
 use denote.Ref.{now}
-use lib.ListN.{length, drop}
+use lib.ListN.{length, drop, length-map}
 use lib.Seq.{sets}
 use mathlib.Core.Path.{_≡_, refl, sym, _∙_}
 use native.Mathlib.Omega.{arith}
@@ -47,7 +47,7 @@ loop-again : tie.Need-loop-again Inv-loop μ-loop
 loop-again c =
     let l = c .before .before .before .before .before in
     let cs = l .before .args .t1 .listed in
-    let long : length cs ≡ 128 = search (needs, l .before .good .0) in
+    let long : length cs ≡ 128 = sym (length-map cs _) ∙ l .before .good .0 .1 .1 .0 .1 .0 .1 in
     let few : l .loop .i < 128 = omega (arith, c .before .before .before .before .loop-test .taken) in
     let here : l .loop .i < length cs = omega (arith, few, long) in
     (rw (c .before .lay-change .ensures) (changes-turn (l .loop .row) cs (l .loop .i) here ∙ l .loop .inv .0), omega (arith, c .before .lay-change .kept .1 .0, l .loop .inv .1), omega (arith, few))
@@ -59,7 +59,7 @@ returns : tie.Need-returns Inv-loop μ-loop
 returns c =
     let l = c .before in
     let cs = l .before .args .t1 .listed in
-    let long : length cs ≡ 128 = search (needs, l .before .good .0) in
+    let long : length cs ≡ 128 = sym (length-map cs _) ∙ l .before .good .0 .1 .1 .0 .1 .0 .1 in
     let all : length cs ≤ l .loop .i = omega (arith, long, c .loop-test .left) in
     sym (changes-end (l .loop .row) cs (l .loop .i) all) ∙ l .loop .inv .0
 
