@@ -1,5 +1,5 @@
 //! The benchmark: ours beside the Rust, glibc, ICU and, for days, chrono, time and java.time, in one run on the machine that it was built on;
-//! and ours with a name book beside ours without.
+//! ours with a name book beside ours without; and whole lists beside loops.
 #![cfg_attr(not(icu), allow(dead_code))]
 
 mod agreement;
@@ -10,6 +10,7 @@ mod glibc;
 #[cfg(icu)]
 mod icu;
 mod java;
+mod lists;
 mod machine;
 mod measure;
 #[cfg(others)]
@@ -34,7 +35,7 @@ use std::fs;
 use std::process::ExitCode;
 
 const USAGE: &str =
-    "usage: bench PICTURE.svg\n       bench calls CONTENDER write|read|check ROW CALLS\n       bench days\n       bench books\n       bench stack";
+    "usage: bench PICTURE.svg\n       bench calls CONTENDER write|read|check ROW CALLS\n       bench days\n       bench books\n       bench lists\n       bench stack";
 
 fn main() -> ExitCode {
     let words: Vec<String> = args().skip(1).collect();
@@ -46,6 +47,7 @@ fn main() -> ExitCode {
         }
         ["days"] => days::table().map(|table| print!("{table}")),
         ["books"] => books::table(&records()).map(|table| print!("{table}")),
+        ["lists"] => lists::table().map(|table| print!("{table}")),
         [picture] => run(picture),
         ["calls", contender, op, row, calls] => only_calls(contender, op, row, calls),
         _ => Err(USAGE.to_string()),
@@ -82,6 +84,7 @@ fn run(picture: &str) -> Result<(), String> {
     let growths = measure::grown(&records);
     println!("{}", table::growths(&growths));
     println!("{}", books::table(&records)?);
+    println!("{}", lists::table()?);
     println!("{}", days::table()?);
     fs::write(picture, plot::picture(&machine_and_day, &written, &read, &growths))
         .map_err(|why| format!("{picture}: {why}"))?;

@@ -146,6 +146,53 @@ fn of_both_by(book: &[u8], pattern: &[u8], f: &Fields, text: &[u8]) -> [usize; 2
     ]
 }
 
+/// A list of two lines that are the text, and its first line.
+fn of_lists(book: &[u8], pattern: &[u8], text: &[u8]) -> [usize; 2] {
+    let list = [text, text].join(&b'\n');
+    let (b, p, t) = (
+        (book.as_ptr(), book.len()),
+        (pattern.as_ptr(), pattern.len()),
+        (list.as_ptr(), list.len()),
+    );
+    let (mut days, mut months, mut years, mut codes) = ([0; 2], [0; 2], [0; 2], [0; 2]);
+    let (d, m, y, c) = (
+        days.as_mut_ptr(),
+        months.as_mut_ptr(),
+        years.as_mut_ptr(),
+        codes.as_mut_ptr(),
+    );
+    let (mut listed, mut line) = ([0; raw::LIST_ANSWER], [0; raw::LINE_ANSWER]);
+    let (l, l_len, a, a_len) = (listed.as_mut_ptr(), listed.len(), line.as_mut_ptr(), line.len());
+    // SAFETY: each pointer goes with the length of the slice that it comes from.
+    unsafe {
+        [
+            depth(|| {
+                raw::sheet_read_list(
+                    0,
+                    b.0,
+                    b.1,
+                    p.0,
+                    p.1,
+                    t.0,
+                    t.1,
+                    CURRENT_YEAR,
+                    d,
+                    2,
+                    m,
+                    2,
+                    y,
+                    2,
+                    c,
+                    2,
+                    l,
+                    l_len,
+                )
+            }),
+            depth(|| raw::sheet_read_line(0, b.0, b.1, p.0, p.1, t.0, t.1, 0, CURRENT_YEAR, a, a_len)),
+        ]
+    }
+}
+
 /// A book read and written.
 fn of_books(book: &[u8]) -> [(&'static str, usize); 2] {
     let mut answer = [0; raw::BOOK_ANSWER];
@@ -201,6 +248,7 @@ fn depths(book: &[u8], pattern: &[u8], f: &Fields) -> Vec<usize> {
     let (write, length) = of_write(raw::sheet_write, pattern, f, &mut out);
     let text = out[..length].to_vec();
     let [write_by, read_by] = of_both_by(book, pattern, f, &text);
+    let [list, line] = of_lists(book, pattern, &text);
     vec![
         write,
         of_write(raw::sheet_write, pattern, f, &mut out[..length]).0,
@@ -210,13 +258,15 @@ fn depths(book: &[u8], pattern: &[u8], f: &Fields) -> Vec<usize> {
         of_read(raw::sheet_read_date, pattern, &text),
         write_by,
         read_by,
+        list,
+        line,
         of_check(pattern),
         of_rows(raw::sheet_split, pattern),
         of_rows(raw::sheet_units, pattern),
     ]
 }
 
-const FUNCTIONS: [&str; 11] = [
+const FUNCTIONS: [&str; 13] = [
     "write",
     "write, room to the byte",
     "write, a byte too little",
@@ -225,6 +275,8 @@ const FUNCTIONS: [&str; 11] = [
     "read_date",
     "write_by a book",
     "read_by a book",
+    "read_list by a book",
+    "read_line by a book",
     "check",
     "split",
     "units",

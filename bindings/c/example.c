@@ -1,6 +1,6 @@
 /* Writes a record by a pattern, reads it back, underlines what was read, shows what the parts of a pattern are, checks a pattern,
- * reads strictly, reads and checks in the second edition, shows a refusal, places a bar of a chart, and writes and reads with the
- * names of a book, which it finds where it is run at the root of the repository. */
+ * reads strictly, reads and checks in the second edition, shows a refusal, places a bar of a chart, writes and reads with the
+ * names of a book, which it finds where it is run at the root of the repository, and reads a list. */
 #include "sheet.h"
 
 #include <inttypes.h>
@@ -220,6 +220,24 @@ static void show_a_bad_name(const char *path) {
         printf("a book is refused with %" PRIu32 ": %s, name %" PRId64 "\n", number, sheet_refusal_text(number), answer[0]);
 }
 
+/* Of no more lines than there is room for. */
+static void read_a_list(const char *pattern, const char *text) {
+    enum { MOST = 8 };
+    int32_t days[MOST], months[MOST], years[MOST];
+    uint32_t codes[MOST];
+    int64_t answer[SHEET_LIST_ANSWER];
+    if (sheet_read_list(0, NULL, 0, bytes(pattern), strlen(pattern), bytes(text), strlen(text), CURRENT_YEAR, days, MOST,
+                        months, MOST, years, MOST, codes, MOST, answer, SHEET_LIST_ANSWER) != SHEET_ACCEPTED)
+        return;
+    printf("%s reads a list of %" PRId64 " lines:\n", pattern, answer[0]);
+    for (int64_t line = 0; line < answer[0]; line++) {
+        if (codes[line] == SHEET_ACCEPTED)
+            printf("  day %" PRId32 " of month %" PRId32 "\n", days[line], months[line]);
+        else
+            printf("  %s\n", sheet_refusal_text(codes[line]));
+    }
+}
+
 int main(void) {
     write_and_read_back("yyyy/MM/dd");
     underline_what_is_read("d MMMM y", "3 December -12");
@@ -236,5 +254,6 @@ int main(void) {
     show_a_day_that_is_not_there(2026, 2, 29);
     write_and_read_with_a_book("books/dutch.lnb", "eeee d MMMM");
     show_a_bad_name("books/dutch.lnb");
+    read_a_list("d/MM", "3/12\nsoon\n24/12");
     return 0;
 }

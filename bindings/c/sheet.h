@@ -1,8 +1,9 @@
 /* sheet.h: dates, times and zone offsets by patterns such as yyyy/MM/dd, and the numbers of days, for C and C++.
  *
  * What is lent. A pattern or a text is bytes with their number and needs no zero byte at its end. Text goes to `out`, numbers
- * go to the rows `answer`, `parts` and `units`, which are aligned as int64_t is. An opened book is bytes too. What a function may
- * alter must overlap nothing else that it is lent. Nothing is kept after the return, and no memory is asked for.
+ * go to the rows `answer`, `parts` and `units`, which are aligned as int64_t is, and those of a list to the rows `days`, `months`,
+ * `years` and `codes`, aligned as int32_t is. An opened book is bytes too. What a function may alter must overlap nothing else that
+ * it is lent. Nothing is kept after the return, and no memory is asked for.
  *
  * Lengths. A length says how many bytes or entries stand behind the pointer, and never more, not even where the pattern or the
  * text is too long and will be refused. A null pointer with the length 0 is an empty slice. What is proved of the functions is
@@ -11,13 +12,14 @@
  * Threads and stack. The functions have no state: any thread may call any of them at any time, with rows and an `out` that no
  * other thread uses meanwhile. A call takes no more than SHEET_MOST_STACK bytes of the stack.
  *
- * What is returned. SHEET_ACCEPTED; or the number of a refusal, 1 to 23; or SHEET_ROW_TOO_SMALL where a row has fewer entries than
- * the function asks for, SHEET_NO_SUCH_CHOICE where a number stands for no choices, or SHEET_NO_BOOK where bytes are lent as an
- * opened book that are none: then nothing is altered.
+ * What is returned. SHEET_ACCEPTED; or the number of a refusal, 1 to 24; or SHEET_ROW_TOO_SMALL where a row has fewer entries than
+ * the function asks for, SHEET_NO_SUCH_CHOICE where a number stands for no choices, SHEET_NO_BOOK where bytes are lent as an
+ * opened book that are none, or SHEET_NO_LINE where a text has no line at a place: then nothing is altered.
  *
  * What is altered. Accepted, the first entries of `answer`, as many as the function asks for, are what its comment says, and a
- * writer alters so many bytes of `out` as it answers, as sheet_book_read does of `book`. Refused, these entries are the refusal's
- * details, then zeros, and none of `out`, `book`, `parts` and `units` is altered. Nothing behind them ever is.
+ * writer alters so many bytes of `out` as it answers, as sheet_book_read does of `book`, and sheet_read_list so many entries of
+ * each of its rows. Refused, the entries of `answer` are the refusal's details, then zeros, and nothing else is altered;
+ * sheet_read_line says first where the line is. Nothing behind them ever is.
  *
  * Parts of a pattern and places in a pattern or a text are counted from 0. docs/SPECIFICATION.md says what a pattern means.
  */
@@ -44,9 +46,9 @@ extern "C" {
 /* A writer needs no more than so many bytes of output for each byte of the pattern, so SHEET_LONGEST_TEXT are always enough. */
 #define SHEET_BYTES_A_PATTERN_BYTE 8
 
-/* No call takes more bytes of the stack. As measured on x86-64, a write takes 1,272 at most, with names, a read 1,448,
- * sheet_day 1,632, which lays a table, opening or writing a book 928, and the other functions under 260. */
-#define SHEET_MOST_STACK 2048
+/* No call takes more bytes of the stack. As measured on x86-64, a write takes 1,272 at most, with names, a read 1,992,
+ * a line of a list 2,040, sheet_day 1,632, which lays a table, opening or writing a book 928, and the other functions under 260. */
+#define SHEET_MOST_STACK 2304
 
 /* An opened book: 64 rooms of 21 bytes, one for each name in book order. In a room stand a byte that is the length of the name,
  * the name, which has 20 letters at most, and then zeros. */
@@ -70,6 +72,8 @@ extern "C" {
 #define SHEET_DAY_ANSWER 6
 #define SHEET_DAY_NUMBER_ANSWER 2
 #define SHEET_BOOK_ANSWER 2
+#define SHEET_LIST_ANSWER 2
+#define SHEET_LINE_ANSWER 51
 
 /* What is returned. Behind a refusal stand its details, which are the first one or two entries of `answer`. */
 #define SHEET_ACCEPTED 0
@@ -96,9 +100,11 @@ extern "C" {
 #define SHEET_BOOK_VERSION 21    /* a book of another version than 1 and 2: 0 */
 #define SHEET_BOOK_LENGTH 22     /* a book that is cut short, or one of version 1 with bytes behind its names: 0 */
 #define SHEET_BOOK_NAME 23       /* a name of a book that breaks a rule: the number of the first, 1 to 64 in book order */
+#define SHEET_SHORT_ROW 24       /* a row for a list has fewer entries than the text has lines: 0 */
 #define SHEET_ROW_TOO_SMALL 100  /* a row is too small: nothing is altered, and there are no details */
 #define SHEET_NO_SUCH_CHOICE 101 /* a number that stands for no choices: likewise */
 #define SHEET_NO_BOOK 102        /* bytes that are no opened book: likewise */
+#define SHEET_NO_LINE 103        /* a place at or behind the end of the text, where no line is left: likewise */
 
 /* The choices of a reading, which are added: dates alone; a strict reading; the second edition. */
 #define SHEET_DATE_PAIR 1
@@ -130,6 +136,9 @@ extern "C" {
 #define SHEET_READ_VALUES 3
 #define SHEET_READ_STARTS 18
 #define SHEET_READ_ENDS 33
+
+/* Where in `answer` of sheet_read_line the reading starts, as sheet_read answers it. */
+#define SHEET_LINE_READING 3
 
 /* The kinds of part: a run of equal bytes, escaped quotes, a quoted part, one that no quote closes. */
 #define SHEET_RUN 0
@@ -241,6 +250,30 @@ uint32_t sheet_write_by(uint32_t choices, const uint8_t *book, size_t book_len, 
 uint32_t sheet_read_by(uint32_t choices, const uint8_t *book, size_t book_len, const uint8_t *pattern, size_t pattern_len,
                        const uint8_t *text, size_t text_len, int32_t year, int64_t *answer, size_t answer_len);
 
+/* Reads a list: each line of a text by one pattern, by itself, as sheet_read_by reads a text, with the same choices and books. A
+ * newline, the byte 10, ends a line and is not of it; a last line without one counts; an empty text has no line. A carriage return
+ * is a byte of its line like any other. A line may have SHEET_LONGEST_TEXT bytes, the text may have any number.
+ * Line k, counted from 0, gets entry k of the four rows: in `codes` 0 where it was read, else the number of its refusal; in `days`,
+ * `months` and `years` the values that were read, and 0 where one was not or where the line was refused. Entries behind those of
+ * the last line are not altered. The rows need not have the same length.
+ * SHEET_NO_SUCH_CHOICE, SHEET_NO_BOOK and SHEET_ROW_TOO_SMALL, for `answer`, come in this order and before all refusals.
+ * Answers: how many lines, and 0; a line that is refused spoils no other.
+ * Refuses: 1, 2, 3, 14, then 24 where one of the four rows is too short, before any entry of them is altered. */
+uint32_t sheet_read_list(uint32_t choices, const uint8_t *book, size_t book_len, const uint8_t *pattern, size_t pattern_len,
+                         const uint8_t *text, size_t text_len, int32_t year, int32_t *days, size_t days_len, int32_t *months,
+                         size_t months_len, int32_t *years, size_t years_len, uint32_t *codes, size_t codes_len,
+                         int64_t *answer, size_t answer_len);
+
+/* Reads one line of a list, the one that starts at the place `at` of the text, for an editor that shows lines as they come. From 0
+ * on, each next one at the place that is answered, it gives the lines of sheet_read_list in their order.
+ * Where `at` is not below the length of the text there is no line, and SHEET_NO_LINE is returned, behind SHEET_NO_SUCH_CHOICE,
+ * SHEET_NO_BOOK and SHEET_ROW_TOO_SMALL. A place inside a line is taken for the start of one.
+ * Answers: where the line starts, which is `at`; where it ends, which is before its newline; where the next one starts; then, from
+ * SHEET_LINE_READING on, the line's own answer as sheet_read_by gives it, with places counted from the start of the line.
+ * Refuses: as sheet_read_by refuses the line; the first three entries are as above then too, the details stand behind them. */
+uint32_t sheet_read_line(uint32_t choices, const uint8_t *book, size_t book_len, const uint8_t *pattern, size_t pattern_len,
+                         const uint8_t *text, size_t text_len, size_t at, int32_t year, int64_t *answer, size_t answer_len);
+
 /* Says whether a pattern can be trusted to read back what it wrote, for every record; `year` is the current year. It takes no
  * book, as its answer is the same with every book that can be opened, and the record that is shown fails with every one.
  * Answers: yes is 1, then zeros; no is 0, the first part that does not come back for some record, and the eight fields of such
@@ -295,9 +328,11 @@ static inline const char *sheet_refusal_text(uint32_t number) {
     case SHEET_BOOK_VERSION: return "the book is of another version than 1 and 2";
     case SHEET_BOOK_LENGTH: return "the book is cut short, or goes on behind its names";
     case SHEET_BOOK_NAME: return "the book has a bad name";
+    case SHEET_SHORT_ROW: return "a row is shorter than the lines";
     case SHEET_ROW_TOO_SMALL: return "a row for the answer is too small";
     case SHEET_NO_SUCH_CHOICE: return "there is no such choice";
     case SHEET_NO_BOOK: return "the bytes are no opened book";
+    case SHEET_NO_LINE: return "no line is left at that place";
     default: return "no such number";
     }
 }

@@ -6,7 +6,8 @@
 //! line; where it doesn't, the line is the specification's number for the way it stopped, read off its wording, with the part
 //! and the place that it had come to. In the second edition, which the Rust does not have either, it decides with other parts in
 //! the place of those that are read otherwise. With a book it decides with the book's names for its own; a book that is refused
-//! decides before, and the specification decides alone what is read of a book or written as one.
+//! decides before, and the specification decides alone what is read of a book or written as one. The lines of a list are each
+//! decided as a read of that line.
 
 use crate::answer::{self, as_pattern, as_text};
 use crate::below;
@@ -14,8 +15,9 @@ use crate::book;
 use crate::choices::Choices;
 use crate::days;
 use crate::limits::{
-    day_limit, field_limit, pattern_limit, refused, room_limit, text_limit, year_limit,
+    day_limit, field_limit, pattern_limit, refused, room_limit, rows_limit, text_limit, year_limit,
 };
+use crate::lists;
 use crate::minus::with_plus;
 use crate::names;
 use crate::pluses::{plus_in, IN_AN_OFFSET};
@@ -87,6 +89,17 @@ fn first_limit(request: &Request) -> Option<Expected> {
             let wrote = |bytes: &Vec<u8>| answer::wrote(bytes);
             Some(of_a_book(book::write(names, *room), wrote))
         }
+        Request::List {
+            choices,
+            pattern,
+            text,
+            now,
+            rows,
+            ..
+        } => limit(pattern_limit(pattern))
+            .or_else(|| lone_quote(pattern).map(Expected::Refused))
+            .or_else(|| limit(year_limit(choices.edition, *now)))
+            .or_else(|| limit(rows_limit(lists::lines(text).len(), *rows))),
     }
 }
 
@@ -164,6 +177,13 @@ fn from_the_rust(request: &Request) -> Expected {
         Request::Book { .. } | Request::BookWrite { .. } => {
             unreachable!("the specification alone decides")
         }
+        Request::List {
+            choices,
+            pattern,
+            text,
+            now,
+            ..
+        } => lists::listed(*choices, pattern, text, *now),
     }
 }
 

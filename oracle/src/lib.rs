@@ -17,6 +17,7 @@ pub mod expected;
 pub mod generator;
 pub mod gregorian;
 pub mod limits;
+pub mod lists;
 mod minus;
 pub mod names;
 pub mod op;

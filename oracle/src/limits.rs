@@ -1,5 +1,5 @@
-//! The limits that the specification sets and the Rust does not have: refusals 1, 2, 4, 5, 6, 7 and 14, and
-//! of 17 the years.
+//! The limits that the specification sets and the Rust does not have: refusals 1, 2, 4, 5, 6, 7, 14 and 24,
+//! and of 17 the years.
 
 use crate::calendar::Fields;
 use crate::choices::Edition;
@@ -42,6 +42,10 @@ pub fn day_limit(year: i32) -> Option<String> {
 
 pub fn room_limit(text: &str, room: usize) -> Option<String> {
     (text.len() > room).then(|| refused(5, &[text.len() as i64]))
+}
+
+pub fn rows_limit(lines: usize, rows: usize) -> Option<String> {
+    (rows < lines).then(|| refused(24, &[0]))
 }
 
 pub fn field_limit(fields: &Fields) -> Option<String> {

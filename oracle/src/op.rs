@@ -21,10 +21,14 @@ pub enum Op {
     DayNumber,
     Book,
     BookWrite,
+    List,
+    ListStrict,
+    ListSecond,
+    ListStrictSecond,
 }
 
 impl Op {
-    pub const ALL: [Op; 16] = [
+    pub const ALL: [Op; 20] = [
         Op::Split,
         Op::Write,
         Op::WriteDate,
@@ -41,6 +45,18 @@ impl Op {
         Op::DayNumber,
         Op::Book,
         Op::BookWrite,
+        Op::List,
+        Op::ListStrict,
+        Op::ListSecond,
+        Op::ListStrictSecond,
+    ];
+
+    /// Those of lists, which have the full pair alone.
+    pub const LISTS: [Op; 4] = [
+        Op::List,
+        Op::ListStrict,
+        Op::ListSecond,
+        Op::ListStrictSecond,
     ];
 
     pub fn name(self) -> &'static str {
@@ -61,6 +77,10 @@ impl Op {
             Op::DayNumber => "day_number",
             Op::Book => "book",
             Op::BookWrite => "book_write",
+            Op::List => "list",
+            Op::ListStrict => "list_strict",
+            Op::ListSecond => "list_second",
+            Op::ListStrictSecond => "list_strict_second",
         }
     }
 
@@ -79,7 +99,26 @@ impl Op {
             Op::Split | Op::Write | Op::WriteDate => return None,
             Op::ParseOffset | Op::DayOf | Op::DayNumber => return None,
             Op::Book | Op::BookWrite => return None,
+            Op::List | Op::ListStrict | Op::ListSecond | Op::ListStrictSecond => return None,
         })
+    }
+
+    /// What the lines of a list are read by; none where it is no list.
+    pub fn list_choices(self) -> Option<Choices> {
+        let full = Choices::of(Pair::Full);
+        match self {
+            Op::List => Some(full),
+            Op::ListStrict => Some(full.strict()),
+            Op::ListSecond => Some(full.second()),
+            Op::ListStrictSecond => Some(full.strict().second()),
+            _ => None,
+        }
+    }
+
+    pub(crate) fn of_list(choices: Choices) -> Op {
+        let of_these = |op: &Op| op.list_choices() == Some(choices);
+        let op = Op::LISTS.into_iter().find(of_these);
+        op.expect("each choice of a list has its op")
     }
 
     pub(crate) fn of_read(choices: Choices) -> Op {
@@ -93,6 +132,7 @@ impl Op {
         match self.choices().map(|choices| choices.pair) {
             Some(Pair::Full) => Op::Read.name(),
             Some(Pair::Date) => Op::ReadDate.name(),
+            None if self.list_choices().is_some() => Op::List.name(),
             None => self.name(),
         }
     }
@@ -101,10 +141,11 @@ impl Op {
         Op::ALL.into_iter().find(|op| op.name() == name)
     }
 
-    /// Those that are asked where none is named: without a book all but those of books, with English those that take one.
+    /// Those that are asked where none is named: without a book all but those of books, with English those that take one; those of
+    /// lists are always named.
     pub fn usual(books: Option<Books>) -> Vec<Op> {
         let is_usual = |op: &Op| match books {
-            None => !op.is_of_a_book(),
+            None => !op.is_of_a_book() && op.list_choices().is_none(),
             Some(Books::English) => op.takes_a_book(),
             Some(Books::Random) => op.takes_a_book() || op.is_of_a_book(),
         };

@@ -17,6 +17,8 @@ pub struct Options {
     pub every: NonZeroUsize,
     /// The usual ones where none is named.
     pub ops: Option<Vec<Op>>,
+    /// Lists in the place of the usual ones.
+    pub lists: bool,
     /// Which books the requests come with; none where none is named.
     pub books: Option<Books>,
     /// Of a check; both where none is named.
@@ -33,6 +35,9 @@ impl Options {
         let options = Options::from_args(args)?;
         match options.edition {
             Some(_) => Err("the edition is in the name of an op".to_string()),
+            None if options.lists && options.ops.is_some() => {
+                Err("lists are ops of their own".to_string())
+            }
             None => Ok(options),
         }
     }
@@ -42,6 +47,7 @@ impl Options {
         let options = Options::from_args(args)?;
         match options.ops {
             Some(_) => Err("there is one op".to_string()),
+            None if options.lists => Err("a list is no check".to_string()),
             None => Ok(options),
         }
     }
@@ -52,6 +58,7 @@ impl Options {
             count: None,
             every: NonZeroUsize::MIN,
             ops: None,
+            lists: false,
             books: None,
             edition: None,
             requests: None,
@@ -63,6 +70,7 @@ impl Options {
                 "--count" => options.count = Some(number(args.next())?),
                 "--every" => options.every = number(args.next())?,
                 "--ops" => options.ops = Some(ops(&word(args.next())?)?),
+                "--lists" => options.lists = true,
                 "--books" => options.books = Some(books(&word(args.next())?)?),
                 "--edition" => options.edition = Some(edition(&word(args.next())?)?),
                 "--requests" => options.requests = Some(word(args.next())?),
@@ -74,7 +82,11 @@ impl Options {
     }
 
     pub fn generated(&self) -> impl Iterator<Item = Request> {
-        let ops = self.ops.clone().unwrap_or(Op::usual(self.books));
+        let ops = match &self.ops {
+            Some(named) => named.clone(),
+            None if self.lists => Op::LISTS.to_vec(),
+            None => Op::usual(self.books),
+        };
         Generator::with(self.books, self.seed, ops)
             .step_by(self.every.get())
             .take(self.count.unwrap_or(COUNT))

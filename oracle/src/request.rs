@@ -10,6 +10,7 @@ use std::iter::Peekable;
 use std::str::FromStr;
 
 pub const MOST_ROOM: usize = 4096;
+pub const MOST_ROWS: usize = 20_000;
 
 const BOOK: &str = "book:";
 
@@ -50,6 +51,15 @@ pub enum Request {
         room: usize,
         names: Vec<Vec<u8>>,
     },
+    /// Of the full pair alone.
+    List {
+        choices: Choices,
+        pattern: Vec<u8>,
+        text: Vec<u8>,
+        now: i32,
+        rows: usize,
+        book: Option<Vec<u8>>,
+    },
 }
 
 impl Request {
@@ -81,6 +91,7 @@ impl Request {
                 room: room(&mut words)?,
                 names: names(&mut words)?,
             },
+            Op::List => list_request(&mut words)?,
             read => read_request(read.choices()?.pair, &mut words)?,
         };
         words.next().is_none().then_some(request)
@@ -99,20 +110,26 @@ impl Request {
             Request::DayNumber { .. } => Op::DayNumber,
             Request::Book { .. } => Op::Book,
             Request::BookWrite { .. } => Op::BookWrite,
+            Request::List { choices, .. } => Op::of_list(*choices),
         }
     }
 
     /// The book that it comes with.
     pub fn book(&self) -> Option<&[u8]> {
         match self {
-            Request::Write { book, .. } | Request::Read { book, .. } => book.as_deref(),
+            Request::Write { book, .. }
+            | Request::Read { book, .. }
+            | Request::List { book, .. } => book.as_deref(),
             _ => None,
         }
     }
 
     /// The same with another book or with none, where it takes one.
     pub fn with_book(mut self, other: Option<Vec<u8>>) -> Request {
-        if let Request::Write { book, .. } | Request::Read { book, .. } = &mut self {
+        if let Request::Write { book, .. }
+        | Request::Read { book, .. }
+        | Request::List { book, .. } = &mut self
+        {
             *book = other;
         }
         self
@@ -141,20 +158,27 @@ impl fmt::Display for Request {
                 now,
                 book,
             } => {
-                let strict = if choices.strict { " strict" } else { "" };
-                let (edition, book) = (edition_word(choices.edition), book_word(book));
-                write!(
-                    f,
-                    "{} {} {now}{strict}{edition}{book}",
-                    hex(pattern),
-                    hex(text)
-                )
+                let (pattern, text) = (hex(pattern), hex(text));
+                let words = choice_words(*choices, book);
+                write!(f, "{pattern} {text} {now}{words}")
             }
             Request::ParseOffset { text } => f.write_str(&hex(text)),
             Request::DayOf { number } => write!(f, "{number}"),
             Request::DayNumber { year, month, day } => write!(f, "{year} {month} {day}"),
             Request::Book { bytes } => f.write_str(&hex(bytes)),
             Request::BookWrite { room, names } => write!(f, "{room} {}", name_words(names)),
+            Request::List {
+                choices,
+                pattern,
+                text,
+                now,
+                rows,
+                book,
+            } => {
+                let (pattern, text) = (hex(pattern), hex(text));
+                let words = choice_words(*choices, book);
+                write!(f, "{pattern} {text} {now} {rows}{words}")
+            }
         }
     }
 }
@@ -203,6 +227,29 @@ fn read_request<'a>(
         },
         book: book(words)?,
     })
+}
+
+/// Likewise, with how many cells each row has before those words.
+fn list_request<'a>(words: &mut Peekable<impl Iterator<Item = &'a str>>) -> Option<Request> {
+    Some(Request::List {
+        pattern: bytes(words)?,
+        text: bytes(words)?,
+        now: number(words)?,
+        rows: number(words).filter(|rows| *rows <= MOST_ROWS)?,
+        choices: Choices {
+            pair: Pair::Full,
+            strict: words.next_if_eq(&"strict").is_some(),
+            edition: edition(words),
+        },
+        book: book(words)?,
+    })
+}
+
+/// The words behind a read or a list, each with the space before it.
+fn choice_words(choices: Choices, book: &Option<Vec<u8>>) -> String {
+    let strict = if choices.strict { " strict" } else { "" };
+    let (edition, book) = (edition_word(choices.edition), book_word(book));
+    format!("{strict}{edition}{book}")
 }
 
 /// The second edition where the next word names it.

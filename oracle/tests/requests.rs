@@ -74,6 +74,14 @@ fn other_lines_are_bad_requests() {
         format!("book_write 9{}", " 4142".repeat(65)),
         format!("book_write 4097{}", " 4142".repeat(64)),
         format!("book_write 9{} {}", " 4142".repeat(63), "41".repeat(256)),
+        "list 79 39 2025".to_string(),
+        "list 79 39 2025 strict".to_string(),
+        "list 79 39 2025 20001".to_string(),
+        "list 79 39 2025 -1".to_string(),
+        "list 79 39 2025 1 second strict".to_string(),
+        "list 79 39 2025 1 book:4c second".to_string(),
+        "list_strict 79 39 2025 1".to_string(),
+        "list_date 79 39 2025 1".to_string(),
     ];
     for line in lines {
         assert_eq!(answer(&line), "bad request", "{line}");
@@ -90,8 +98,10 @@ fn generated_requests_read_back_from_their_lines() {
 #[test]
 fn requests_with_books_read_back_from_their_lines() {
     for books in [Books::English, Books::Random] {
-        for request in Generator::with(Some(books), 1, Op::usual(Some(books))).take(10_000) {
-            assert_eq!(Request::from_line(&request.to_string()), Some(request));
+        for ops in [Op::usual(Some(books)), Op::LISTS.to_vec()] {
+            for request in Generator::with(Some(books), 1, ops).take(10_000) {
+                assert_eq!(Request::from_line(&request.to_string()), Some(request));
+            }
         }
     }
 }
@@ -99,9 +109,11 @@ fn requests_with_books_read_back_from_their_lines() {
 /// A line of `ask` may have no more.
 #[test]
 fn no_line_has_more_than_20000_bytes() {
-    let requests = Generator::with(Some(Books::Random), 1, Op::usual(Some(Books::Random)));
-    for request in requests.take(20_000) {
-        assert!(request.to_string().len() <= 20_000);
+    for ops in [Op::usual(Some(Books::Random)), Op::LISTS.to_vec()] {
+        let requests = Generator::with(Some(Books::Random), 1, ops);
+        for request in requests.take(20_000) {
+            assert!(request.to_string().len() <= 20_000);
+        }
     }
 }
 

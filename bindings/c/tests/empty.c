@@ -17,8 +17,9 @@ typedef uint32_t reader(const uint8_t *, size_t, const uint8_t *, size_t, int32_
 static const uint8_t PATTERN[] = {'d', 'd'};
 static const uint8_t TEXT[] = {'0', '3'};
 static const uint8_t MONTH[] = {'M', 'M', 'M', 'M'};
+static const uint8_t NEWLINE[] = {'\n'};
 static uint8_t out[4];
-static int64_t answer[SHEET_READ_ANSWER];
+static int64_t answer[SHEET_LINE_ANSWER];
 static int64_t parts[SHEET_SPLIT_PARTS];
 static int64_t units[SHEET_UNITS_ROW];
 static uint8_t book[SHEET_BOOK_ROW];
@@ -117,6 +118,27 @@ static void by_books(void) {
     GIVES(sheet_book_write(book, SHEET_BOOK_ROW, NULL, 0, answer, 2), SHEET_NO_ROOM, ENGLISH, 0);
 }
 
+static uint32_t read_list(const uint8_t *pattern, size_t pattern_len, const uint8_t *text, size_t text_len, int64_t *row,
+                          size_t row_len) {
+    return sheet_read_list(0, NULL, 0, pattern, pattern_len, text, text_len, 2025, NULL, 0, NULL, 0, NULL, 0, NULL, 0, row,
+                           row_len);
+}
+
+static uint32_t read_line(const uint8_t *text, size_t text_len, int64_t *row, size_t row_len) {
+    return sheet_read_line(0, NULL, 0, NULL, 0, text, text_len, 0, 2025, row, row_len);
+}
+
+/* An empty text has no line, so that rows without an entry are long enough. */
+static void by_lists(void) {
+    GIVES(read_list(NULL, 0, NULL, 0, answer, 2), SHEET_ACCEPTED, 0, 0);
+    GIVES(read_list(PATTERN, 2, NULL, 0, answer, 2), SHEET_ACCEPTED, 0, 0);
+    GIVES(read_list(PATTERN, 2, NEWLINE, 1, answer, 2), SHEET_SHORT_ROW, 0, 0);
+    GIVES(read_list(PATTERN, 2, NEWLINE, 1, NULL, 0), SHEET_ROW_TOO_SMALL, MARK, MARK);
+    GIVES(read_line(NULL, 0, answer, SHEET_LINE_ANSWER), SHEET_NO_LINE, MARK, MARK);
+    GIVES(read_line(NEWLINE, 1, answer, SHEET_LINE_ANSWER), SHEET_ACCEPTED, 0, 0);
+    GIVES(read_line(NEWLINE, 1, NULL, 0), SHEET_ROW_TOO_SMALL, MARK, MARK);
+}
+
 static void by_others(void) {
     GIVES(sheet_parse_offset(NULL, 0, answer, 2), SHEET_OFFSET_LENGTH, 0, 0);
     GIVES(sheet_parse_offset(TEXT, 2, NULL, 0), SHEET_ROW_TOO_SMALL, MARK, MARK);
@@ -146,6 +168,7 @@ int main(void) {
     by_reader(sheet_read_date);
     by_choices();
     by_books();
+    by_lists();
     by_others();
     return all ? 0 : 1;
 }

@@ -11,17 +11,20 @@
 #define STACK (256 * 1024)
 #define PAINT 0xa5
 #define MOST_COUNT 12
+#define LINES 4
 
 static const char SYMBOLS[] = "GyqMwdDeabhKHkmsnXx/'";
 
 /* What the calls are lent. */
 static uint8_t pattern[SHEET_LONGEST_PATTERN];
 static uint8_t text[SHEET_LONGEST_TEXT];
-static int64_t answer[SHEET_READ_ANSWER];
+static int64_t answer[SHEET_LINE_ANSWER];
 static int64_t parts[SHEET_SPLIT_PARTS];
 static int64_t units[SHEET_UNITS_ROW];
 static uint8_t book[SHEET_BOOK_ROW];
 static uint8_t file[SHEET_LONGEST_BOOK];
+static int32_t days_read[LINES], months_read[LINES], years_read[LINES];
+static uint32_t codes_read[LINES];
 
 /* Calls a function by the first bytes of the pattern. */
 typedef void function(size_t length);
@@ -84,6 +87,22 @@ static void write_and_read_by(size_t length) {
             continue;
         size_t written = (size_t)answer[0];
         sheet_read_by(choices, book, sizeof book, pattern, length, text, written, 2025, answer, SHEET_READ_ANSWER);
+    }
+}
+
+/* A list of what is written, twice, and of that line by line; with all choices. */
+static void lists(size_t length) {
+    static uint8_t list[2 * SHEET_LONGEST_TEXT + 1];
+    for (uint32_t choices = 0; choices <= SHEET_DATE_PAIR + SHEET_STRICT + SHEET_SECOND_EDITION; choices++) {
+        if (write_with_book(choices, length, SHEET_LONGEST_TEXT) != SHEET_ACCEPTED)
+            continue;
+        size_t written = (size_t)answer[0];
+        memcpy(list, text, written);
+        list[written] = '\n';
+        memcpy(list + written + 1, text, written);
+        sheet_read_list(choices, book, sizeof book, pattern, length, list, 2 * written + 1, 2025, days_read, LINES, months_read,
+                        LINES, years_read, LINES, codes_read, LINES, answer, SHEET_LIST_ANSWER);
+        sheet_read_line(choices, book, sizeof book, pattern, length, list, 2 * written + 1, 0, 2025, answer, SHEET_LINE_ANSWER);
     }
 }
 
@@ -179,6 +198,7 @@ int main(void) {
     all &= holds("write and read", write_and_read);
     all &= holds("write and read with", write_and_read_with);
     all &= holds("write and read by", write_and_read_by);
+    all &= holds("read_list, read_line", lists);
     all &= holds("book_read, book_write", books);
     all &= holds("split", split);
     all &= holds("units", tell_units);

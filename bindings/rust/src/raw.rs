@@ -7,7 +7,7 @@ pub const LONGEST_TEXT: usize = 2048;
 /// The most bytes of output that a writer needs for each byte of the pattern.
 pub const BYTES_A_PATTERN_BYTE: usize = 8;
 /// The most bytes of the stack that a call takes.
-pub const MOST_STACK: usize = 2048;
+pub const MOST_STACK: usize = 2304;
 
 /// How many bytes an opened book has.
 pub const BOOK_ROW: usize = BOOK_ROOMS * NAME_ROOM;
@@ -48,6 +48,12 @@ pub const DAY_ANSWER: usize = 6;
 pub const DAY_NUMBER_ANSWER: usize = 2;
 /// How many entries of `answer` [`sheet_book_read`] and [`sheet_book_write`] ask for.
 pub const BOOK_ANSWER: usize = 2;
+/// How many entries of `answer` [`sheet_read_list`] asks for.
+pub const LIST_ANSWER: usize = 2;
+/// How many entries of `answer` [`sheet_read_line`] asks for.
+pub const LINE_ANSWER: usize = LINE_READING + READ_ANSWER;
+/// Where in `answer` of [`sheet_read_line`] the reading starts.
+pub const LINE_READING: usize = 3;
 
 /// What is returned where an answer is accepted.
 pub const ACCEPTED: u32 = 0;
@@ -76,6 +82,7 @@ pub const BOOK_MARK: u32 = 20;
 pub const BOOK_VERSION: u32 = 21;
 pub const BOOK_LENGTH: u32 = 22;
 pub const BOOK_NAME: u32 = 23;
+pub const SHORT_ROW: u32 = 24;
 
 /// What is returned where a lent row is too small; then nothing is altered.
 pub const ROW_TOO_SMALL: u32 = 100;
@@ -83,6 +90,8 @@ pub const ROW_TOO_SMALL: u32 = 100;
 pub const NO_SUCH_CHOICE: u32 = 101;
 /// What is returned where bytes are lent as an opened book that are none; then nothing is altered.
 pub const NO_BOOK: u32 = 102;
+/// What is returned where a text has no line at a place; then nothing is altered.
+pub const NO_LINE: u32 = 103;
 
 /// Among the choices of [`sheet_read_with`], which are added: dates alone.
 pub const DATE_PAIR: u32 = 1;
@@ -252,6 +261,39 @@ extern "C" {
         answer: *mut i64,
         answer_len: usize,
     ) -> u32;
+    pub fn sheet_read_list(
+        choices: u32,
+        book: *const u8,
+        book_len: usize,
+        pattern: *const u8,
+        pattern_len: usize,
+        text: *const u8,
+        text_len: usize,
+        year: i32,
+        days: *mut i32,
+        days_len: usize,
+        months: *mut i32,
+        months_len: usize,
+        years: *mut i32,
+        years_len: usize,
+        codes: *mut u32,
+        codes_len: usize,
+        answer: *mut i64,
+        answer_len: usize,
+    ) -> u32;
+    pub fn sheet_read_line(
+        choices: u32,
+        book: *const u8,
+        book_len: usize,
+        pattern: *const u8,
+        pattern_len: usize,
+        text: *const u8,
+        text_len: usize,
+        at: usize,
+        year: i32,
+        answer: *mut i64,
+        answer_len: usize,
+    ) -> u32;
     pub fn sheet_check(pattern: *const u8, pattern_len: usize, year: i32, answer: *mut i64, answer_len: usize) -> u32;
     pub fn sheet_check_with(
         choices: u32,
@@ -292,9 +334,11 @@ pub fn refusal_text(number: u32) -> &'static str {
         BOOK_VERSION => "the book is of another version than 1 and 2",
         BOOK_LENGTH => "the book is cut short, or goes on behind its names",
         BOOK_NAME => "the book has a bad name",
+        SHORT_ROW => "a row is shorter than the lines",
         ROW_TOO_SMALL => "a row for the answer is too small",
         NO_SUCH_CHOICE => "there is no such choice",
         NO_BOOK => "the bytes are no opened book",
+        NO_LINE => "no line is left at that place",
         _ => "no such number",
     }
 }

@@ -94,7 +94,7 @@ impl Reading {
         self.was_read(unit).then(|| place(&self.starts)..place(&self.ends))
     }
 
-    fn of_row(row: &[i64; raw::READ_ANSWER]) -> Reading {
+    pub(crate) fn of_row(row: &[i64; raw::READ_ANSWER]) -> Reading {
         let [taken, mask, units, ..] = *row;
         let by_unit = |first: usize| array::from_fn(|unit| row[first + unit]);
         let places = |first: usize| by_unit(first).map(|place: i64| place as u16);

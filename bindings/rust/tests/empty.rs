@@ -201,6 +201,58 @@ fn of_books() {
     }
 }
 
+/// Into four rows that are none.
+fn read_list(choices: u32, pattern: &[u8], text: &[u8], answer: &mut [i64]) -> u32 {
+    let ((p, p_len), (t, t_len), (answer, entries)) = (lent(pattern), lent(text), row(answer));
+    let (days, months, years, codes) = (null_mut(), null_mut(), null_mut(), null_mut());
+    // SAFETY: as for a write.
+    unsafe {
+        raw::sheet_read_list(
+            choices,
+            null(),
+            0,
+            p,
+            p_len,
+            t,
+            t_len,
+            YEAR,
+            days,
+            0,
+            months,
+            0,
+            years,
+            0,
+            codes,
+            0,
+            answer,
+            entries,
+        )
+    }
+}
+
+fn read_line(choices: u32, pattern: &[u8], text: &[u8], answer: &mut [i64]) -> u32 {
+    let ((p, p_len), (t, t_len), (answer, entries)) = (lent(pattern), lent(text), row(answer));
+    // SAFETY: as for a write.
+    unsafe { raw::sheet_read_line(choices, null(), 0, p, p_len, t, t_len, 0, YEAR, answer, entries) }
+}
+
+/// An empty text has no line, so that rows without a cell are long enough.
+#[test]
+fn of_lists() {
+    for choices in 0..=raw::DATE_PAIR + raw::STRICT + raw::SECOND_EDITION {
+        gives(|row| read_list(choices, b"", b"", row), raw::ACCEPTED, 0, 0);
+        gives(|row| read_list(choices, b"dd", b"", row), raw::ACCEPTED, 0, 0);
+        gives(|row| read_list(choices, b"", b"\n", row), raw::SHORT_ROW, 0, 0);
+        gives(|row| read_list(choices, b"'", b"", row), raw::LONE_QUOTE, 0, 0);
+        let mut entries = [MARK; raw::LINE_ANSWER];
+        assert_eq!(read_line(choices, b"", b"", &mut entries), raw::NO_LINE);
+        assert_eq!(entries, [MARK; raw::LINE_ANSWER]);
+        assert_eq!(read_line(choices, b"", b"\n", &mut entries), raw::ACCEPTED);
+        assert_eq!(entries[..4], [0, 0, 1, 0]);
+        assert_eq!(read_line(choices, b"", b"", &mut []), raw::ROW_TOO_SMALL);
+    }
+}
+
 fn day(number: i32, answer: &mut [i64]) -> u32 {
     let (answer, entries) = row(answer);
     // SAFETY: as for a write.

@@ -1,6 +1,6 @@
 //! The samples in the tables of docs/SPECIFICATION.md, each put to the library.
 
-use sheet::{Choices, Day, Edition, Fields, ParseUnit, Reading, Refusal, Verdict};
+use sheet::{Book, Choices, Columns, Day, Edition, Fields, ParseUnit, Reading, Refusal, Verdict};
 
 const SPECIFICATION: &str = include_str!("../../../docs/SPECIFICATION.md");
 
@@ -352,6 +352,25 @@ fn of_day_number(row: &[&str]) -> Sample {
     (row[1].replace(',', ""), answer)
 }
 
+/// What stands between the first two backticks, with newlines and carriage returns for what stands for them.
+fn escaped(cell: &str) -> String {
+    quoted(cell).replace("\\n", "\n").replace("\\r", "\r")
+}
+
+/// The lines of a list, each as code:day:month:year.
+fn listed(choices: Choices, pattern: &str, text: &str) -> String {
+    sheet::read_list_by(choices, Book::english(), pattern, text, 2025).map_or_else(refused, |columns| {
+        let Columns {
+            days,
+            months,
+            years,
+            codes,
+        } = &columns;
+        let line = |line: usize| format!("{}:{}:{}:{}", codes[line], days[line], months[line], years[line]);
+        (0..columns.len()).map(line).collect::<Vec<_>>().join(" ")
+    })
+}
+
 /// Under its own heading a sample is of a strict reading.
 fn choices(heading: &str) -> Choices {
     match heading {
@@ -397,6 +416,12 @@ fn samples(table: &Table, row: &[&str]) -> Vec<Sample> {
         (["Year" | "Text", ..], " y, year") => of_two_digits(table, row),
         (["Number", "Day", "Day of year", "Week", "Weekday"], _) => of_day(row),
         (["Year, month, day", "Answer"], _) => vec![of_day_number(row)],
+        (["Pattern", "List", "Plain", "Strict"], _) => {
+            let (pattern, text) = (escaped(row[0]), escaped(row[1]));
+            let answers = [Choices::new(), Choices::new().strict()].map(|choices| listed(choices, &pattern, &text));
+            let [plain, strict] = answers;
+            vec![sample(2, plain), sample(3, strict)]
+        }
         _ => vec![],
     }
 }
@@ -471,6 +496,20 @@ fn editions_have_their_own_samples() {
     let in_pattern = |given: &str, samples| each_edition_is_held("Pattern | Current year", given, samples);
     in_pattern("`d/M` | 2025", ["no 2", "yes"]);
     in_pattern("`d` | 80", ["yes", "refused 14"]);
+}
+
+/// A list by a plain and by a strict reading.
+#[test]
+fn lists_have_their_own_samples() {
+    let document = |plain: &str, strict: &str| {
+        let row = format!("| `dd` | `03\\r\\n\\n` | {plain} | {strict} |");
+        format!("## Lists\n\n| Pattern | List | Plain | Strict |\n|---|---|---|---|\n{row}\n")
+    };
+    let (plain, strict) = ("0:3:0:0 8:0:0:0", "16:0:0:0 8:0:0:0");
+    assert_eq!(held(&document(plain, strict)), (2, vec![]));
+    let (_, differing) = held(&document(strict, plain));
+    let wrong = [(strict, plain), (plain, strict)].map(|(sample, right)| (sample.to_string(), right.to_string()));
+    assert_eq!(differing, wrong);
 }
 
 /// Of a unit that was not read both places are 0.

@@ -1,7 +1,7 @@
 // The months of a year, by arithmetic: if February had 30 days, so many months from January on would have (367 * months + 5) / 12.
 ghost use mathlib.Core.Path.{_≡_};
 ghost use Prim.Native.Nat.{suc, _≤_, _<_};
-ghost use Rattle.calendar.specs.Months.{lost, Begun};
+ghost use Rattle.calendar.specs.Months.{lost, stretchedPast};
 ghost use Rattle.laws.specs.CalendarLine.{InMonth};
 ghost use Rattle.meaning.specs.Calendar.{yearLength, beforeMonth, monthLength};
 
@@ -31,16 +31,16 @@ pub fn length_of(leap: bool, month: u32) -> u32
     days_of(leap, month) - days_of(leap, month - 1)
 }
 
-// How many months are over when so many days are.
-fn months_over(leap: bool, past: u32) -> u32
+// So many days past, as if February had 30.
+fn stretched(leap: bool, past: u32) -> u32
     requires { ⌜ past < yearLength leap ⌝ }
-    ensures { λ r. ⌜ Begun leap past r ⌝ }
+    ensures { λ r. ⌜ r ≡ stretchedPast leap past ⌝ }
 {
     let lost = lost_days(leap);
     if past < 61 - lost {
-        return (12 * past + 6) / 367;
+        return past;
     }
-    (12 * (past + lost) + 6) / 367
+    past + lost
 }
 
 pub struct MonthDay {
@@ -48,13 +48,14 @@ pub struct MonthDay {
     pub day: u32,
 }
 
+// In steps of 67 to a day and 2048 to a month, so that both come from one product.
 pub fn month_of(leap: bool, past: u32) -> MonthDay
     requires { ⌜ past < yearLength leap ⌝ }
     ensures { λ r. ⌜ InMonth leap past (r .month) (r .day) ⌝ }
 {
-    let months = months_over(leap, past);
+    let steps = 67 * stretched(leap, past) + 2078;
     MonthDay {
-        month: months + 1,
-        day: past - days_of(leap, months) + 1,
+        month: steps / 2048,
+        day: steps % 2048 / 67 + 1,
     }
 }

@@ -18,7 +18,8 @@ pub fn week_of(place: u32, leap: bool, past: u32, since: u32) -> u32
     }
     let thursday = ahead - since;
     if thursday < year_length(leap) {
-        return thursday / 7 + 1;
+        // Sevenths of a small number, by one product.
+        return thursday * 9363 / 65536 + 1;
     }
     1
 }

@@ -1,7 +1,7 @@
 -- Laws of checks that stand one behind the other: what it says that none refuses.
 use mathlib.Core.Bool.{Bool, true, false}
 use mathlib.Core.List.{List, [], _∷_}
-use mathlib.Core.Path.{_≡_, refl}
+use mathlib.Core.Path.{_≡_, refl, sym}
 use Prim.Native.Nat.{ℕ, suc, _≤_}
 use native.Mathlib.Omega.{arith}
 use lib.Dec.{leb}
@@ -12,6 +12,7 @@ use Rattle.meaning.specs.Answers.{_else_, refuseUnless, within, byteCheck, byte
 use Rattle.meaning.specs.Bytes.{when}
 use Rattle.meaning.specs.Names.{Book}
 use Rattle.meaning.specs.Splitting.{contents}
+use Rattle.meaning.specs.Trust.{trustCheck}
 use Rattle.meaning.specs.Whole.{text, writeCheck, readCheck}
 use Rattle.meaning.specs.declared.Checked.{Checked}
 use Rattle.meaning.specs.declared.Checked.the-variants.{Fine, Refused}
@@ -112,11 +113,14 @@ module _ {pair : Pair} {book : Book} {p : List ℕ} {f : Fields} {room : ℕ} (h
   unfolding writeCheck
   fine-write = rw (h .pattern, h .fields, le-leb (length (text pair book p f)) room (h .fits))
 
--- what a read whose checks are fine can rely on
-pub read-short : (edition : Edition) (p s : List ℕ) (current : ℤ) → readCheck edition p s current ≡ Fine → length s ≤ 2048
-unfolding readCheck textCheck
-read-short edition p s current h =
-    let a = else-fine (patternCheck p) (currentYearCheck edition current else textCheck s) h in
-    let b = else-fine (currentYearCheck edition current) (textCheck s) (a .1) in
+-- what a text whose checks are fine can rely on
+pub text-short : (s : List ℕ) → textCheck s ≡ Fine → length s ≤ 2048
+unfolding textCheck
+text-short s h =
     let short = refuseUnless (leb (length s) 2048) (TextTooLong (length s)) in
-    leb-true (length s) 2048 (fine-unless (leb (length s) 2048) _ (else-fine short (byteCheck TextByte 0 127 0 s) (b .1) .0))
+    leb-true (length s) 2048 (fine-unless (leb (length s) 2048) _ (else-fine short (byteCheck TextByte 0 127 0 s) h .0))
+
+-- the checks of a read: those of its pattern and year, which any number of texts share, and then those of its text
+pub read-checks : (edition : Edition) (p s : List ℕ) (current : ℤ) → readCheck edition p s current ≡ (trustCheck edition p current else textCheck s)
+unfolding readCheck trustCheck
+read-checks edition p s current = sym (else-assoc (patternCheck p) (currentYearCheck edition current) (textCheck s))

@@ -7,11 +7,14 @@ use mathlib.Core.Path.{_≡_, sym, _∙_}
 use Prim.Native.Nat.{ℕ}
 use lib.IntN.{ℤ}
 use Rattle.meaning.specs.Answers.{Answer}
+use Rattle.meaning.specs.Lists.{Rows}
 use Rattle.meaning.specs.Names.{Book}
-use Rattle.meaning.specs.Promises.{SameAnswer, Splits, Writes, Reads, ParsesOffset, TellsRead, NumbersDay, OpensBook, WritesBook}
+use Rattle.meaning.specs.Promises.{SameAnswer, Splits, Writes, Reads, ParsesOffset, TellsRead, NumbersDay, OpensBook, WritesBook, ReadsList, ReadsLine}
 use Rattle.meaning.specs.declared.Choices.{Choices}
 use Rattle.meaning.specs.declared.DayNumber.{DayNumber}
 use Rattle.meaning.specs.declared.Fields.{Fields}
+use Rattle.meaning.specs.declared.LineRead.{LineRead}
+use Rattle.meaning.specs.declared.Listed.{Listed}
 use Rattle.meaning.specs.declared.Offset.{Offset}
 use Rattle.meaning.specs.declared.Pair.{Pair}
 use Rattle.meaning.specs.declared.ParseUnit.{ParseUnit}
@@ -56,3 +59,12 @@ opened-coincide s out w v = (same-determined (w .0) (v .0), determined (w .1) (v
 
 pub books-coincide : (row out : List ℕ) {r t : Wrote} {after after′ : List ℕ} → WritesBook row out r after → WritesBook row out t after′ → (r ≡ t) × (after ≡ after′)
 books-coincide row out w v = (same-determined (w .0) (v .0), determined (w .1) (v .1))
+
+-- lists::read_list and lists::read_line
+pub lists-coincide : (choices : Choices) (book : Book) (p s : List ℕ) (current : ℤ) (rows : Rows) {r t : Listed} {after after′ : Rows}
+    → ReadsList choices book p s current rows r after → ReadsList choices book p s current rows t after′ → (r ≡ t) × (after ≡ after′)
+lists-coincide choices book p s current rows w v = (same-determined (w .0) (v .0), determined (w .1) (v .1))
+
+pub lines-coincide : (choices : Choices) (book : Book) (p s : List ℕ) (at : ℕ) (current : ℤ) {r t : LineRead}
+    → ReadsLine choices book p s at current r → ReadsLine choices book p s at current t → r ≡ t
+lines-coincide choices book p s at current = determined

@@ -20,6 +20,7 @@ pub mod Fields
 pub mod Halves
 pub mod Increasing
 pub mod Laid
+pub mod Lists
 pub mod Marks
 pub mod Minus
 pub mod Names
@@ -44,6 +45,7 @@ pub mod Takes
 pub mod Tests
 pub mod Texts
 pub mod Told
+pub mod Values
 pub mod WeekNumbers
 pub mod Writes
 pub mod Years

@@ -9,7 +9,7 @@ use lib.Dec.{eqb}
 use lib.IntN.{ℤ, pos, natAbs}
 use lib.ListN.{getD}
 use Rattle.meaning.proofs.Books.{english-valid}
-use Rattle.meaning.specs.Answers.{number, details, Answer, refused, answerBy, wroteAnswer, offsetAnswer, dayNumberAnswer, verdictAnswer}
+use Rattle.meaning.specs.Answers.{number, details, Answer, refused, answerBy, wroteAnswer, listAnswer, offsetAnswer, dayNumberAnswer, verdictAnswer}
 use Rattle.meaning.specs.Bytes.{when}
 use Rattle.meaning.specs.Names.{english}
 use Rattle.meaning.specs.Promises.{SameAnswer}
@@ -20,10 +20,12 @@ use Rattle.meaning.specs.declared.DayNumber.{DayNumber}
 use Rattle.meaning.specs.declared.DayNumber.the-variants as dayNumber
 use Rattle.meaning.specs.declared.Edition.{Edition}
 use Rattle.meaning.specs.declared.Fields.{Fields}
+use Rattle.meaning.specs.declared.Listed.{Listed}
+use Rattle.meaning.specs.declared.Listed.the-variants as listed
 use Rattle.meaning.specs.declared.Offset.{Offset}
 use Rattle.meaning.specs.declared.Offset.the-variants as offset
 use Rattle.meaning.specs.declared.Refusal.{Refusal}
-use Rattle.meaning.specs.declared.Refusal.the-variants.{PatternTooLong, PatternByte, LoneQuote, FieldRange, NoRoom, TextTooLong, TextByte, InPart, OffsetLength, OffsetRange, CurrentYear, TextLeft, NoSuchDay, NoDayNumber, BookMark, BookVersion, BookCut, BookName}
+use Rattle.meaning.specs.declared.Refusal.the-variants.{PatternTooLong, PatternByte, LoneQuote, FieldRange, NoRoom, TextTooLong, TextByte, InPart, OffsetLength, OffsetRange, CurrentYear, TextLeft, NoSuchDay, NoDayNumber, BookMark, BookVersion, BookCut, BookName, ShortRow}
 use Rattle.meaning.specs.declared.Trouble.{Trouble}
 use Rattle.meaning.specs.declared.Trouble.the-variants.{TooFew, NoNumber, NoName, NoSign, LiteralDiffers, PlusSign}
 use Rattle.meaning.specs.declared.Verdict.{Verdict}
@@ -73,6 +75,7 @@ table =
     ∷ (λ ds. BookVersion)
     ∷ (λ ds. BookCut)
     ∷ (λ ds. BookName (one ds))
+    ∷ (λ ds. ShortRow)
     ∷ []
 
 abbrev refusalOf : ℕ → List ℤ → Refusal
@@ -112,6 +115,7 @@ found BookMark = record { again = refl; not-0 = refl }
 found BookVersion = record { again = refl; not-0 = refl }
 found BookCut = record { again = refl; not-0 = refl }
 found (BookName which) = record { again = refl; not-0 = refl }
+found ShortRow = record { again = refl; not-0 = refl }
 
 pub refusal-number : (why : Refusal) → eqb (number why) 0 ≡ false
 refusal-number why = found why .not-0
@@ -147,6 +151,16 @@ wrote-again (wrote.Refused why) = refused-again (λ vs. wrote.Length (one vs)) (
 
 pub wrotes-told-apart : (a b : Wrote) → wroteAnswer a ≡ wroteAnswer b → a ≡ b
 wrotes-told-apart = told-apart wroteAnswer wroteOf wrote-again
+
+abbrev listedOf : Answer → Listed
+listedOf = answerOf (λ vs. listed.Lines (one vs)) (λ why. listed.Refused why)
+
+listed-again : (l : Listed) → listedOf (listAnswer l) ≡ l
+listed-again (listed.Lines n) = refl
+listed-again (listed.Refused why) = refused-again (λ vs. listed.Lines (one vs)) (λ w. listed.Refused w) why
+
+pub lists-told-apart : (a b : Listed) → listAnswer a ≡ listAnswer b → a ≡ b
+lists-told-apart = told-apart listAnswer listedOf listed-again
 
 abbrev offsetOf : Answer → Offset
 offsetOf = answerOf (λ vs. offset.Seconds (getD vs 0 (pos 0))) (λ why. offset.Refused why)
@@ -204,6 +218,9 @@ by-whole {answer = answer} e = record { told = ap answer e; whole = e }
 
 pub wrote-by-told : (r d : Wrote) → wroteAnswer r ≡ wroteAnswer d → SameAnswer wroteAnswer r d
 wrote-by-told r d e = record { told = e; whole = wrotes-told-apart r d e }
+
+pub list-by-told : (r d : Listed) → listAnswer r ≡ listAnswer d → SameAnswer listAnswer r d
+list-by-told r d e = record { told = e; whole = lists-told-apart r d e }
 
 pub offset-by-told : (r d : Offset) → offsetAnswer r ≡ offsetAnswer d → SameAnswer offsetAnswer r d
 offset-by-told r d e = record { told = e; whole = offsets-told-apart r d e }

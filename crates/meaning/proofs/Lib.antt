@@ -1,6 +1,7 @@
 pub mod Books
 pub mod Calendar
 pub mod Editions
+pub mod Lists
 pub mod Minus
 pub mod Names
 pub mod Pluses

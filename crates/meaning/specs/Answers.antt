@@ -18,11 +18,13 @@ use Rattle.meaning.specs.declared.DayNumber.the-variants as dayNumber
 use Rattle.meaning.specs.declared.Edition.{Edition}
 use Rattle.meaning.specs.declared.Edition.the-variants.{First, Second}
 use Rattle.meaning.specs.declared.Fields.{Fields}
+use Rattle.meaning.specs.declared.Listed.{Listed}
+use Rattle.meaning.specs.declared.Listed.the-variants as listed
 use Rattle.meaning.specs.declared.Offset.{Offset}
 use Rattle.meaning.specs.declared.Offset.the-variants as offset
 use Rattle.meaning.specs.declared.Reading.{Reading}
 use Rattle.meaning.specs.declared.Refusal.{Refusal}
-use Rattle.meaning.specs.declared.Refusal.the-variants.{PatternTooLong, PatternByte, LoneQuote, FieldRange, NoRoom, TextTooLong, TextByte, InPart, OffsetLength, OffsetRange, CurrentYear, TextLeft, NoSuchDay, NoDayNumber, BookMark, BookVersion, BookCut, BookName}
+use Rattle.meaning.specs.declared.Refusal.the-variants.{PatternTooLong, PatternByte, LoneQuote, FieldRange, NoRoom, TextTooLong, TextByte, InPart, OffsetLength, OffsetRange, CurrentYear, TextLeft, NoSuchDay, NoDayNumber, BookMark, BookVersion, BookCut, BookName, ShortRow}
 use Rattle.meaning.specs.declared.Split.{Split}
 use Rattle.meaning.specs.declared.Trouble.{Trouble}
 use Rattle.meaning.specs.declared.Trouble.the-variants.{TooFew, NoNumber, NoName, NoSign, LiteralDiffers, PlusSign}
@@ -58,6 +60,7 @@ number BookMark = 20
 number BookVersion = 21
 number BookCut = 22
 number (BookName which) = 23
+number ShortRow = 24
 
 -- what is returned with the number, in the table's order
 unfoldable pub details : Refusal → List ℤ
@@ -79,6 +82,7 @@ details BookMark = pos 0 ∷ []
 details BookVersion = pos 0 ∷ []
 details BookCut = pos 0 ∷ []
 details (BookName which) = pos which ∷ []
+details ShortRow = pos 0 ∷ []
 
 -- an answer's number, 0 where it is accepted, and what is returned with it
 pub record Answer : Type 0 where
@@ -109,6 +113,11 @@ abbrev pub readAnswer : Reading → Answer
 readAnswer r =
     answerBy (r .checked)
     (pos (r .taken) ∷ pos (r .mask) ∷ pos (r .units) ∷ r .values ++ map pos (r .starts) ++ map pos (r .ends))
+
+-- how many lines
+abbrev pub listAnswer : Listed → Answer
+listAnswer (listed.Lines n) = accepted (pos n ∷ [])
+listAnswer (listed.Refused why) = refused why
 
 -- the seconds
 abbrev pub offsetAnswer : Offset → Answer

@@ -17,4 +17,5 @@ pub mod Weeks
 pub mod Days
 pub mod Books
 pub mod OpenedBooks
+pub mod Lists
 pub mod Promises

@@ -5,14 +5,17 @@ use mathlib.Core.List.{List}
 use mathlib.Core.Path.{_≡_}
 use Prim.Native.Nat.{ℕ}
 use lib.IntN.{ℤ}
-use Rattle.meaning.specs.Answers.{Answer, splitAnswer, wroteAnswer, readAnswer, offsetAnswer, dayNumberAnswer}
+use Rattle.meaning.specs.Answers.{Answer, splitAnswer, wroteAnswer, readAnswer, listAnswer, offsetAnswer, dayNumberAnswer}
 use Rattle.meaning.specs.Days.{dayNumber}
+use Rattle.meaning.specs.Lists.{Rows, readList, listRows, readLine}
 use Rattle.meaning.specs.Names.{Book}
 use Rattle.meaning.specs.OpenedBooks.{openBook, openOutput, writeBook, bookOutput}
 use Rattle.meaning.specs.Whole.{split, write, output, read, parseOffset, unitNumber, marked}
 use Rattle.meaning.specs.declared.Choices.{Choices}
 use Rattle.meaning.specs.declared.DayNumber.{DayNumber}
 use Rattle.meaning.specs.declared.Fields.{Fields}
+use Rattle.meaning.specs.declared.LineRead.{LineRead}
+use Rattle.meaning.specs.declared.Listed.{Listed}
 use Rattle.meaning.specs.declared.Offset.{Offset}
 use Rattle.meaning.specs.declared.Pair.{Pair}
 use Rattle.meaning.specs.declared.ParseUnit.{ParseUnit}
@@ -50,3 +53,11 @@ OpensBook s out r after = SameAnswer wroteAnswer r (openBook s out) × (after �
 
 abbrev pub WritesBook : List ℕ → List ℕ → Wrote → List ℕ → Type 0
 WritesBook row out r after = SameAnswer wroteAnswer r (writeBook row out) × (after ≡ bookOutput row out)
+
+-- a list into four lent rows, and the line at a place of it
+abbrev pub ReadsList : Choices → Book → List ℕ → List ℕ → ℤ → Rows → Listed → Rows → Type 0
+ReadsList choices book p s current rows r after =
+    SameAnswer listAnswer r (readList choices book p s current rows) × (after ≡ listRows choices book p s current rows)
+
+abbrev pub ReadsLine : Choices → Book → List ℕ → List ℕ → ℕ → ℤ → LineRead → Type 0
+ReadsLine choices book p s at current r = r ≡ readLine choices book p s at current

@@ -225,6 +225,7 @@ pub enum Refusal {
     BookVersion,
     BookCut,
     BookName(u32),
+    ShortRow,
 }
 
 // What checks find.
@@ -249,6 +250,22 @@ pub struct Reading {
     pub units: u32,
     pub starts: [u16; 15],
     pub ends: [u16; 15],
+}
+
+// The answer of a list: how many lines it has.
+pub enum Listed {
+    Lines(usize),
+    Refused(Refusal),
+}
+
+// The answer of the line reader: whether there is a line, where it starts and ends and the next one starts, and its own reading,
+// with places within the line.
+pub struct LineRead {
+    pub there: bool,
+    pub start: usize,
+    pub end: usize,
+    pub next: usize,
+    pub reading: Reading,
 }
 
 // The answer of parse_offset.

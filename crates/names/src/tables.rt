@@ -2,10 +2,10 @@
 // has a most of letters, a longer name is cut to it.
 ghost use mathlib.Core.Path.{_≡_};
 ghost use Prim.Native.Nat.{_+_, _*_, _≤_};
-ghost use lib.ListN.{length};
+ghost use lib.ListN.{length, take};
 ghost use Rattle.laws.specs.Laid.{Laid};
 ghost use Rattle.meaning.specs.OpenedBooks.{namesAt};
-ghost use Rattle.meaning.specs.Readers.{matchName};
+ghost use Rattle.meaning.specs.Readers.{begins, matchName};
 ghost use Rattle.names.specs.Table.{nameIn, foundIn};
 
 // The room of a name: a byte that is its length, and 20 for its letters.
@@ -26,12 +26,27 @@ pub fn length_at(rows: &[u8], index: usize, most: usize) -> usize
     if size < most { size } else { most }
 }
 
-// "takes the first name in the table order that begins the text"
-pub fn first_name(rows: &[u8], count: usize, most: usize, text: &[u8]) -> Found
+// Whether a name's first letter begins the text.
+fn letter_begins(rows: &[u8], index: usize, most: usize, text: &[u8]) -> bool
+    requires { ⌜ (most ≤ 20) × (index * 21 + 21 ≤ length (now rows)) ⌝ }
+    ensures { λ r. ⌜ r ≡ begins (take 1 (nameIn most (now (rows .entry)) index)) (now (text .entry)) ⌝ }
+{
+    if 0 < text.len() && rows[index * ROOM + 1] == text[0] {
+        return true;
+    }
+    most == 0 || rows[index * ROOM] == 0
+}
+
+// "takes the first name in the table order that begins the text". The letters of lent rows are not known to the compiler, so that
+// there the first one is looked at before all else.
+pub fn first_name(rows: &[u8], count: usize, most: usize, lent: bool, text: &[u8]) -> Found
     requires { ⌜ (most ≤ 20) × (count * 21 ≤ length (now rows)) ⌝ }
     ensures { λ r. ⌜ r ≡ foundIn (matchName (namesAt most count (now (rows .entry))) (now (text .entry))) ⌝ }
 {
     'names: for index in 0..count {
+        if lent && !letter_begins(rows, index, most, text) {
+            continue 'names;
+        }
         let length = length_at(rows, index, most);
         if length <= text.len() {
             for j in 0..length {

@@ -92,5 +92,6 @@ pub fn tell(why: Refusal) -> Told
         Refusal::BookVersion => with_one(21, 0),
         Refusal::BookCut => with_one(22, 0),
         Refusal::BookName(which) => with_one(23, which as usize),
+        Refusal::ShortRow => with_one(24, 0),
     }
 }

@@ -14,6 +14,7 @@ use Rattle.laws.proofs.DayNumbers.{days-coincide}
 use Rattle.laws.proofs.Determined.{determined}
 use Rattle.laws.specs.CalendarLine.{Short}
 use Rattle.meaning.specs.Answers.{Answer, fieldNumbers, verdictAnswer}
+use Rattle.meaning.specs.Lists.{Rows}
 use Rattle.meaning.specs.Names.{Book}
 use Rattle.meaning.specs.declared.Choices.{Choices}
 use Rattle.meaning.specs.declared.Edition.{Edition}
@@ -22,7 +23,7 @@ use Rattle.meaning.specs.declared.Pair.{Pair}
 use Rattle.meaning.specs.declared.Verdict.{Verdict}
 use Rattle.meaning.specs.declared.Verdict.the-variants.{Yes, No, Refused}
 use Rattle.sheet.specs.Rows.{inRow, Given, editionOf, ofCheck}
-use Rattle.sheet.specs.Sheet.{has, ifRoom, ifChoices, verdictIn, SheetWrites, SheetReads, SheetReadsWith, SheetWritesBy, SheetReadsBy, SheetOpensBook, SheetWritesBook, SheetTellsRead, SheetParsesOffset, SheetSplits, SheetUnits, SheetChecks, SheetChecksWith, SheetDay, SheetDayNumber}
+use Rattle.sheet.specs.Sheet.{has, ifRoom, ifChoices, verdictIn, SheetWrites, SheetReads, SheetReadsWith, SheetWritesBy, SheetReadsBy, SheetReadsList, SheetReadsLine, SheetOpensBook, SheetWritesBook, SheetTellsRead, SheetParsesOffset, SheetSplits, SheetUnits, SheetChecks, SheetChecksWith, SheetDay, SheetDayNumber}
 use Rattle.trust.proofs.Agreement.{SameButRecord, answers-coincide}
 
 given-coincide : {answer : Answer} {old new new′ : List ℤ} {r r′ : ℕ} → Given answer old new r → Given answer old new′ r′ → (r ≡ r′) × (new ≡ new′)
@@ -55,6 +56,15 @@ writes-by-coincide n book p f out row = both-coincide
 pub reads-by-coincide : (n : ℕ) (book p s : List ℕ) (current : ℤ) (row : List ℤ) {r r′ : ℕ} {rowAfter rowAfter′ : List ℤ}
     → SheetReadsBy n book p s current row r rowAfter → SheetReadsBy n book p s current row r′ rowAfter′ → (r ≡ r′) × (rowAfter ≡ rowAfter′)
 reads-by-coincide n book p s current row = given-coincide
+
+pub lists-coincide : (n : ℕ) (book p s : List ℕ) (current : ℤ) (rows : Rows) (row : List ℤ) {r r′ : ℕ} {rowsAfter rowsAfter′ : Rows} {rowAfter rowAfter′ : List ℤ}
+    → SheetReadsList n book p s current rows row r rowsAfter rowAfter → SheetReadsList n book p s current rows row r′ rowsAfter′ rowAfter′
+    → (r ≡ r′) × (rowAfter ≡ rowAfter′) × (rowsAfter ≡ rowsAfter′)
+lists-coincide n book p s current rows row = both-coincide
+
+pub lines-coincide : (n : ℕ) (book p s : List ℕ) (at : ℕ) (current : ℤ) (row : List ℤ) {r r′ : ℕ} {rowAfter rowAfter′ : List ℤ}
+    → SheetReadsLine n book p s at current row r rowAfter → SheetReadsLine n book p s at current row r′ rowAfter′ → (r ≡ r′) × (rowAfter ≡ rowAfter′)
+lines-coincide n book p s at current row = given-coincide
 
 pub opened-coincide : (s book : List ℕ) (row : List ℤ) {r r′ : ℕ} {bookAfter bookAfter′ : List ℕ} {rowAfter rowAfter′ : List ℤ}
     → SheetOpensBook s book row r bookAfter rowAfter → SheetOpensBook s book row r′ bookAfter′ rowAfter′

@@ -51,7 +51,7 @@ use Rattle.parse.proofs.rule.Within.{within-step}
 
 -- the checks
 
-pattern-fits : (p : List ℕ) → NumberFits (length p) → CheckedFits (patternCheck p)
+pub pattern-fits : (p : List ℕ) → NumberFits (length p) → CheckedFits (patternCheck p)
 unfolding patternCheck details
 pattern-fits p h =
     else-fits (bytesCheck p) (when (endsInLoneQuote (contents p)) (Refused (LoneQuote _)) Fine) (bytes-fit p h)
@@ -88,7 +88,7 @@ year-small : (current : ℤ) → SFits w32 current → NumberFits (natAbs curren
 year-small (pos n) h = omega (arith, h .sfits)
 year-small (negsuc n) h = omega (arith, h .sfits)
 
-year-fits : (edition : Edition) (current : ℤ) → SFits w32 current → CheckedFits (currentYearCheck edition current)
+pub year-fits : (edition : Edition) (current : ℤ) → SFits w32 current → CheckedFits (currentYearCheck edition current)
 unfolding currentYearCheck details
 year-fits edition current h =
     when-is CheckedFits (isNegative current) (λ _. (year-small current h, tt)) (λ _. unless-fits (within (firstCurrentYear edition) 9999 (natAbs current)) (CurrentYear current) (year-small current h, tt))

@@ -7,6 +7,8 @@ use Rattle.meaning.specs.declared.Checked.{Checked}
 use Rattle.meaning.specs.declared.Checked.the-variants.{Fine, Refused}
 use Rattle.meaning.specs.declared.DayNumber.{DayNumber}
 use Rattle.meaning.specs.declared.DayNumber.the-variants as day
+use Rattle.meaning.specs.declared.Listed.{Listed}
+use Rattle.meaning.specs.declared.Listed.the-variants as listed
 use Rattle.meaning.specs.declared.Offset.{Offset}
 use Rattle.meaning.specs.declared.Offset.the-variants as offset
 use Rattle.meaning.specs.declared.Reading.{Reading}
@@ -36,6 +38,10 @@ WroteFits (wrote.Refused why) = WhyFits why
 
 abbrev pub ReadFits : Reading → Type 0
 ReadFits r = NumberFits (r .taken) × CheckedFits (r .checked)
+
+abbrev pub ListedFits : Listed → Type 0
+ListedFits (listed.Lines n) = NumberFits n
+ListedFits (listed.Refused why) = WhyFits why
 
 abbrev pub OffsetFits : Offset → Type 0
 OffsetFits (offset.Seconds z) = Unit

@@ -8,7 +8,7 @@ use lib.Dec.{eqb, leb}
 use lib.IntN.{ℤ, pos, negsuc}
 use lib.ListN.{length, replicate}
 use lib.Seq.{sets}
-use Rattle.meaning.specs.Answers.{Answer, bytesCheck}
+use Rattle.meaning.specs.Answers.{Answer, readAnswer, bytesCheck}
 use Rattle.meaning.specs.Bytes.{when, both}
 use Rattle.meaning.specs.OpenedBooks.{openedSize}
 use Rattle.meaning.specs.Reading.{StepUnit, itself, symbol, stepUnit}
@@ -21,6 +21,7 @@ use Rattle.meaning.specs.declared.Edition.{Edition}
 use Rattle.meaning.specs.declared.Edition.the-variants.{First, Second}
 use Rattle.meaning.specs.declared.Kind.{Kind}
 use Rattle.meaning.specs.declared.Kind.the-variants.{Run, Quotes, Quoted, Open}
+use Rattle.meaning.specs.declared.LineRead.{LineRead}
 use Rattle.meaning.specs.declared.Pair.{Pair}
 use Rattle.meaning.specs.declared.Pair.the-variants.{Full, Date}
 use Rattle.meaning.specs.declared.ParseUnit.{ParseUnit}
@@ -30,6 +31,14 @@ use Rattle.meaning.specs.declared.Split.{Split}
 -- an answer in a row of so many numbers: its values, then zeros
 abbrev pub inRow : ℕ → Answer → Answer
 inRow n a = record { number = a .number; values = a .values ++ replicate (n - length (a .values)) (pos 0) }
+
+-- a line in a row of 51 numbers: where it starts and ends and the next one starts, then its reading; where there is none, 103 and no
+-- number
+abbrev pub inLine : LineRead → Answer
+inLine l =
+    when (l .there)
+    (record { number = readAnswer (l .reading) .number; values = pos (l .start) ∷ pos (l .end) ∷ pos (l .next) ∷ inRow 48 (readAnswer (l .reading)) .values })
+    (record { number = 103; values = [] })
 
 -- the choices that a number stands for: 1 is the Date pair, 2 a strict reading, 4 the second edition, added
 abbrev pub pairOf : ℕ → Pair

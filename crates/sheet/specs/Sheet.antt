@@ -1,5 +1,6 @@
 -- What each function for C and Rust promises of the number r that it returns and of the lent rows afterwards. Where a lent row
--- is too small for the answer, r is 100, where a number stands for no choices, 101, where a row is no book, 102, and nothing is altered.
+-- is too small for the answer, r is 100, where a number stands for no choices, 101, where a row is no book, 102, where no line is left,
+-- 103, and nothing is altered.
 use mathlib.Core.Bool.{Bool}
 use mathlib.Core.List.{List, []}
 use mathlib.Core.Path.{_≡_}
@@ -7,9 +8,11 @@ use Prim.Native.Nat.{ℕ}
 use lib.Dec.{leb}
 use lib.IntN.{ℤ}
 use lib.ListN.{length}
-use Rattle.meaning.specs.Answers.{Answer, splitAnswer, wroteAnswer, readAnswer, offsetAnswer, dayNumberAnswer, dayAnswer, verdictAnswer}
+use Rattle.meaning.specs.Answers.{Answer, splitAnswer, wroteAnswer, readAnswer, listAnswer, offsetAnswer, dayNumberAnswer, dayAnswer, verdictAnswer}
 use Rattle.meaning.specs.Bytes.{when, both}
 use Rattle.meaning.specs.Days.{DayOf, dayNumber}
+use Rattle.meaning.specs.Lists as lists
+use Rattle.meaning.specs.Lists.{readList, listRows, readLine}
 use Rattle.meaning.specs.Names.{Book, english}
 use Rattle.meaning.specs.OpenedBooks.{bookIn, openBook, openOutput, writeBook, bookOutput}
 use Rattle.meaning.specs.Trust.{Says}
@@ -20,7 +23,7 @@ use Rattle.meaning.specs.declared.Edition.{Edition}
 use Rattle.meaning.specs.declared.Fields.{Fields}
 use Rattle.meaning.specs.declared.Pair.{Pair}
 use Rattle.meaning.specs.declared.Verdict.{Verdict}
-use Rattle.sheet.specs.Rows.{inRow, Given, laid, pairOf, editionOf, choicesOf, ofReading, ofCheck, isBook, isMarked, splitNumbers, unitEntries}
+use Rattle.sheet.specs.Rows.{inRow, inLine, Given, laid, pairOf, editionOf, choicesOf, ofReading, ofCheck, isBook, isMarked, splitNumbers, unitEntries}
 
 -- whether a row has so many entries
 abbrev pub has : {A : Type 0} → ℕ → List A → Bool
@@ -67,6 +70,17 @@ SheetWritesBy n book p f out row r outAfter rowAfter =
 abbrev pub SheetReadsBy : ℕ → List ℕ → List ℕ → List ℕ → ℤ → List ℤ → ℕ → List ℤ → Type 0
 SheetReadsBy n book p s current row r rowAfter =
     Given (ifChoices (ofReading n) (ifBook (isBook book) (readOf (choicesOf n) (bookIn book) p s current row))) row rowAfter r
+
+-- a list into four rows, and the line at a place of it
+
+abbrev pub SheetReadsList : ℕ → List ℕ → List ℕ → List ℕ → ℤ → lists.Rows → List ℤ → ℕ → lists.Rows → List ℤ → Type 0
+SheetReadsList n book p s current rows row r rowsAfter rowAfter =
+    Given (ifChoices (ofReading n) (ifBook (isBook book) (ifRoom (has 2 row) (inRow 2 (listAnswer (readList (choicesOf n) (bookIn book) p s current rows)))))) row rowAfter r
+    × (rowsAfter ≡ when (both (ofReading n) (both (isBook book) (has 2 row))) (listRows (choicesOf n) (bookIn book) p s current rows) rows)
+
+abbrev pub SheetReadsLine : ℕ → List ℕ → List ℕ → List ℕ → ℕ → ℤ → List ℤ → ℕ → List ℤ → Type 0
+SheetReadsLine n book p s at current row r rowAfter =
+    Given (ifChoices (ofReading n) (ifBook (isBook book) (ifRoom (has 51 row) (inLine (readLine (choicesOf n) (bookIn book) p s at current))))) row rowAfter r
 
 abbrev pub SheetOpensBook : List ℕ → List ℕ → List ℤ → ℕ → List ℕ → List ℤ → Type 0
 SheetOpensBook s book = WritesOut (wroteAnswer (openBook s book)) (openOutput s book) book

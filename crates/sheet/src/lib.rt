@@ -3,6 +3,7 @@
 pub mod answers;
 pub mod days;
 pub mod entries;
+pub mod listed;
 pub mod named;
 pub mod readings;
 pub mod splits;

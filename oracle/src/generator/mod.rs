@@ -5,6 +5,7 @@ mod checks;
 mod days;
 mod fields;
 mod library;
+mod lists;
 mod literals;
 mod offsets;
 mod patterns;
@@ -78,10 +79,13 @@ fn request(op: Op, turn: usize, random: &mut Random) -> Request {
             bytes: books::bytes(turn, random),
         },
         Op::BookWrite => book_write_request(turn, random),
-        read => {
-            let choices = read.choices().expect("all others are reads");
-            read_request(choices, turn, random)
-        }
+        other => match other.list_choices() {
+            Some(choices) => lists::list(choices, turn, random),
+            None => {
+                let choices = other.choices().expect("all others are reads");
+                read_request(choices, turn, random)
+            }
+        },
     }
 }
 

@@ -1,5 +1,8 @@
 //! A comparer on programs that answer, and how it finds out those that answer otherwise.
 
+// Each test uses some of it.
+#![allow(dead_code)]
+
 use harness::check::{verdict, CheckRequest};
 use harness::choices::{Books, Edition};
 use harness::expected::expected;
@@ -16,6 +19,7 @@ pub const COUNT: usize = 300;
 pub struct Comparer {
     path: &'static str,
     books: Option<Books>,
+    lists: bool,
     pub requests: Vec<String>,
     pub answers: Vec<String>,
 }
@@ -26,17 +30,36 @@ pub struct Outcome {
 }
 
 pub fn compare_with(books: Option<Books>, count: usize) -> Comparer {
-    let requests = || requests(books, count);
+    compare_on(books, false, requests(books, count))
+}
+
+/// Of lists alone.
+pub fn compare_lists(books: Option<Books>, count: usize) -> Comparer {
+    compare_on(books, true, lists(books, count))
+}
+
+fn compare_on(
+    books: Option<Books>,
+    lists: bool,
+    requests: impl Iterator<Item = Request>,
+) -> Comparer {
+    let of_both = requests.map(|request| (request.to_string(), right(&request)));
+    let (requests, answers) = of_both.unzip();
     Comparer {
         path: env!("CARGO_BIN_EXE_compare"),
         books,
-        requests: requests().map(|request| request.to_string()).collect(),
-        answers: requests().map(|request| right(&request)).collect(),
+        lists,
+        requests,
+        answers,
     }
 }
 
 pub fn requests(books: Option<Books>, count: usize) -> impl Iterator<Item = Request> {
     Generator::with(books, 1, Op::usual(books)).take(count)
+}
+
+pub fn lists(books: Option<Books>, count: usize) -> impl Iterator<Item = Request> {
+    Generator::with(books, 1, Op::LISTS.to_vec()).take(count)
 }
 
 pub fn right(request: &Request) -> String {
@@ -47,6 +70,7 @@ pub fn compare_check_with(books: Option<Books>) -> Comparer {
     Comparer {
         path: env!("CARGO_BIN_EXE_compare_check"),
         books,
+        lists: false,
         requests: checks(books).map(|request| request.to_string()).collect(),
         answers: verdicts(checks(books)),
     }
@@ -72,9 +96,11 @@ impl Comparer {
             Some(Books::English) => &["--books", "english"],
             Some(Books::Random) => &["--books", "random"],
         };
+        let lists: &[&str] = if self.lists { &["--lists"] } else { &[] };
         let run = Command::new(self.path)
             .args(["--seed", "1", "--count", &self.requests.len().to_string()])
             .args(books)
+            .args(lists)
             .args(["--", "sh", "-c"])
             .args(words)
             .output()
@@ -91,9 +117,10 @@ impl Comparer {
             .file_name()
             .expect("a program has a name");
         let file = Path::new(env!("CARGO_TARGET_TMPDIR")).join(format!(
-            "{}-{name}-{:?}",
+            "{}-{name}-{:?}-{}",
             comparer.to_string_lossy(),
-            self.books
+            self.books,
+            self.lists
         ));
         let lines: String = answers.iter().map(|answer| format!("{answer}\n")).collect();
         fs::write(&file, lines).expect("the file can be written");
@@ -144,10 +171,13 @@ pub fn is_found_out_with(
     name: &str,
     answer: impl Fn(&Request) -> String,
 ) {
-    let comparer = compare_with(books, count);
-    let answers: Vec<String> = requests(books, count)
-        .map(|request| answer(&request))
-        .collect();
+    let answers = requests(books, count).map(|request| answer(&request));
+    is_found_out_by(&compare_with(books, count), name, answers.collect());
+}
+
+/// The same of these answers.
+#[track_caller]
+pub fn is_found_out_by(comparer: &Comparer, name: &str, answers: Vec<String>) {
     let both = answers.iter().zip(&comparer.answers);
     let wrong = both.filter(|(answer, right)| answer != right).count();
     assert!(wrong > 0, "it is always right");

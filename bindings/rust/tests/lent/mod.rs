@@ -1,9 +1,9 @@
-//! The functions with a book as C sees them, and what fills what they are lent.
+//! The functions with a book as C sees them, those of lists among them, and what fills what they are lent.
 
 // Each test uses some of it.
 #![allow(dead_code)]
 
-use sheet::raw;
+use sheet::{raw, Columns};
 
 /// An entry of a row, and a byte of an output, that no call lays there.
 pub const MARK: i64 = -77;
@@ -62,6 +62,61 @@ pub fn read_by(choices: u32, book: &[u8], pattern: &[u8], text: &[u8], answer: &
             pattern.len(),
             text.as_ptr(),
             text.len(),
+            2025,
+            answer.as_mut_ptr(),
+            answer.len(),
+        )
+    }
+}
+
+/// Into the rows of a list.
+pub fn read_list(
+    choices: u32,
+    book: &[u8],
+    pattern: &[u8],
+    text: &[u8],
+    year: i32,
+    rows: &mut Columns,
+    answer: &mut [i64],
+) -> u32 {
+    // SAFETY: each pointer goes with the length of the slice that it comes from.
+    unsafe {
+        raw::sheet_read_list(
+            choices,
+            book.as_ptr(),
+            book.len(),
+            pattern.as_ptr(),
+            pattern.len(),
+            text.as_ptr(),
+            text.len(),
+            year,
+            rows.days.as_mut_ptr(),
+            rows.days.len(),
+            rows.months.as_mut_ptr(),
+            rows.months.len(),
+            rows.years.as_mut_ptr(),
+            rows.years.len(),
+            rows.codes.as_mut_ptr(),
+            rows.codes.len(),
+            answer.as_mut_ptr(),
+            answer.len(),
+        )
+    }
+}
+
+/// The line at a place.
+pub fn read_line(choices: u32, book: &[u8], pattern: &[u8], text: &[u8], at: usize, answer: &mut [i64]) -> u32 {
+    // SAFETY: each pointer goes with the length of the slice that it comes from.
+    unsafe {
+        raw::sheet_read_line(
+            choices,
+            book.as_ptr(),
+            book.len(),
+            pattern.as_ptr(),
+            pattern.len(),
+            text.as_ptr(),
+            text.len(),
+            at,
             2025,
             answer.as_mut_ptr(),
             answer.len(),

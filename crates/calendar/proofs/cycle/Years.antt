@@ -1,6 +1,6 @@
 -- The year of a day of the cycle is the guess, or the one after.
 use mathlib.Core.Path.{_≡_, ap}
-use Prim.Native.Nat.{ℕ, suc, _+_, _-_, _*_, _/_, _≤_, _<_}
+use Prim.Native.Nat.{ℕ, suc, _+_, _-_, _*_, _/_, _%_, _≤_, _<_}
 use native.Mathlib.Omega.{arith}
 use borrow.Author.Tests.{ltb-true, ltb-false}
 use lib.Dec.{ltb}
@@ -20,6 +20,16 @@ begun-by day g h low = omega (arith, days-on g)
 soon-by : (day g : ℕ) → g < 400 → 4 * day + 3 < 1461 * g + 1461 → day < daysOn g + 369
 soon-by day g h high = omega (arith, days-on g)
 
+days-short : (g : ℕ) → g < 400 → daysOn g + g / 100 ≡ 365 * g + g / 4
+days-short g h = omega (arith, days-on g)
+
+-- with the quotients as plain numbers, which `omega` would take apart
+by-quarters : (day g q r x y : ℕ) → g ≡ 4 * q + r → r < 4 → 4 * day + 3 ≡ 1461 * g + (4 * x + y) → y < 4 → x + 365 * g + q ≡ day
+by-quarters day g q r x y e h f k = omega arith
+
+past-by : (day g q h x d : ℕ) → x + 365 * g + q ≡ day → d + h ≡ 365 * g + q → x + h ≡ day - d
+past-by day g q h x d e f = omega arith
+
 -- a year that begins by a day of the cycle is one of the cycle's
 in-cycle : (day k : ℕ) → day < 146097 → daysOn k ≤ day → k ≤ 400 → k < 400
 in-cycle day k h le top =
@@ -33,8 +43,20 @@ module _ (day g : ℕ) (h : day < 146097) (e : (4 * day + 3) / 1461 ≡ g) where
   pub guess-begun : daysOn g ≤ day
   guess-begun = begun-by day g guess-known (omega arith)
 
+  -- the guess counts 1461 days to four years also where a century ends, a day too many each time
+  past-is : (4 * day + 3) % 1461 / 4 + g / 100 ≡ day - daysOn g
+  past-is =
+      let x = (4 * day + 3) % 1461 in
+      past-by day g (g / 4) (g / 100) (x / 4) (daysOn g)
+      (by-quarters day g (g / 4) (g % 4) (x / 4) (x % 4) (omega arith) (omega arith) (omega arith) (omega arith)) (days-short g guess-known)
+
   pub guess-stands : day - daysOn g < yearLength (leap (suc g)) → InYear 400 day g (day - daysOn g)
   guess-stands i = let b = guess-begun in record { known = guess-known; here = omega arith; inside = i }
+
+  pub guess-early : (4 * day + 3) % 1461 / 4 + g / 100 < 365 → InYear 400 day g ((4 * day + 3) % 1461 / 4 + g / 100)
+  guess-early i =
+      let l = year-long (leap (suc g)) in
+      rw past-is (guess-stands (omega (arith, rw past-is at i)))
 
   pub year-next : yearLength (leap (suc g)) ≤ day - daysOn g → InYear 400 day (suc g) (day - daysOn g - yearLength (leap (suc g)))
   year-next i =

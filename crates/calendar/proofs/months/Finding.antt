@@ -1,13 +1,14 @@
 -- The arithmetic of months, by a computed test of each month and of each day of both kinds of year.
 use mathlib.Core.Bool.{Bool, true, false}
-use mathlib.Core.Path.{_≡_, refl, subst}
-use Prim.Native.Nat.{ℕ, zero, suc, _+_, _-_, _*_, _/_, _≤_, _<_}
+use mathlib.Core.Path.{_≡_, refl}
+use Prim.Native.Nat.{ℕ, zero, suc, _+_, _-_, _*_, _/_, _%_, _≤_, _<_}
 use native.Mathlib.Omega.{arith}
 use borrow.Author.Tests.{lt-ltb, le-ltb}
 use lib.Dec.{ltb}
-use Rattle.calendar.specs.Months.{lost, Begun}
+use Rattle.calendar.specs.Months.{lost, stretchedPast}
 use Rattle.laws.proofs.CalendarMonths.{month-after}
-use Rattle.laws.proofs.Tests.{tabulate, tables-agree}
+use Rattle.laws.proofs.CalendarYears.{year-short}
+use Rattle.laws.proofs.Tests.{by-test, tabulate, tables-agree}
 use Rattle.laws.specs.CalendarLine.{InMonth}
 use Rattle.meaning.specs.Bytes.{when}
 use Rattle.meaning.specs.Calendar.{yearLength, total, beforeMonth, monthLength}
@@ -30,53 +31,53 @@ pub later : (l : Bool) (m : ℕ) → m < 13 → 2 ≤ m → (367 * m + 5) / 12 -
 unfolding begins
 later l m h k = rw (le-ltb m 2 k) at (begins-is l m h)
 
--- the month of a day
+-- the month of a day, and the day of it
 
-over : Bool → ℕ → ℕ
-over l past = when (ltb past (61 - lost l)) ((12 * past + 6) / 367) ((12 * (past + lost l) + 6) / 367)
+steps : Bool → ℕ → ℕ
+steps l past = 67 * stretchedPast l past + 2078
 
--- by how much it is past December, begins too late or ends too early
+monthBy : Bool → ℕ → ℕ
+monthBy l past = steps l past / 2048
+
+dayBy : Bool → ℕ → ℕ
+dayBy l past = steps l past % 2048 / 67 + 1
+
+-- by how much there is no such month, it has no such day, or this is another day of the year
 wrong : Bool → ℕ → ℕ
 wrong l past =
-    (over l past - 11) + (beforeMonth l (suc (over l past)) - past) + (suc past - beforeMonth l (suc (suc (over l past))))
+    (1 - monthBy l past) + (monthBy l past - 12) + (dayBy l past - monthLength l (monthBy l past))
+    + (beforeMonth l (monthBy l past) + dayBy l past - (past + 1)) + (past + 1 - (beforeMonth l (monthBy l past) + dayBy l past))
 
 not-wrong : (l : Bool) (past : ℕ) → past < yearLength l → wrong l past ≡ 0
-unfolding over wrong tabulate total beforeMonth
+unfolding steps monthBy dayBy wrong tabulate total beforeMonth monthLength
 not-wrong true past h = tables-agree (wrong true) (λ (n : ℕ). 0) 366 past refl h
 not-wrong false past h = tables-agree (wrong false) (λ (n : ℕ). 0) 365 past refl h
 
-over-is : (l : Bool) (past : ℕ) → past < yearLength l → Begun l past (over l past)
+some-day : (l : Bool) (past : ℕ) → 1 ≤ dayBy l past
+unfolding dayBy
+some-day l past = omega arith
+
+found : (l : Bool) (past : ℕ) → past < yearLength l → InMonth l past (monthBy l past) (dayBy l past)
 unfolding wrong
-over-is l past h =
+found l past h =
     let e = not-wrong l past h in
-    record { known = omega arith; begun = omega arith; lasts = omega arith }
+    let d : 1 ≤ dayBy l past = some-day l past in
+    record { first = omega arith; last = omega arith; some = d; fits = omega arith; here = omega arith }
 
-module _ (l : Bool) (past : ℕ) (h : past < yearLength l) where
-  pub over-early : past < 61 - lost l → Begun l past ((12 * past + 6) / 367)
-  unfolding over
-  over-early k = rw (lt-ltb past (61 - lost l) k) at (over-is l past h)
-
-  pub over-later : 61 - lost l ≤ past → Begun l past ((12 * (past + lost l) + 6) / 367)
-  unfolding over
-  over-later k = rw (le-ltb past (61 - lost l) k) at (over-is l past h)
+pub in-month : (l : Bool) (past n : ℕ) → past < yearLength l → n ≡ stretchedPast l past
+    → InMonth l past ((67 * n + 2078) / 2048) ((67 * n + 2078) % 2048 / 67 + 1)
+unfolding steps monthBy dayBy
+in-month l past n h e = rw e (found l past h)
 
 pub few-lost : (l : Bool) → lost l ≤ 2
 few-lost true = omega arith
 few-lost false = omega arith
 
-pub in-month : (l : Bool) (past m : ℕ) → Begun l past m → InMonth l past (m + 1) (past - beforeMonth l (suc m) + 1)
-in-month l past m h =
-    let e : suc m ≡ m + 1 = omega arith in
-    let k = h .known in
-    let b = h .begun in
-    subst (λ (n : ℕ). InMonth l past n (past - beforeMonth l (suc m) + 1)) e
-    (record {
-      first = omega arith;
-      last = omega arith;
-      some = omega arith;
-      fits = omega (arith, h .lasts, month-after l m k);
-      here = omega arith;
-    })
+pub few-steps : (l : Bool) (past : ℕ) → past < yearLength l → stretchedPast l past < 369
+few-steps l past h =
+    let s = year-short l in
+    let f = few-lost l in
+    by-test (ltb past (61 - lost l)) (λ t. rw t (omega arith)) (λ t. rw t (omega arith))
 
 pub month-ends : (l : Bool) (m : ℕ) → 1 ≤ m → m ≤ 12 → beforeMonth l (suc m) ≡ beforeMonth l (suc (m - 1)) + monthLength l m
 month-ends l zero h k = absurd (omega arith)

@@ -1,11 +1,15 @@
 -- Where the Thursday of a week is, by the days of the year before it.
-use mathlib.Core.Path.{refl}
-use Prim.Native.Nat.{ℕ, zero, suc, _+_, _-_, _/_, _≤_, _<_}
+use mathlib.Core.Path.{_≡_, refl}
+use Prim.Native.Nat.{ℕ, zero, suc, _+_, _-_, _*_, _/_, _≤_, _<_}
 use native.Mathlib.Omega.{arith}
 use Rattle.laws.proofs.CalendarCycles.{year-after}
 use Rattle.laws.proofs.CalendarYears.{year-long}
 use Rattle.laws.specs.CalendarLine.{WeekOn}
 use Rattle.meaning.specs.Calendar.{leap, yearLength, daysOn}
+
+-- in a year, sevenths are so many of 65536
+pub sevenths : (n : ℕ) → n < 366 → n * 9363 / 65536 ≡ n / 7
+sevenths n h = omega arith
 
 module _ (p past since : ℕ) (known : p < 11759999) (soon : since < 7) where
   pub here : since ≤ past + 3 → past + 3 - since < yearLength (leap (suc p)) → WeekOn (daysOn p + (past + 3) - since) ((past + 3 - since) / 7 + 1)

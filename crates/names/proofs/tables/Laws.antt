@@ -1,5 +1,5 @@
 -- Laws of rooms and matches, for the loops of the matcher and of the writer and for the calls over them: what a room holds, rooms
--- that hold some names, a turn over the bytes of a name, and a turn over names.
+-- that hold some names, a turn over the bytes of a name, its first letter, and a turn over names.
 use mathlib.Core.Bool.{Bool, true, false}
 use mathlib.Core.List.{List, [], _∷_}
 use mathlib.Core.Path.{_≡_, refl, ap, sym, _∙_}
@@ -11,7 +11,7 @@ use lib.Dec.{eqb}
 use lib.ListN.{length, take, drop, getD, length-take, length-drop, drop-of-length-le}
 use lib.Seq.{drop-cons, drop-drop, getD-take, getD-drop}
 use Rattle.laws.proofs.OpenedBooks.{count-at}
-use Rattle.laws.proofs.Tests.{when-true, when-false}
+use Rattle.laws.proofs.Tests.{true-is-not-false, when-true, when-false}
 use Rattle.meaning.specs.Bytes.{both, when}
 use Rattle.meaning.specs.OpenedBooks.{nameRoom, nameAt, namesAt}
 use Rattle.meaning.specs.Readers.{begins, firstName, matchName, got, stopped}
@@ -103,6 +103,54 @@ module _ (name s : List ℕ) (j : ℕ) where
   pub all-bytes : length name ≤ j → begins (drop j name) (drop j s) ≡ true
   unfolding begins
   all-bytes h = rw (drop-of-length-le name h)
+
+-- ---- the first letter of a name
+
+same-first : (name s : List ℕ) → 0 < length s → (0 < length name → getD name 0 0 ≡ getD s 0 0) → begins (take 1 name) s ≡ true
+unfolding begins
+same-first [] s h e = refl
+same-first (a ∷ name) [] h e = absurd (omega arith)
+same-first (a ∷ name) (b ∷ s) h e = rw (eq-eqb a b (e (omega arith)))
+
+other-first : (name s : List ℕ) → (0 < length s → 0 < length name → getD name 0 0 ≡ getD s 0 0 → ⊥) → begins (take 1 name) s ≡ eqb (length name) 0
+unfolding begins
+other-first [] s e = refl
+other-first (a ∷ name) [] e = sym (ne-eqb (suc (length name)) 0 (λ z. omega arith))
+other-first (a ∷ name) (b ∷ s) e = rw (ne-eqb a b (e (omega arith) (omega arith)), ne-eqb (suc (length name)) 0 (λ z. omega arith))
+
+same-none : (n most k : ℕ) → (most ≡ 0 → ⊥) → k ≡ min n most → eqb n 0 ≡ eqb k 0
+same-none zero most k h e = sym (eq-eqb k 0 (omega arith))
+same-none (suc n) most k h e = ne-eqb (suc n) 0 (λ z. omega arith) ∙ sym (ne-eqb k 0 (λ z. h (omega arith)))
+
+-- the letter as it stands in the room, and where it is another one, the room's size
+module _ (most : ℕ) (rows s : List ℕ) (i : ℕ) (at : Room most rows i) where
+  abbrev own : List ℕ
+  own = nameIn most rows i
+
+  room-letter : 0 < length own → getD own 0 0 ≡ getD rows (i * nameRoom + 1) 0
+  room-letter h = let p : i * nameRoom + 1 + 0 ≡ i * nameRoom + 1 = omega arith in rw (at .byte 0 h, p)
+
+  pub letter-same : 0 < length s → getD rows (i * nameRoom + 1) 0 ≡ getD s 0 0 → begins (take 1 own) s ≡ true
+  letter-same h e = same-first own s h (λ k. room-letter k ∙ e)
+
+  module _ (apart : 0 < length s → getD rows (i * nameRoom + 1) 0 ≡ getD s 0 0 → ⊥) where
+    by-length : begins (take 1 own) s ≡ eqb (length own) 0
+    by-length = other-first own s (λ h k e. apart h (sym (room-letter k) ∙ e))
+
+    pub letter-none : most ≡ 0 → begins (take 1 own) s ≡ true
+    letter-none e = let k : length own ≡ 0 = omega (arith, at .size) in by-length ∙ eq-eqb (length own) 0 k
+
+    pub letter-apart : (most ≡ 0 → ⊥) → begins (take 1 own) s ≡ eqb (getD rows (i * nameRoom) 0) 0
+    letter-apart h = by-length ∙ sym (same-none (getD rows (i * nameRoom) 0) most (length own) h (at .size))
+
+pub other-letter : (name s : List ℕ) → begins (take 1 name) s ≡ false → begins name s ≡ false
+unfolding begins
+other-letter [] s e = e
+other-letter (a ∷ name) [] e = refl
+other-letter (a ∷ name) (b ∷ s) e = only-first (eqb a b) (begins name s) e where
+  only-first : (t u : Bool) → both t true ≡ false → both t u ≡ false
+  only-first true u f = true-is-not-false f
+  only-first false u f = refl
 
 -- ---- a turn over names
 

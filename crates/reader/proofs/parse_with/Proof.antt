@@ -1,61 +1,48 @@
--- What the checks say, and else the walk.
+-- All checks, those of the pattern and the year first.
 use borrow.Author.Needs.{needs}
 use denote.Ref.{now}
 use mathlib.Core.Path.{sym, _∙_}
 use mir.Syntax.{w32}
 use mir.ValLaws.{toZ-ofZ}
-use Rattle.laws.proofs.Checks.{read-short}
+use Rattle.laws.proofs.Checks.{else-fine, text-short, read-checks}
 use Rattle.laws.proofs.Told.{by-whole}
 use Rattle.meaning.specs.Whole.{read}
 use Rattle.reader.proofs.parse_with.Statement.{statement}
 use Rattle.reader.proofs.parse_with.Tie as tie
 
-read-check-requires : tie.Need-read-check-requires
-read-check-requires c κs = search needs
+once-check-requires : tie.Need-once-check-requires
+once-check-requires c κs = search needs
 
-enum-told : tie.Need-enum-told
-enum-told c = search needs
+text-check-requires : tie.Need-text-check-requires
+text-check-requires c κs = search needs
 
-size-requires : tie.Need-size-requires
-size-requires c κs = search needs
+or-else-requires : tie.Need-or-else-requires
+or-else-requires c κs = search needs
 
-parse-parts-requires : tie.Need-parse-parts-requires
-parse-parts-requires c κs =
-    let a = c .before .before .before .before .before .before .before .args in
-    read-short (a .choices .edition) (now (a .pattern)) (now (a .text)) _ (sym (c .before .before .before .read-check .ensures) ∙ c .before .enum-told .given .1)
-
-enum-told-2 : tie.Need-enum-told-2
-enum-told-2 c = search needs
-
-no-reading-requires : tie.Need-no-reading-requires
-no-reading-requires c κs = search needs
+parse-by-requires : tie.Need-parse-by-requires
+parse-by-requires c κs fine =
+    let of-text = c .before in
+    let of-pattern = of-text .before in
+    text-short _
+    (sym (of-text .text-check .ensures)
+    ∙ else-fine (of-pattern .once-check .result) (of-text .text-check .result) (sym (c .or-else .ensures) ∙ fine) .1)
 
 returns : tie.Need-returns
 unfolding read
 returns c =
-    let a = c .before .before .before .before .before .before .before .before .args in
+    let s = c .before .before .before .before .before .before .before in
+    let a = s .args in
     let same = toZ-ofZ w32 (a .year) (search needs) in
-    let checked = rw same at (c .before .before .before .before .read-check .ensures) in
-    let year = rw same at (c .before .size .ensures) in
-    by-whole (rw (← checked, c .before .before .enum-told .given .1, ← year) (c .parse-parts .ensures))
-
-returns-2 : tie.Need-returns-2
-unfolding read
-returns-2 c =
-    let a = c .before .before .before .before .before .before .before .args in
-    let same = toZ-ofZ w32 (a .year) (search needs) in
-    let checked = rw same at (c .before .before .before .read-check .ensures) in
-    by-whole (rw (← checked, c .before .enum-told2 .given .1) (rw (c .before .enum-told2 .given .1) at (c .no-reading .ensures)))
+    let of-pattern = rw same at (c .before .before .before .once-check .ensures) in
+    let reads = rw (same, c .before .or-else .ensures, of-pattern, c .before .before .text-check .ensures) at (c .parse-by .ensures) in
+    by-whole (rw (read-checks (a .choices .edition) (now (a .pattern)) (now (a .text)) (a .year)) reads)
 
 pub parse-with-spec : {M : Type 1} → statement M
 parse-with-spec =
     tie.close
     (tie.spec
-    read-check-requires
-    enum-told
-    size-requires
-    parse-parts-requires
-    enum-told-2
-    no-reading-requires
-    returns
-    returns-2)
+    once-check-requires
+    text-check-requires
+    or-else-requires
+    parse-by-requires
+    returns)

@@ -138,6 +138,12 @@ cast-with-one-3 c = search needs
 with-one-requires-16 : tie.Need-with-one-requires-16
 with-one-requires-16 c κs = search needs
 
+enum-told-6 : tie.Need-enum-told-6
+enum-told-6 c = search needs
+
+with-one-requires-17 : tie.Need-with-one-requires-17
+with-one-requires-17 c κs = search needs
+
 returns : tie.Need-returns
 unfolding number details
 returns c = rw (c .with-one .ensures, c .before .before .why .given .1)
@@ -214,6 +220,10 @@ returns-18 : tie.Need-returns-18
 unfolding number details
 returns-18 c = rw (c .with-one16 .ensures, c .before .before .why13 .given .1)
 
+returns-19 : tie.Need-returns-19
+unfolding number details
+returns-19 c = rw (c .with-one17 .ensures, c .before .enum-told6 .given .1)
+
 pub tell-spec : {M : Type 1} → statement M
 tell-spec =
     tie.close
@@ -262,6 +272,8 @@ tell-spec =
     enum-known-why-13
     cast-with-one-3
     with-one-requires-16
+    enum-told-6
+    with-one-requires-17
     returns
     returns-2
     returns-3
@@ -279,4 +291,5 @@ tell-spec =
     returns-15
     returns-16
     returns-17
-    returns-18)
+    returns-18
+    returns-19)

@@ -3,7 +3,7 @@
 use crate::lines::LONGEST;
 use crate::pair::Pair;
 use crate::words::Words;
-use crate::{books, checking, days, reading, splitting, writing};
+use crate::{books, checking, days, lists, reading, splitting, writing};
 use sheet::Refusal;
 
 const BAD_REQUEST: &str = "bad request";
@@ -28,6 +28,7 @@ fn answer_to(line: &[u8]) -> Option<String> {
         b"day_number" => days::answer_number(words),
         b"book" => books::answer(words),
         b"book_write" => books::answer_write(words),
+        b"list" => lists::answer(words),
         _ => None,
     }
 }
@@ -99,6 +100,10 @@ mod tests {
             "parse_offset 5a book:-",
             "day_of 1 book:-",
             "book - book:-",
+            "list",
+            "list 64 33 2025",
+            "List 64 33 2025 1",
+            "list 64 33 2025 1 2",
         ];
         for line in lines {
             assert_eq!(answer(line.as_bytes()), "bad request", "{line}");

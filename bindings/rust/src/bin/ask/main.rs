@@ -7,6 +7,7 @@ mod checking;
 mod days;
 mod hex;
 mod lines;
+mod lists;
 mod marks;
 mod pair;
 mod reader;

@@ -23,7 +23,7 @@ pub fn answer(pair: Pair, mut words: Words) -> Option<String> {
 }
 
 /// By the words that may stand behind a read, in this order.
-fn choices(pair: Pair, words: &mut Words) -> Choices {
+pub fn choices(pair: Pair, words: &mut Words) -> Choices {
     let mut choices = pair.choices();
     if words.takes(b"strict") {
         choices = choices.strict();

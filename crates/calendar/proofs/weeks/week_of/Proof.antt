@@ -1,8 +1,8 @@
 -- The Thursday is in the year before, in this one or in the next.
 use mathlib.Core.Path.{_≡_, ap, _∙_}
-use Prim.Native.Nat.{suc, _<_}
+use Prim.Native.Nat.{suc, _+_, _-_, _<_}
 use native.Mathlib.Omega.{arith}
-use Rattle.calendar.proofs.weeks.Thursdays.{here, next, before}
+use Rattle.calendar.proofs.weeks.Thursdays.{sevenths, here, next, before}
 use Rattle.laws.proofs.CalendarYears.{year-short, year-long}
 use Rattle.meaning.specs.Calendar.{leap, yearLength}
 use borrow.Author.Needs.{needs}
@@ -43,6 +43,9 @@ returns c =
 year-length-requires-2 : tie.Need-year-length-requires-2
 year-length-requires-2 c κs = search needs
 
+mul-result : tie.Need-mul-result
+mul-result c = omega (arith, c .before .year-length2 .ensures, year-short (c .before .before .before .args .leap))
+
 add-result-3 : tie.Need-add-result-3
 add-result-3 c = search needs
 
@@ -50,7 +53,9 @@ returns-2 : tie.Need-returns-2
 returns-2 c =
     let a = c .before .before .before .args in
     let e : a .leap ≡ leap (suc (a .place)) = search needs in
-    here (a .place) (a .past) (a .since) (omega arith) (omega arith) (omega arith) (rw (c .before .year-length2 .ensures, e) at (c .if2 .taken))
+    let i = rw (c .before .year-length2 .ensures, e) at (c .if2 .taken) in
+    rw (sevenths (a .past + 3 - a .since) (omega (arith, i, year-short (leap (suc (a .place))))))
+    (here (a .place) (a .past) (a .since) (omega arith) (omega arith) (omega arith) i)
 
 returns-3 : tie.Need-returns-3
 returns-3 c =
@@ -71,6 +76,7 @@ week-of-spec =
     add-result-2
     returns
     year-length-requires-2
+    mul-result
     add-result-3
     returns-2
     returns-3)

@@ -4,56 +4,37 @@ use mathlib.Core.Path.{_≡_, refl, sym, _∙_}
 use Prim.Native.Nat.{_≤_, _<_, _-_}
 use native.Mathlib.Omega.{arith}
 use borrow.Author.Needs.{needs}
+use borrow.Author.Tests.{not-true}
 use denote.Ref.{now}
 use lib.ListN.{length, drop}
 use Rattle.meaning.specs.OpenedBooks.{namesAt}
 use Rattle.meaning.specs.Readers.{begins, firstName, matchName}
 use Rattle.names.specs.Table.{nameIn}
-use Rattle.names.proofs.tables.Laws.{Room, room, too-long, same-byte, other-byte, all-bytes, this-name, next-name, no-name}
+use Rattle.names.proofs.tables.Laws.{Room, room, too-long, same-byte, other-byte, all-bytes, other-letter, this-name, next-name, no-name}
 use Rattle.names.proofs.tables.first_name.Statement.{statement}
 use Rattle.names.proofs.tables.first_name.Tie as tie
 
 abbrev Inv-loop : tie.InvT-loop
-Inv-loop rows count most text index₀ size j₀ index j =
+Inv-loop rows count most lent text index₀ size j₀ index j =
     (index ≡ index₀) × (j ≤ size) × (Room most rows index₀)
     × (begins (nameIn most rows index₀) text ≡ begins (drop j (nameIn most rows index₀)) (drop j text))
 
 abbrev μ-loop : tie.MeasureT-loop
-μ-loop rows count most text index₀ size j₀ index j = size - j
+μ-loop rows count most lent text index₀ size j₀ index j = size - j
 
 abbrev Inv-names : tie.InvT-names
-Inv-names rows count most text index₀ index =
+Inv-names rows count most lent text index₀ index =
     (index ≤ count) × (matchName (namesAt most count rows) text ≡ firstName index (drop index (namesAt most count rows)) text)
 
 abbrev μ-names : tie.MeasureT-names
-μ-names rows count most text index₀ index = count - index
+μ-names rows count most lent text index₀ index = count - index
 
 names-holds : tie.Need-names-holds Inv-loop μ-loop Inv-names μ-names
 unfolding matchName
 names-holds c = (search needs, refl)
 
-length-at-requires : tie.Need-length-at-requires Inv-loop μ-loop Inv-names μ-names
-length-at-requires c κs = search needs
-
-loop-holds : tie.Need-loop-holds Inv-loop μ-loop Inv-names μ-names
-loop-holds c =
-    let o = c .before .before .before in
-    (refl, search needs, room _ _ _ (o .before .before .before .pre .0) (omega arith), refl)
-
-mul-if2 : tie.Need-mul-if2 Inv-loop μ-loop Inv-names μ-names
-mul-if2 c = search needs
-
-add-if2 : tie.Need-add-if2 Inv-loop μ-loop Inv-names μ-names
-add-if2 c = search needs
-
-add-if2-2 : tie.Need-add-if2-2 Inv-loop μ-loop Inv-names μ-names
-add-if2-2 c = search needs
-
-shared-slice-read-if2 : tie.Need-shared-slice-read-if2 Inv-loop μ-loop Inv-names μ-names
-shared-slice-read-if2 c = search needs
-
-shared-slice-read-if2-2 : tie.Need-shared-slice-read-if2-2 Inv-loop μ-loop Inv-names μ-names
-shared-slice-read-if2-2 c = search needs
+letter-begins-requires : tie.Need-letter-begins-requires Inv-loop μ-loop Inv-names μ-names
+letter-begins-requires c κs = search needs
 
 add-index : tie.Need-add-index Inv-loop μ-loop Inv-names μ-names
 add-index c = search needs
@@ -63,8 +44,44 @@ names-less c = search needs
 
 names-again : tie.Need-names-again Inv-loop μ-loop Inv-names μ-names
 names-again c =
+    let letter = c .before .letter-begins in
+    let o = c .before .before .before .before in
+    let a = o .before .before .before .args in
+    (search needs, o .names .inv .1 ∙ next-name (a .most) (a .count) (now (a .rows)) (now (a .text)) _ (omega arith) (other-letter _ _ (sym (letter .ensures) ∙ not-true (letter .result) (c .if2 .taken))))
+
+length-at-requires : tie.Need-length-at-requires Inv-loop μ-loop Inv-names μ-names
+length-at-requires c κs = search needs
+
+loop-holds : tie.Need-loop-holds Inv-loop μ-loop Inv-names μ-names
+loop-holds c =
+    let o = c .before .before .before .before in
+    (refl, search needs, room _ _ _ (o .before .before .before .pre .0) (omega arith), refl)
+
+mul-if4 : tie.Need-mul-if4 Inv-loop μ-loop Inv-names μ-names
+mul-if4 c = search needs
+
+add-if4 : tie.Need-add-if4 Inv-loop μ-loop Inv-names μ-names
+add-if4 c = search needs
+
+add-if4-2 : tie.Need-add-if4-2 Inv-loop μ-loop Inv-names μ-names
+add-if4-2 c = search needs
+
+shared-slice-read-if4 : tie.Need-shared-slice-read-if4 Inv-loop μ-loop Inv-names μ-names
+shared-slice-read-if4 c = search needs
+
+shared-slice-read-if4-2 : tie.Need-shared-slice-read-if4-2 Inv-loop μ-loop Inv-names μ-names
+shared-slice-read-if4-2 c = search needs
+
+add-index-2 : tie.Need-add-index-2 Inv-loop μ-loop Inv-names μ-names
+add-index-2 c = search needs
+
+names-less-2 : tie.Need-names-less-2 Inv-loop μ-loop Inv-names μ-names
+names-less-2 c = search needs
+
+names-again-2 : tie.Need-names-again-2 Inv-loop μ-loop Inv-names μ-names
+names-again-2 c =
     let l = c .before .before .before .before in
-    let o = l .before .before .before in
+    let o = l .before .before .before .before in
     let a = o .before .before .before .before .args in
     let same = l .loop .inv .0 in
     let at = l .loop .inv .2 in
@@ -74,7 +91,7 @@ names-again c =
           ∙ next-name (a .most) (a .count) (now (a .rows)) (now (a .text)) _ (o .names-test .taken)
           (l .loop .inv .3
           ∙ other-byte _ _ (l .loop .j) (omega arith) (omega arith)
-          (λ e. c .if2 .taken (rw same (sym (at .byte (l .loop .j) (omega arith)) ∙ e)))),
+          (λ e. c .if4 .taken (rw same (sym (at .byte (l .loop .j) (omega arith)) ∙ e)))),
     )
 
 add-j : tie.Need-add-j Inv-loop μ-loop Inv-names μ-names
@@ -92,13 +109,13 @@ loop-again c =
       at,
       l .loop .inv .3
           ∙ same-byte _ _ (l .loop .j) (omega arith) (omega arith)
-          (at .byte (l .loop .j) (omega arith) ∙ rw (← l .loop .inv .0) (c .if2 .left)),
+          (at .byte (l .loop .j) (omega arith) ∙ rw (← l .loop .inv .0) (c .if4 .left)),
     )
 
 returns : tie.Need-returns Inv-loop μ-loop Inv-names μ-names
 returns c =
     let l = c .before in
-    let o = l .before .before .before in
+    let o = l .before .before .before .before in
     rw (
       l .loop .inv .0,
       o .before .names .inv .1,
@@ -106,15 +123,15 @@ returns c =
       l .before .before .length-at .ensures,
     )
 
-add-index-2 : tie.Need-add-index-2 Inv-loop μ-loop Inv-names μ-names
-add-index-2 c = search needs
+add-index-3 : tie.Need-add-index-3 Inv-loop μ-loop Inv-names μ-names
+add-index-3 c = search needs
 
-names-less-2 : tie.Need-names-less-2 Inv-loop μ-loop Inv-names μ-names
-names-less-2 c = search needs
+names-less-3 : tie.Need-names-less-3 Inv-loop μ-loop Inv-names μ-names
+names-less-3 c = search needs
 
-names-again-2 : tie.Need-names-again-2 Inv-loop μ-loop Inv-names μ-names
-names-again-2 c =
-    let o = c .before .before in
+names-again-3 : tie.Need-names-again-3 Inv-loop μ-loop Inv-names μ-names
+names-again-3 c =
+    let o = c .before .before .before in
     let a = o .before .before .before .before .args in
     let h : length (now (a .text)) < length (nameIn (a .most) (now (a .rows)) (o .before .names .index)) = omega arith in
     (search needs, o .before .names .inv .1 ∙ next-name (a .most) (a .count) (now (a .rows)) (now (a .text)) _ (o .names-test .taken) (too-long _ _ h))
@@ -131,21 +148,25 @@ first-name-spec =
     Inv-names
     μ-names
     names-holds
-    length-at-requires
-    loop-holds
-    mul-if2
-    add-if2
-    add-if2-2
-    shared-slice-read-if2
-    shared-slice-read-if2-2
+    letter-begins-requires
     add-index
     names-less
     names-again
+    length-at-requires
+    loop-holds
+    mul-if4
+    add-if4
+    add-if4-2
+    shared-slice-read-if4
+    shared-slice-read-if4-2
+    add-index-2
+    names-less-2
+    names-again-2
     add-j
     loop-less
     loop-again
     returns
-    add-index-2
-    names-less-2
-    names-again-2
+    add-index-3
+    names-less-3
+    names-again-3
     returns-2)
