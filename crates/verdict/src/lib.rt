@@ -24,7 +24,7 @@ use rules::step::step_of;
 use trust::Need;
 
 // Whether what the parts from a place on can write meets a need.
-fn meets(need: Need, pattern: &[u8], place: usize) -> bool
+pub fn meets(need: Need, pattern: &[u8], place: usize) -> bool
     ensures { λ r. ⌜ r ≡ trust.meets need (steps Pair.Full (drop place (now (pattern .entry)))) ⌝ }
 {
     match need {
@@ -116,7 +116,7 @@ fn first_failing(edition: Edition, pattern: &[u8]) -> Verdict
     Verdict::Yes
 }
 
-fn trust_check(edition: Edition, pattern: &[u8], year: i32) -> Checked
+pub fn trust_check(edition: Edition, pattern: &[u8], year: i32) -> Checked
     ensures { λ r. ⌜ r ≡ trustCheck edition (now (pattern .entry)) year ⌝ }
 {
     let of_pattern = quoted_check(pattern);
