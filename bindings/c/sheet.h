@@ -46,9 +46,9 @@ extern "C" {
 /* A writer needs no more than so many bytes of output for each byte of the pattern, so SHEET_LONGEST_TEXT are always enough. */
 #define SHEET_BYTES_A_PATTERN_BYTE 8
 
-/* No call takes more bytes of the stack. As measured on x86-64, a write takes 1,272 at most, with names, a read 1,992,
- * a line of a list 2,040, sheet_day 1,632, which lays a table, opening or writing a book 928, and the other functions under 260. */
-#define SHEET_MOST_STACK 2304
+/* No call takes more bytes of the stack. As measured on x86-64, a write takes 1,272 at most, with names, a read 1,560,
+ * a list 1,912, sheet_day 1,632, which lays a table, opening or writing a book 928, and the other functions under 260. */
+#define SHEET_MOST_STACK 2048
 
 /* An opened book: 64 rooms of 21 bytes, one for each name in book order. In a room stand a byte that is the length of the name,
  * the name, which has 20 letters at most, and then zeros. */

@@ -23,7 +23,8 @@ use Rattle.meaning.specs.declared.Edition.{Edition}
 use Rattle.meaning.specs.declared.Fields.{Fields}
 use Rattle.meaning.specs.declared.Pair.{Pair}
 use Rattle.meaning.specs.declared.Verdict.{Verdict}
-use Rattle.sheet.specs.Rows.{inRow, inLine, Given, laid, pairOf, editionOf, choicesOf, ofReading, ofCheck, isBook, isMarked, splitNumbers, unitEntries}
+use Rattle.rows.specs.Rows.{inRow, Given, laid, inLine, splitNumbers, unitEntries}
+use Rattle.sheet.specs.Numbers.{pairOf, editionOf, choicesOf, ofReading, ofCheck, isBook, isMarked}
 
 -- whether a row has so many entries
 abbrev pub has : {A : Type 0} → ℕ → List A → Bool
