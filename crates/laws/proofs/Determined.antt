@@ -1,6 +1,6 @@
 -- A promise that equates a result with a definition determines it: two results that it allows coincide, and so do two outputs.
 -- Then the promise of each public function; that of the check is `answers-coincide` in `trust`, that of the day of a number
--- `days-coincide` in `DayNumbers`.
+-- `days-coincide` in `DayNumbers`, that of a mending `mends-coincide` in `trust`.
 use mathlib.Core.Bool.{Bool}
 use mathlib.Core.List.{List}
 use mathlib.Core.Path.{_≡_, sym, _∙_}
@@ -9,7 +9,8 @@ use lib.IntN.{ℤ}
 use Rattle.meaning.specs.Answers.{Answer}
 use Rattle.meaning.specs.Lists.{Rows}
 use Rattle.meaning.specs.Names.{Book}
-use Rattle.meaning.specs.Promises.{SameAnswer, Splits, Writes, Reads, ParsesOffset, TellsRead, NumbersDay, OpensBook, WritesBook, ReadsList, ReadsLine}
+use Rattle.meaning.specs.Promises.{SameAnswer, Splits, Writes, Reads, ParsesOffset, TellsRead, NumbersDay, OpensBook, WritesBook, ReadsList, ReadsLine, Undoes}
+use Rattle.meaning.specs.declared.Change.{Change}
 use Rattle.meaning.specs.declared.Choices.{Choices}
 use Rattle.meaning.specs.declared.DayNumber.{DayNumber}
 use Rattle.meaning.specs.declared.Fields.{Fields}
@@ -20,6 +21,7 @@ use Rattle.meaning.specs.declared.Pair.{Pair}
 use Rattle.meaning.specs.declared.ParseUnit.{ParseUnit}
 use Rattle.meaning.specs.declared.Reading.{Reading}
 use Rattle.meaning.specs.declared.Split.{Split}
+use Rattle.meaning.specs.declared.Undone.{Undone}
 use Rattle.meaning.specs.declared.Wrote.{Wrote}
 
 pub determined : {A : Type 0} {d r s : A} → r ≡ d → s ≡ d → r ≡ s
@@ -60,7 +62,7 @@ opened-coincide s out w v = (same-determined (w .0) (v .0), determined (w .1) (v
 pub books-coincide : (row out : List ℕ) {r t : Wrote} {after after′ : List ℕ} → WritesBook row out r after → WritesBook row out t after′ → (r ≡ t) × (after ≡ after′)
 books-coincide row out w v = (same-determined (w .0) (v .0), determined (w .1) (v .1))
 
--- lists::read_list and lists::read_line
+-- lists::read_list and lists::line::read_line
 pub lists-coincide : (choices : Choices) (book : Book) (p s : List ℕ) (current : ℤ) (rows : Rows) {r t : Listed} {after after′ : Rows}
     → ReadsList choices book p s current rows r after → ReadsList choices book p s current rows t after′ → (r ≡ t) × (after ≡ after′)
 lists-coincide choices book p s current rows w v = (same-determined (w .0) (v .0), determined (w .1) (v .1))
@@ -68,3 +70,7 @@ lists-coincide choices book p s current rows w v = (same-determined (w .0) (v .0
 pub lines-coincide : (choices : Choices) (book : Book) (p s : List ℕ) (at : ℕ) (current : ℤ) {r t : LineRead}
     → ReadsLine choices book p s at current r → ReadsLine choices book p s at current t → r ≡ t
 lines-coincide choices book p s at current = determined
+
+-- mending::undo
+pub undoes-coincide : (p : List ℕ) (cs : List Change) (out : List ℕ) {r t : Undone} {after after′ : List ℕ} → Undoes p cs out r after → Undoes p cs out t after′ → (r ≡ t) × (after ≡ after′)
+undoes-coincide p cs out w v = (determined (w .0) (v .0), determined (w .1) (v .1))

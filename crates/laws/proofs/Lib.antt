@@ -31,6 +31,8 @@ pub mod OpenedBooks
 pub mod OpenedNames
 pub mod OwnReaders
 pub mod OwnText
+pub mod PartBytes
+pub mod PartsApart
 pub mod Places
 pub mod Pluses
 pub mod Quotients

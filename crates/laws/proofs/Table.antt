@@ -27,14 +27,14 @@ abbrev pub tablePasses : (Symbol → Bool) → Bool
 tablePasses test = both (every test dateSymbols) (every test timeSymbols)
 
 module _ (P : Rule → Type 0) (c : ℕ) (test : Symbol → Bool) (has : (symbol : Symbol) → test symbol ≡ true → P (ruleOf symbol c)) where
-  among-has : (symbols : List Symbol) → every test symbols ≡ true → (b : ℕ) → RoleHas P (roleAmong symbols b c)
+  pub among-has : (symbols : List Symbol) → every test symbols ≡ true → (b : ℕ) → RoleHas P (roleAmong symbols b c)
   unfolding roleAmong every
   among-has [] e b = tt
   among-has (symbol ∷ symbols) e b =
       let t = both-true (test symbol) (every test symbols) e in
       when-is (RoleHas P) (eqb b (symbol .letter)) (λ _. has symbol (t .0)) (λ _. among-has symbols (t .1) b)
 
-  or-else-has : (r s : Role) → RoleHas P r → RoleHas P s → RoleHas P (orElse r s)
+  pub or-else-has : (r s : Role) → RoleHas P r → RoleHas P s → RoleHas P (orElse r s)
   or-else-has role.Literal s h k = k
   or-else-has (role.Symbol rule) s h k = h
 
@@ -100,7 +100,7 @@ module _ (test : Rule → Bool) (fixed : (c : ℕ) → test (FixedYear c) ≡ tr
   run-passes role.Literal b n h = refl
   run-passes (role.Symbol rule) b n h = h
 
-  step-passes : tablePasses (symbolPasses test) ≡ true → (pair : Pair) (c : Content) → stepPasses test (stepOf pair c) ≡ true
+  pub step-passes : tablePasses (symbolPasses test) ≡ true → (pair : Pair) (c : Content) → stepPasses test (stepOf pair c) ≡ true
   unfolding stepOf
   step-passes e pair (run b n) = run-passes (roleOf pair b n) b n (role-passes e pair b n)
   step-passes e pair (quotes n) = refl

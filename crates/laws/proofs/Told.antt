@@ -25,7 +25,7 @@ use Rattle.meaning.specs.declared.Listed.the-variants as listed
 use Rattle.meaning.specs.declared.Offset.{Offset}
 use Rattle.meaning.specs.declared.Offset.the-variants as offset
 use Rattle.meaning.specs.declared.Refusal.{Refusal}
-use Rattle.meaning.specs.declared.Refusal.the-variants.{PatternTooLong, PatternByte, LoneQuote, FieldRange, NoRoom, TextTooLong, TextByte, InPart, OffsetLength, OffsetRange, CurrentYear, TextLeft, NoSuchDay, NoDayNumber, BookMark, BookVersion, BookCut, BookName, ShortRow}
+use Rattle.meaning.specs.declared.Refusal.the-variants.{PatternTooLong, PatternByte, LoneQuote, FieldRange, NoRoom, TextTooLong, TextByte, InPart, OffsetLength, OffsetRange, CurrentYear, TextLeft, NoSuchDay, NoDayNumber, BookMark, BookVersion, BookCut, BookName, ShortRow, MendedTooLong}
 use Rattle.meaning.specs.declared.Trouble.{Trouble}
 use Rattle.meaning.specs.declared.Trouble.the-variants.{TooFew, NoNumber, NoName, NoSign, LiteralDiffers, PlusSign}
 use Rattle.meaning.specs.declared.Verdict.{Verdict}
@@ -76,6 +76,12 @@ table =
     ∷ (λ ds. BookCut)
     ∷ (λ ds. BookName (one ds))
     ∷ (λ ds. ShortRow)
+    ∷ unused
+    ∷ unused
+    ∷ unused
+    ∷ unused
+    ∷ unused
+    ∷ (λ ds. MendedTooLong)
     ∷ []
 
 abbrev refusalOf : ℕ → List ℤ → Refusal
@@ -116,6 +122,7 @@ found BookVersion = record { again = refl; not-0 = refl }
 found BookCut = record { again = refl; not-0 = refl }
 found (BookName which) = record { again = refl; not-0 = refl }
 found ShortRow = record { again = refl; not-0 = refl }
+found MendedTooLong = record { again = refl; not-0 = refl }
 
 pub refusal-number : (why : Refusal) → eqb (number why) 0 ≡ false
 refusal-number why = found why .not-0

@@ -24,7 +24,7 @@ use Rattle.meaning.specs.declared.Offset.{Offset}
 use Rattle.meaning.specs.declared.Offset.the-variants as offset
 use Rattle.meaning.specs.declared.Reading.{Reading}
 use Rattle.meaning.specs.declared.Refusal.{Refusal}
-use Rattle.meaning.specs.declared.Refusal.the-variants.{PatternTooLong, PatternByte, LoneQuote, FieldRange, NoRoom, TextTooLong, TextByte, InPart, OffsetLength, OffsetRange, CurrentYear, TextLeft, NoSuchDay, NoDayNumber, BookMark, BookVersion, BookCut, BookName, ShortRow}
+use Rattle.meaning.specs.declared.Refusal.the-variants.{PatternTooLong, PatternByte, LoneQuote, FieldRange, NoRoom, TextTooLong, TextByte, InPart, OffsetLength, OffsetRange, CurrentYear, TextLeft, NoSuchDay, NoDayNumber, BookMark, BookVersion, BookCut, BookName, ShortRow, MendedTooLong}
 use Rattle.meaning.specs.declared.Split.{Split}
 use Rattle.meaning.specs.declared.Trouble.{Trouble}
 use Rattle.meaning.specs.declared.Trouble.the-variants.{TooFew, NoNumber, NoName, NoSign, LiteralDiffers, PlusSign}
@@ -61,6 +61,7 @@ number BookVersion = 21
 number BookCut = 22
 number (BookName which) = 23
 number ShortRow = 24
+number MendedTooLong = 30
 
 -- what is returned with the number, in the table's order
 unfoldable pub details : Refusal → List ℤ
@@ -83,6 +84,7 @@ details BookVersion = pos 0 ∷ []
 details BookCut = pos 0 ∷ []
 details (BookName which) = pos which ∷ []
 details ShortRow = pos 0 ∷ []
+details MendedTooLong = pos 0 ∷ []
 
 -- an answer's number, 0 where it is accepted, and what is returned with it
 pub record Answer : Type 0 where

@@ -18,4 +18,5 @@ pub mod Days
 pub mod Books
 pub mod OpenedBooks
 pub mod Lists
+pub mod Mending
 pub mod Promises

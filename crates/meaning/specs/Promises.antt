@@ -1,5 +1,6 @@
 -- Specification, "How tight the promises are": what each public function promises of its answer r and, where it is lent an
--- output, of the output afterwards. That of the check is `Says` in `Trust`, that of the day of a number `DayOf` in `Days`.
+-- output, of the output afterwards. That of the check is `Says` in `Trust`, that of the day of a number `DayOf` in `Days`, that of a
+-- mending `Mends` in `trust`'s `Mending`.
 use mathlib.Core.Bool.{Bool}
 use mathlib.Core.List.{List}
 use mathlib.Core.Path.{_≡_}
@@ -8,9 +9,11 @@ use lib.IntN.{ℤ}
 use Rattle.meaning.specs.Answers.{Answer, splitAnswer, wroteAnswer, readAnswer, listAnswer, offsetAnswer, dayNumberAnswer}
 use Rattle.meaning.specs.Days.{dayNumber}
 use Rattle.meaning.specs.Lists.{Rows, readList, listRows, readLine}
+use Rattle.meaning.specs.Mending.{undo, undoOutput}
 use Rattle.meaning.specs.Names.{Book}
 use Rattle.meaning.specs.OpenedBooks.{openBook, openOutput, writeBook, bookOutput}
 use Rattle.meaning.specs.Whole.{split, write, output, read, parseOffset, unitNumber, marked}
+use Rattle.meaning.specs.declared.Change.{Change}
 use Rattle.meaning.specs.declared.Choices.{Choices}
 use Rattle.meaning.specs.declared.DayNumber.{DayNumber}
 use Rattle.meaning.specs.declared.Fields.{Fields}
@@ -21,6 +24,7 @@ use Rattle.meaning.specs.declared.Pair.{Pair}
 use Rattle.meaning.specs.declared.ParseUnit.{ParseUnit}
 use Rattle.meaning.specs.declared.Reading.{Reading}
 use Rattle.meaning.specs.declared.Split.{Split}
+use Rattle.meaning.specs.declared.Undone.{Undone}
 use Rattle.meaning.specs.declared.Wrote.{Wrote}
 
 -- r is the answer d: by the specification's number and values, and in all that it holds. Where the answer is an enum either says the
@@ -61,3 +65,7 @@ ReadsList choices book p s current rows r after =
 
 abbrev pub ReadsLine : Choices → Book → List ℕ → List ℕ → ℕ → ℤ → LineRead → Type 0
 ReadsLine choices book p s at current r = r ≡ readLine choices book p s at current
+
+-- listed changes of a pattern undone
+abbrev pub Undoes : List ℕ → List Change → List ℕ → Undone → List ℕ → Type 0
+Undoes p cs out r after = (r ≡ undo p cs out) × (after ≡ undoOutput p cs out)

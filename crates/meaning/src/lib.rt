@@ -226,6 +226,7 @@ pub enum Refusal {
     BookCut,
     BookName(u32),
     ShortRow,
+    MendedTooLong,
 }
 
 // What checks find.
@@ -294,5 +295,33 @@ pub struct Day {
 // The answer of day_number.
 pub enum DayNumber {
     Number(i32),
+    Refused(Refusal),
+}
+
+// A change of a mending: at a place of the mended pattern a byte stands so often, where it stood so often before.
+pub struct Change {
+    pub place: usize,
+    pub byte: u8,
+    pub before: usize,
+    pub after: usize,
+}
+
+// A list of changes, in the order of their places: the first `used` entries.
+pub struct Changes {
+    pub listed: [Change; 128],
+    pub used: usize,
+}
+
+// The answer of a mending: how many bytes the mended pattern has, and what was changed.
+pub struct Mended {
+    pub checked: Checked,
+    pub length: usize,
+    pub changes: Changes,
+}
+
+// The answer of an undoing: how many bytes the pattern has again, or that a change does not fit the pattern.
+pub enum Undone {
+    Length(usize),
+    Misfit,
     Refused(Refusal),
 }

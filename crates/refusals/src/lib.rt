@@ -93,5 +93,6 @@ pub fn tell(why: Refusal) -> Told
         Refusal::BookCut => with_one(22, 0),
         Refusal::BookName(which) => with_one(23, which as usize),
         Refusal::ShortRow => with_one(24, 0),
+        Refusal::MendedTooLong => with_one(30, 0),
     }
 }

@@ -3,16 +3,20 @@ use mathlib.Core.List.{List, [], _∷_}
 use Prim.Native.Nat.{ℕ, _<_, _^_}
 use lib.IntN.{ℤ, natAbs}
 use Rattle.meaning.specs.Answers.{details}
+use Rattle.meaning.specs.declared.Change.{Change}
 use Rattle.meaning.specs.declared.Checked.{Checked}
 use Rattle.meaning.specs.declared.Checked.the-variants.{Fine, Refused}
 use Rattle.meaning.specs.declared.DayNumber.{DayNumber}
 use Rattle.meaning.specs.declared.DayNumber.the-variants as day
 use Rattle.meaning.specs.declared.Listed.{Listed}
 use Rattle.meaning.specs.declared.Listed.the-variants as listed
+use Rattle.meaning.specs.declared.Mended.{Mended}
 use Rattle.meaning.specs.declared.Offset.{Offset}
 use Rattle.meaning.specs.declared.Offset.the-variants as offset
 use Rattle.meaning.specs.declared.Reading.{Reading}
 use Rattle.meaning.specs.declared.Refusal.{Refusal}
+use Rattle.meaning.specs.declared.Undone.{Undone}
+use Rattle.meaning.specs.declared.Undone.the-variants as undone
 use Rattle.meaning.specs.declared.Verdict.{Verdict}
 use Rattle.meaning.specs.declared.Verdict.the-variants as verdict
 use Rattle.meaning.specs.declared.Wrote.{Wrote}
@@ -42,6 +46,21 @@ ReadFits r = NumberFits (r .taken) × CheckedFits (r .checked)
 abbrev pub ListedFits : Listed → Type 0
 ListedFits (listed.Lines n) = NumberFits n
 ListedFits (listed.Refused why) = WhyFits why
+
+abbrev pub ChangeFits : Change → Type 0
+ChangeFits c = NumberFits (c .place) × NumberFits (c .before) × NumberFits (c .after)
+
+unfoldable pub AllChangesFit : List Change → Type 0
+AllChangesFit [] = Unit
+AllChangesFit (c ∷ cs) = ChangeFits c × AllChangesFit cs
+
+abbrev pub MendedFits : Mended → Type 0
+MendedFits r = NumberFits (r .length) × NumberFits (r .changes .used) × AllChangesFit (r .changes .listed) × CheckedFits (r .checked)
+
+abbrev pub UndoneFits : Undone → Type 0
+UndoneFits (undone.Length n) = NumberFits n
+UndoneFits undone.Misfit = Unit
+UndoneFits (undone.Refused why) = WhyFits why
 
 abbrev pub OffsetFits : Offset → Type 0
 OffsetFits (offset.Seconds z) = Unit

@@ -24,7 +24,7 @@ use Rattle.meaning.specs.declared.Verdict.{Verdict}
 use Rattle.meaning.specs.declared.Verdict.the-variants.{Yes, No, Refused}
 use Rattle.rows.specs.Rows.{inRow, Given}
 use Rattle.sheet.specs.Numbers.{editionOf, ofCheck}
-use Rattle.sheet.specs.Sheet.{has, ifRoom, ifChoices, verdictIn, SheetWrites, SheetReads, SheetReadsWith, SheetWritesBy, SheetReadsBy, SheetReadsList, SheetReadsLine, SheetOpensBook, SheetWritesBook, SheetTellsRead, SheetParsesOffset, SheetSplits, SheetUnits, SheetChecks, SheetChecksWith, SheetDay, SheetDayNumber}
+use Rattle.sheet.specs.Sheet.{has, ifRoom, ifChoices, verdictIn, SheetWrites, SheetReads, SheetReadsWith, SheetWritesBy, SheetReadsBy, SheetReadsList, SheetReadsLine, SheetOpensBook, SheetWritesBook, SheetTellsRead, SheetParsesOffset, SheetSplits, SheetUnits, SheetChecks, SheetChecksWith, SheetMends, SheetUndoes, SheetDay, SheetDayNumber}
 use Rattle.trust.proofs.Agreement.{SameButRecord, answers-coincide}
 
 given-coincide : {answer : Answer} {old new new′ : List ℤ} {r r′ : ℕ} → Given answer old new r → Given answer old new′ r′ → (r ≡ r′) × (new ≡ new′)
@@ -93,6 +93,17 @@ pub units-coincide : (p : List ℕ) (row units : List ℤ) {r r′ : ℕ} {rowAf
     → SheetUnits p row units r rowAfter unitsAfter → SheetUnits p row units r′ rowAfter′ unitsAfter′
     → (r ≡ r′) × (rowAfter ≡ rowAfter′) × (unitsAfter ≡ unitsAfter′)
 units-coincide p row units = both-coincide
+
+pub mends-coincide : (n : ℕ) (p : List ℕ) (current : ℤ) (out : List ℕ) (changes row : List ℤ) {r r′ : ℕ} {outAfter outAfter′ : List ℕ} {changesAfter changesAfter′ rowAfter rowAfter′ : List ℤ}
+    → SheetMends n p current out changes row r outAfter changesAfter rowAfter → SheetMends n p current out changes row r′ outAfter′ changesAfter′ rowAfter′
+    → (r ≡ r′) × (rowAfter ≡ rowAfter′) × (outAfter ≡ outAfter′) × (changesAfter ≡ changesAfter′)
+mends-coincide n p current out changes row a b =
+    let g = both-coincide (a .0, a .1) (b .0, b .1) in (g .0, g .1, g .2, determined (a .2) (b .2))
+
+pub undos-coincide : (p : List ℕ) (changes : List ℤ) (out : List ℕ) (row : List ℤ) {r r′ : ℕ} {outAfter outAfter′ : List ℕ} {rowAfter rowAfter′ : List ℤ}
+    → SheetUndoes p changes out row r outAfter rowAfter → SheetUndoes p changes out row r′ outAfter′ rowAfter′
+    → (r ≡ r′) × (rowAfter ≡ rowAfter′) × (outAfter ≡ outAfter′)
+undos-coincide p changes out row = both-coincide
 
 pub day-rows-coincide : (z : ℤ) (row : List ℤ) → Short z → {r r′ : ℕ} {rowAfter rowAfter′ : List ℤ} → SheetDay z row r rowAfter
     → SheetDay z row r′ rowAfter′ → (r ≡ r′) × (rowAfter ≡ rowAfter′)

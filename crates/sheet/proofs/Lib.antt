@@ -3,5 +3,6 @@ mod Determined
 pub mod Fits
 mod Halves
 mod ListFits
+mod MendFits
 pub mod Rooms
 mod Untrusted

@@ -1,6 +1,6 @@
 -- What each function for C and Rust promises of the number r that it returns and of the lent rows afterwards. Where a lent row
 -- is too small for the answer, r is 100, where a number stands for no choices, 101, where a row is no book, 102, where no line is left,
--- 103, and nothing is altered.
+-- 103, where changes do not fit, 104, and nothing is altered.
 use mathlib.Core.Bool.{Bool}
 use mathlib.Core.List.{List, []}
 use mathlib.Core.Path.{_≡_}
@@ -13,6 +13,7 @@ use Rattle.meaning.specs.Bytes.{when, both}
 use Rattle.meaning.specs.Days.{DayOf, dayNumber}
 use Rattle.meaning.specs.Lists as lists
 use Rattle.meaning.specs.Lists.{readList, listRows, readLine}
+use Rattle.meaning.specs.Mending.{undoOutput}
 use Rattle.meaning.specs.Names.{Book, english}
 use Rattle.meaning.specs.OpenedBooks.{bookIn, openBook, openOutput, writeBook, bookOutput}
 use Rattle.meaning.specs.Trust.{Says}
@@ -23,8 +24,10 @@ use Rattle.meaning.specs.declared.Edition.{Edition}
 use Rattle.meaning.specs.declared.Fields.{Fields}
 use Rattle.meaning.specs.declared.Pair.{Pair}
 use Rattle.meaning.specs.declared.Verdict.{Verdict}
+use Rattle.rows.specs.Changes.{mendedCounts, mendNumbers, holdsChanges, changesHeld, undoneBy, inUndone}
 use Rattle.rows.specs.Rows.{inRow, Given, laid, inLine, splitNumbers, unitEntries}
 use Rattle.sheet.specs.Numbers.{pairOf, editionOf, choicesOf, ofReading, ofCheck, isBook, isMarked}
+use Rattle.trust.specs.Mending.{mend, mendOutput}
 
 -- whether a row has so many entries
 abbrev pub has : {A : Type 0} → ℕ → List A → Bool
@@ -126,6 +129,19 @@ SheetChecks edition p current row = Checks edition p current (verdictIn row) row
 abbrev pub SheetChecksWith : ℕ → List ℕ → ℤ → List ℤ → ℕ → List ℤ → Type 0
 SheetChecksWith n p current row =
     Checks (editionOf n) p current (λ verdict. ifChoices (ofCheck n) (verdictIn row verdict)) row
+
+-- a pattern mended, its changes in a second row; and the changes of such a row undone
+
+abbrev pub SheetMends : ℕ → List ℕ → ℤ → List ℕ → List ℤ → List ℤ → ℕ → List ℕ → List ℤ → List ℤ → Type 0
+SheetMends n p current out changes row r outAfter changesAfter rowAfter =
+    Given (ifChoices (ofCheck n) (ifRoom (both (has 512 changes) (has 2 row)) (inRow 2 (mendedCounts (mend (editionOf n) p current out))))) row rowAfter r
+    × (outAfter ≡ when (both (ofCheck n) (both (has 512 changes) (has 2 row))) (mendOutput (editionOf n) p current out) out)
+    × (changesAfter ≡ laid (when (both (ofCheck n) (both (has 512 changes) (has 2 row))) (mendNumbers (mend (editionOf n) p current out)) []) changes)
+
+abbrev pub SheetUndoes : List ℕ → List ℤ → List ℕ → List ℤ → ℕ → List ℕ → List ℤ → Type 0
+SheetUndoes p changes out row r outAfter rowAfter =
+    Given (ifRoom (has 2 row) (inUndone (undoneBy p changes out))) row rowAfter r
+    × (outAfter ≡ when (both (has 2 row) (holdsChanges changes)) (undoOutput p (changesHeld changes) out) out)
 
 -- the day of a number
 pub record SheetDay (z : ℤ) (row : List ℤ) (r : ℕ) (rowAfter : List ℤ) : Type 0 where

@@ -38,7 +38,7 @@ alike-behind [] same = same
 alike-behind (s ∷ []) same = record { first = unfold digitFirst in refl; second = unfold digitSecond in ap (stepSecond s) (same .first) }
 alike-behind (s ∷ r ∷ ss) same = record { first = unfold digitFirst in refl; second = unfold digitSecond in refl }
 
-meets-alike : (need : Need) {ts us : List Step} → BeginAlike ts us → meets need ts ≡ meets need us
+pub meets-alike : (need : Need) {ts us : List Step} → BeginAlike ts us → meets need ts ≡ meets need us
 unfolding meets
 meets-alike Nothing same = refl
 meets-alike NoDigit same = ap not (same .first)

@@ -6,7 +6,15 @@ pub mod CurrentYear
 pub mod Fails
 pub mod Fitting
 pub mod Halves
+pub mod MendedAccepted
+pub mod MendedHolds
+pub mod MendedNeeds
+pub mod MendedParts
+pub mod MendedSizes
+pub mod Mending
+pub mod MendingSamples
 pub mod NameRules
+pub mod Needless
 pub mod ReadBack
 pub mod RealDays
 pub mod RulesAhead
@@ -15,6 +23,7 @@ pub mod Sound
 pub mod Steps
 pub mod Table
 pub mod Turns
+pub mod Undoing
 pub mod Verdicts
 pub mod Walks
 pub mod Witness

@@ -3,3 +3,4 @@ pub mod Ahead
 pub mod Check
 pub mod ReadBack
 pub mod Halves
+pub mod Mending

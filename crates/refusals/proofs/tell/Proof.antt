@@ -144,6 +144,12 @@ enum-told-6 c = search needs
 with-one-requires-17 : tie.Need-with-one-requires-17
 with-one-requires-17 c κs = search needs
 
+enum-told-7 : tie.Need-enum-told-7
+enum-told-7 c = search needs
+
+with-one-requires-18 : tie.Need-with-one-requires-18
+with-one-requires-18 c κs = search needs
+
 returns : tie.Need-returns
 unfolding number details
 returns c = rw (c .with-one .ensures, c .before .before .why .given .1)
@@ -224,6 +230,10 @@ returns-19 : tie.Need-returns-19
 unfolding number details
 returns-19 c = rw (c .with-one17 .ensures, c .before .enum-told6 .given .1)
 
+returns-20 : tie.Need-returns-20
+unfolding number details
+returns-20 c = rw (c .with-one18 .ensures, c .before .enum-told7 .given .1)
+
 pub tell-spec : {M : Type 1} → statement M
 tell-spec =
     tie.close
@@ -274,6 +284,8 @@ tell-spec =
     with-one-requires-16
     enum-told-6
     with-one-requires-17
+    enum-told-7
+    with-one-requires-18
     returns
     returns-2
     returns-3
@@ -292,4 +304,5 @@ tell-spec =
     returns-16
     returns-17
     returns-18
-    returns-19)
+    returns-19
+    returns-20)
