@@ -1,6 +1,6 @@
 /* Writes a record by a pattern, reads it back, underlines what was read, shows what the parts of a pattern are, checks a pattern,
  * reads strictly, reads and checks in the second edition, shows a refusal, places a bar of a chart, writes and reads with the
- * names of a book, which it finds where it is run at the root of the repository, and reads a list. */
+ * names of a book, which it finds where it is run at the root of the repository, reads a list, and mends a pattern. */
 #include "sheet.h"
 
 #include <inttypes.h>
@@ -238,6 +238,25 @@ static void read_a_list(const char *pattern, const char *text) {
     }
 }
 
+/* Shows the mended pattern, what was altered of it, and that undoing gives the one that was mended. */
+static void mend_a_pattern(const char *pattern) {
+    uint8_t mended[SHEET_LONGEST_PATTERN], undone[SHEET_LONGEST_PATTERN];
+    int64_t changes[SHEET_CHANGES_ROW], answer[SHEET_MEND_ANSWER];
+    if (sheet_mend(0, bytes(pattern), strlen(pattern), CURRENT_YEAR, mended, sizeof mended, changes, SHEET_CHANGES_ROW, answer,
+                   SHEET_MEND_ANSWER) != SHEET_ACCEPTED)
+        return;
+    size_t length = (size_t)answer[0], count = (size_t)answer[1];
+    printf("%s is mended to %.*s\n", pattern, (int)length, (const char *)mended);
+    for (size_t number = 0; number < count; number++) {
+        const int64_t *change = changes + SHEET_CHANGE * number;
+        printf("  at place %" PRId64 " there were %" PRId64 " of '%c', and are %" PRId64 "\n", change[0], change[2],
+               (int)change[1], change[3]);
+    }
+    if (sheet_undo(mended, length, changes, SHEET_CHANGE * count, undone, sizeof undone, answer, SHEET_UNDO_ANSWER) ==
+        SHEET_ACCEPTED)
+        printf("  undone, it is %.*s\n", (int)answer[0], (const char *)undone);
+}
+
 int main(void) {
     write_and_read_back("yyyy/MM/dd");
     underline_what_is_read("d MMMM y", "3 December -12");
@@ -255,5 +274,6 @@ int main(void) {
     write_and_read_with_a_book("books/dutch.lnb", "eeee d MMMM");
     show_a_bad_name("books/dutch.lnb");
     read_a_list("d/MM", "3/12\nsoon\n24/12");
+    mend_a_pattern("d/M/yy Hmm");
     return 0;
 }

@@ -1,25 +1,27 @@
 /* sheet.h: dates, times and zone offsets by patterns such as yyyy/MM/dd, and the numbers of days, for C and C++.
  *
  * What is lent. A pattern or a text is bytes with their number and needs no zero byte at its end. Text goes to `out`, numbers
- * go to the rows `answer`, `parts` and `units`, which are aligned as int64_t is, and those of a list to the rows `days`, `months`,
- * `years` and `codes`, aligned as int32_t is. An opened book is bytes too. What a function may alter must overlap nothing else that
- * it is lent. Nothing is kept after the return, and no memory is asked for.
+ * go to the rows `answer`, `parts`, `units` and `changes`, which are aligned as int64_t is, and those of a list to the rows `days`,
+ * `months`, `years` and `codes`, aligned as int32_t is. An opened book is bytes too. What a function may alter must overlap nothing
+ * else that it is lent. Nothing is kept after the return, and no memory is asked for.
  *
  * Lengths. A length says how many bytes or entries stand behind the pointer, and never more, not even where the pattern or the
  * text is too long and will be refused. A null pointer with the length 0 is an empty slice. What is proved of the functions is
  * proved for every slice that memory can hold; no memory holds one of 2^63 bytes.
  *
  * Threads and stack. The functions have no state: any thread may call any of them at any time, with rows and an `out` that no
- * other thread uses meanwhile. A call takes no more than SHEET_MOST_STACK bytes of the stack.
+ * other thread uses meanwhile. A call takes no more than SHEET_MOST_STACK bytes of the stack; one of sheet_mend or of sheet_undo
+ * takes no more than SHEET_MEND_STACK.
  *
- * What is returned. SHEET_ACCEPTED; or the number of a refusal, 1 to 24; or SHEET_ROW_TOO_SMALL where a row has fewer entries than
- * the function asks for, SHEET_NO_SUCH_CHOICE where a number stands for no choices, SHEET_NO_BOOK where bytes are lent as an
- * opened book that are none, or SHEET_NO_LINE where a text has no line at a place: then nothing is altered.
+ * What is returned. SHEET_ACCEPTED; or the number of a refusal, 1 to 24 or 30; or SHEET_ROW_TOO_SMALL where a row has fewer entries
+ * than the function asks for, SHEET_NO_SUCH_CHOICE where a number stands for no choices, SHEET_NO_BOOK where bytes are lent as an
+ * opened book that are none, SHEET_NO_LINE where a text has no line at a place, or SHEET_MISFIT where changes do not fit a pattern:
+ * then nothing is altered.
  *
  * What is altered. Accepted, the first entries of `answer`, as many as the function asks for, are what its comment says, and a
- * writer alters so many bytes of `out` as it answers, as sheet_book_read does of `book`, and sheet_read_list so many entries of
- * each of its rows. Refused, the entries of `answer` are the refusal's details, then zeros, and nothing else is altered;
- * sheet_read_line says first where the line is. Nothing behind them ever is.
+ * writer, sheet_mend and sheet_undo alter so many bytes of `out` as they answer, as sheet_book_read does of `book`, and
+ * sheet_read_list so many entries of each of its rows. Refused, the entries of `answer` are the refusal's details, then zeros, and
+ * nothing else is altered; sheet_read_line says first where the line is. Nothing behind them ever is.
  *
  * Parts of a pattern and places in a pattern or a text are counted from 0. docs/SPECIFICATION.md says what a pattern means.
  */
@@ -50,6 +52,9 @@ extern "C" {
  * sheet_day 1,632, which lays a table, opening or writing a book 928, and the other functions under 260. */
 #define SHEET_MOST_STACK 2048
 
+/* But for sheet_mend and sheet_undo, which hold a list of changes. */
+#define SHEET_MEND_STACK 16384
+
 /* An opened book: 64 rooms of 21 bytes, one for each name in book order. In a room stand a byte that is the length of the name,
  * the name, which has 20 letters at most, and then zeros. */
 #define SHEET_BOOK_ROW 1344
@@ -60,7 +65,13 @@ extern "C" {
 /* The longest book of version 1, in bytes: so many are always enough for sheet_book_write. */
 #define SHEET_LONGEST_BOOK 743
 
-/* How many entries each function asks for in `answer`, sheet_split in `parts`, and sheet_units in `units`. */
+/* A mended pattern has no more changes. The entries of each are its place, the byte, how often that stood there and how often it
+ * stands there now. */
+#define SHEET_MOST_CHANGES 128
+#define SHEET_CHANGE 4
+
+/* How many entries each function asks for in `answer`, sheet_split in `parts`, sheet_units in `units` and sheet_mend in
+ * `changes`. */
 #define SHEET_WRITE_ANSWER 2
 #define SHEET_READ_ANSWER 48
 #define SHEET_OFFSET_ANSWER 2
@@ -74,6 +85,9 @@ extern "C" {
 #define SHEET_BOOK_ANSWER 2
 #define SHEET_LIST_ANSWER 2
 #define SHEET_LINE_ANSWER 51
+#define SHEET_MEND_ANSWER 2
+#define SHEET_CHANGES_ROW 512
+#define SHEET_UNDO_ANSWER 2
 
 /* What is returned. Behind a refusal stand its details, which are the first one or two entries of `answer`. */
 #define SHEET_ACCEPTED 0
@@ -101,10 +115,12 @@ extern "C" {
 #define SHEET_BOOK_LENGTH 22     /* a book that is cut short, or one of version 1 with bytes behind its names: 0 */
 #define SHEET_BOOK_NAME 23       /* a name of a book that breaks a rule: the number of the first, 1 to 64 in book order */
 #define SHEET_SHORT_ROW 24       /* a row for a list has fewer entries than the text has lines: 0 */
+#define SHEET_MENDED_TOO_LONG 30 /* a mended pattern of over 256 bytes: 0 */
 #define SHEET_ROW_TOO_SMALL 100  /* a row is too small: nothing is altered, and there are no details */
 #define SHEET_NO_SUCH_CHOICE 101 /* a number that stands for no choices: likewise */
 #define SHEET_NO_BOOK 102        /* bytes that are no opened book: likewise */
 #define SHEET_NO_LINE 103        /* a place at or behind the end of the text, where no line is left: likewise */
+#define SHEET_MISFIT 104         /* a row that holds no changes, or one that does not fit the pattern: likewise */
 
 /* The choices of a reading, which are added: dates alone; a strict reading; the second edition. */
 #define SHEET_DATE_PAIR 1
@@ -289,6 +305,31 @@ uint32_t sheet_check(const uint8_t *pattern, size_t pattern_len, int32_t year, i
 uint32_t sheet_check_with(uint32_t choices, const uint8_t *pattern, size_t pattern_len, int32_t year, int64_t *answer,
                           size_t answer_len);
 
+/* Mends a pattern to which sheet_check_with, by the same choices, says no, so that it says yes, and lists what was altered. One to
+ * which it says yes stays as it is, and its list is empty.
+ *   - In the first edition a single M becomes MM. In both, yy becomes yyyy, five or six y become seven, and a quoted part that
+ *     nothing closes is closed where it ends with an escaped quote.
+ *   - Behind a part that a digit from the rest of the pattern can still disturb a space is put in, behind five X or x always two.
+ * The mended pattern lies in `out`. Change k, counted from 0 in the order of their places, has SHEET_CHANGE entries of `changes`:
+ * its place in the mended pattern, the byte, how often that stood there, and how often it stands there now. Spaces that are put in
+ * at one place are one change. The entries up to SHEET_CHANGES_ROW that no change has are zeros.
+ * SHEET_NO_SUCH_CHOICE, as of sheet_check_with, and then SHEET_ROW_TOO_SMALL, for `changes` or `answer`, come before all refusals.
+ * Answers: the length of the mended pattern, SHEET_LONGEST_PATTERN at most, and how many changes there are.
+ * Refuses: as sheet_check_with, then 30, then 5. */
+uint32_t sheet_mend(uint32_t choices, const uint8_t *pattern, size_t pattern_len, int32_t year, uint8_t *out, size_t out_len,
+                    int64_t *changes, size_t changes_len, int64_t *answer, size_t answer_len);
+
+/* Undoes changes of a pattern, for a screen that offers it: at the place of each stands in `out` what stood there before. By a
+ * mended pattern and all its changes that is the pattern which was mended; by one of them alone, with that one undone.
+ * `changes` holds SHEET_CHANGE entries for each change, as sheet_mend lays them, and no others: its length says how many they are.
+ * SHEET_MISFIT is returned where that is no multiple of SHEET_CHANGE, or over SHEET_CHANGES_ROW; where an entry is negative, or a
+ * byte over 255; and where a change does not fit the pattern. It fits where it stands behind the bytes of the one before, its byte
+ * stands there as often as it says, and stood there no more often. SHEET_ROW_TOO_SMALL, for `answer`, comes before.
+ * Answers: the length of what lies in `out`, and 0.
+ * Refuses: 5. The pattern may have any bytes, and any number of them. */
+uint32_t sheet_undo(const uint8_t *pattern, size_t pattern_len, const int64_t *changes, size_t changes_len, uint8_t *out,
+                    size_t out_len, int64_t *answer, size_t answer_len);
+
 /* The day of a number, in the Gregorian calendar, also for times before it was in use: 0 is 1 January of year 1, a Monday, and
  * negative numbers are the days before. There is no year 0: the year before 1 is -1, which is a leap year.
  * Answers: year, month 1..12, day 1..31, day of the year 1..366, week 1..53 of ISO 8601, weekday 0..6 from Sunday, as sheet_write
@@ -329,10 +370,12 @@ static inline const char *sheet_refusal_text(uint32_t number) {
     case SHEET_BOOK_LENGTH: return "the book is cut short, or goes on behind its names";
     case SHEET_BOOK_NAME: return "the book has a bad name";
     case SHEET_SHORT_ROW: return "a row is shorter than the lines";
+    case SHEET_MENDED_TOO_LONG: return "the mended pattern has over 256 bytes";
     case SHEET_ROW_TOO_SMALL: return "a row for the answer is too small";
     case SHEET_NO_SUCH_CHOICE: return "there is no such choice";
     case SHEET_NO_BOOK: return "the bytes are no opened book";
     case SHEET_NO_LINE: return "no line is left at that place";
+    case SHEET_MISFIT: return "the changes do not fit the pattern";
     default: return "no such number";
     }
 }

@@ -48,7 +48,8 @@ fn accepted(request: &Request) -> Option<String> {
         Request::DayNumber { year, month, day } => {
             Some(day_number(days::day_number(*year, *month, *day).ok()?))
         }
-        Request::Book { .. } | Request::BookWrite { .. } | Request::List { .. } => None,
+        Request::Book { .. } | Request::BookWrite { .. } => None,
+        Request::List { .. } | Request::Mend { .. } => None,
     }
 }
 

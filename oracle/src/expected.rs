@@ -7,7 +7,8 @@
 //! and the place that it had come to. In the second edition, which the Rust does not have either, it decides with other parts in
 //! the place of those that are read otherwise. With a book it decides with the book's names for its own; a book that is refused
 //! decides before, and the specification decides alone what is read of a book or written as one. The lines of a list are each
-//! decided as a read of that line.
+//! decided as a read of that line. How a pattern is mended the specification decides, and which parts a digit disturbs what the Rust
+//! writes and reads of them.
 
 use crate::answer::{self, as_pattern, as_text};
 use crate::below;
@@ -18,6 +19,7 @@ use crate::limits::{
     day_limit, field_limit, pattern_limit, refused, room_limit, rows_limit, text_limit, year_limit,
 };
 use crate::lists;
+use crate::mending::mended;
 use crate::minus::with_plus;
 use crate::names;
 use crate::pluses::{plus_in, IN_AN_OFFSET};
@@ -32,7 +34,7 @@ pub enum Expected {
     Limit(String),
     /// The Rust errs or panics.
     Refused(String),
-    /// The Rust answers, or a book is good.
+    /// The Rust answers, or a book is good, or a pattern is mended.
     Accepted(String),
     /// The Rust came to a number that begins with a plus, whatever it answered, or it wrote a minus before zeros alone, or its
     /// weekday or week of a day below 0 is another than the calendar's.
@@ -100,6 +102,14 @@ fn first_limit(request: &Request) -> Option<Expected> {
             .or_else(|| lone_quote(pattern).map(Expected::Refused))
             .or_else(|| limit(year_limit(choices.edition, *now)))
             .or_else(|| limit(rows_limit(lists::lines(text).len(), *rows))),
+        Request::Mend {
+            edition,
+            pattern,
+            now,
+            ..
+        } => limit(pattern_limit(pattern))
+            .or_else(|| lone_quote(pattern).map(Expected::Refused))
+            .or_else(|| limit(year_limit(*edition, *now))),
     }
 }
 
@@ -141,7 +151,7 @@ fn from_the_rust(request: &Request) -> Expected {
             let Ok(text) = walk::write(*pair, pattern, fields) else {
                 return Expected::Refused(UNEXPLAINED.to_string());
             };
-            limit(room_limit(&text, *room)).unwrap_or_else(|| {
+            limit(room_limit(text.as_bytes(), *room)).unwrap_or_else(|| {
                 match with_plus(*pair, pattern, fields) {
                     Some(ours) => Expected::Excepted(answer::wrote(ours.as_bytes())),
                     None => Expected::Accepted(answer::wrote(text.as_bytes())),
@@ -184,6 +194,15 @@ fn from_the_rust(request: &Request) -> Expected {
             now,
             ..
         } => lists::listed(*choices, pattern, text, *now),
+        Request::Mend {
+            edition,
+            pattern,
+            room,
+            ..
+        } => {
+            let mended = mended(*edition, pattern);
+            limit(mended.limit(*room)).unwrap_or_else(|| Expected::Accepted(mended.line()))
+        }
     }
 }
 

@@ -18,6 +18,7 @@ pub mod generator;
 pub mod gregorian;
 pub mod limits;
 pub mod lists;
+pub mod mending;
 mod minus;
 pub mod names;
 pub mod op;

@@ -1,4 +1,4 @@
-//! The limits that the specification sets and the Rust does not have: refusals 1, 2, 4, 5, 6, 7, 14 and 24,
+//! The limits that the specification sets and the Rust does not have: refusals 1, 2, 4, 5, 6, 7, 14, 24 and 30,
 //! and of 17 the years.
 
 use crate::calendar::Fields;
@@ -40,8 +40,12 @@ pub fn day_limit(year: i32) -> Option<String> {
     (!is_there).then(|| refused(17, &[0]))
 }
 
-pub fn room_limit(text: &str, room: usize) -> Option<String> {
+pub fn room_limit(text: &[u8], room: usize) -> Option<String> {
     (text.len() > room).then(|| refused(5, &[text.len() as i64]))
+}
+
+pub fn mended_limit(pattern: &[u8]) -> Option<String> {
+    (pattern.len() > LONGEST_PATTERN).then(|| refused(30, &[0]))
 }
 
 pub fn rows_limit(lines: usize, rows: usize) -> Option<String> {

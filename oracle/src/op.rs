@@ -1,6 +1,6 @@
 //! The ops of the line protocol, each with its choices.
 
-use crate::choices::{Books, Choices};
+use crate::choices::{Books, Choices, Edition};
 use crate::walk::Pair;
 
 #[derive(Clone, Copy, Debug, PartialEq, Eq)]
@@ -25,10 +25,12 @@ pub enum Op {
     ListStrict,
     ListSecond,
     ListStrictSecond,
+    Mend,
+    MendSecond,
 }
 
 impl Op {
-    pub const ALL: [Op; 20] = [
+    pub const ALL: [Op; 22] = [
         Op::Split,
         Op::Write,
         Op::WriteDate,
@@ -49,6 +51,8 @@ impl Op {
         Op::ListStrict,
         Op::ListSecond,
         Op::ListStrictSecond,
+        Op::Mend,
+        Op::MendSecond,
     ];
 
     /// Those of lists, which have the full pair alone.
@@ -58,6 +62,9 @@ impl Op {
         Op::ListSecond,
         Op::ListStrictSecond,
     ];
+
+    /// Those of mending, one for each edition.
+    pub const MENDS: [Op; 2] = [Op::Mend, Op::MendSecond];
 
     pub fn name(self) -> &'static str {
         match self {
@@ -81,6 +88,8 @@ impl Op {
             Op::ListStrict => "list_strict",
             Op::ListSecond => "list_second",
             Op::ListStrictSecond => "list_strict_second",
+            Op::Mend => "mend",
+            Op::MendSecond => "mend_second",
         }
     }
 
@@ -100,6 +109,7 @@ impl Op {
             Op::ParseOffset | Op::DayOf | Op::DayNumber => return None,
             Op::Book | Op::BookWrite => return None,
             Op::List | Op::ListStrict | Op::ListSecond | Op::ListStrictSecond => return None,
+            Op::Mend | Op::MendSecond => return None,
         })
     }
 
@@ -121,6 +131,22 @@ impl Op {
         op.expect("each choice of a list has its op")
     }
 
+    /// In which edition a pattern is mended; none where none is.
+    pub fn mend_edition(self) -> Option<Edition> {
+        match self {
+            Op::Mend => Some(Edition::First),
+            Op::MendSecond => Some(Edition::Second),
+            _ => None,
+        }
+    }
+
+    pub(crate) fn of_mend(edition: Edition) -> Op {
+        match edition {
+            Edition::First => Op::Mend,
+            Edition::Second => Op::MendSecond,
+        }
+    }
+
     pub(crate) fn of_read(choices: Choices) -> Op {
         let of_these = |op: &Op| op.choices() == Some(choices);
         let op = Op::ALL.into_iter().find(of_these);
@@ -133,6 +159,7 @@ impl Op {
             Some(Pair::Full) => Op::Read.name(),
             Some(Pair::Date) => Op::ReadDate.name(),
             None if self.list_choices().is_some() => Op::List.name(),
+            None if self.mend_edition().is_some() => Op::Mend.name(),
             None => self.name(),
         }
     }
@@ -142,10 +169,10 @@ impl Op {
     }
 
     /// Those that are asked where none is named: without a book all but those of books, with English those that take one; those of
-    /// lists are always named.
+    /// lists and of mending are always named.
     pub fn usual(books: Option<Books>) -> Vec<Op> {
         let is_usual = |op: &Op| match books {
-            None => !op.is_of_a_book() && op.list_choices().is_none(),
+            None => !op.is_of_a_book() && !op.is_named_alone(),
             Some(Books::English) => op.takes_a_book(),
             Some(Books::Random) => op.takes_a_book() || op.is_of_a_book(),
         };
@@ -154,6 +181,10 @@ impl Op {
 
     fn takes_a_book(self) -> bool {
         matches!(self, Op::Write | Op::WriteDate) || self.choices().is_some()
+    }
+
+    fn is_named_alone(self) -> bool {
+        self.list_choices().is_some() || self.mend_edition().is_some()
     }
 
     fn is_of_a_book(self) -> bool {

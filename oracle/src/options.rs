@@ -19,6 +19,8 @@ pub struct Options {
     pub ops: Option<Vec<Op>>,
     /// Lists in the place of the usual ones.
     pub lists: bool,
+    /// Patterns to mend in their place.
+    pub mends: bool,
     /// Which books the requests come with; none where none is named.
     pub books: Option<Books>,
     /// Of a check; both where none is named.
@@ -35,8 +37,11 @@ impl Options {
         let options = Options::from_args(args)?;
         match options.edition {
             Some(_) => Err("the edition is in the name of an op".to_string()),
-            None if options.lists && options.ops.is_some() => {
-                Err("lists are ops of their own".to_string())
+            None if options.ways_to_name_ops() > 1 => {
+                Err("lists and patterns to mend are ops of their own".to_string())
+            }
+            None if options.mends && options.books.is_some() => {
+                Err("a pattern is mended without a book".to_string())
             }
             None => Ok(options),
         }
@@ -47,9 +52,16 @@ impl Options {
         let options = Options::from_args(args)?;
         match options.ops {
             Some(_) => Err("there is one op".to_string()),
-            None if options.lists => Err("a list is no check".to_string()),
+            None if options.lists || options.mends => Err("that is no check".to_string()),
             None => Ok(options),
         }
+    }
+
+    fn ways_to_name_ops(&self) -> usize {
+        [self.lists, self.mends, self.ops.is_some()]
+            .into_iter()
+            .filter(|named| *named)
+            .count()
     }
 
     fn from_args(mut args: impl Iterator<Item = String>) -> Result<Options, String> {
@@ -59,6 +71,7 @@ impl Options {
             every: NonZeroUsize::MIN,
             ops: None,
             lists: false,
+            mends: false,
             books: None,
             edition: None,
             requests: None,
@@ -71,6 +84,7 @@ impl Options {
                 "--every" => options.every = number(args.next())?,
                 "--ops" => options.ops = Some(ops(&word(args.next())?)?),
                 "--lists" => options.lists = true,
+                "--mends" => options.mends = true,
                 "--books" => options.books = Some(books(&word(args.next())?)?),
                 "--edition" => options.edition = Some(edition(&word(args.next())?)?),
                 "--requests" => options.requests = Some(word(args.next())?),
@@ -85,6 +99,7 @@ impl Options {
         let ops = match &self.ops {
             Some(named) => named.clone(),
             None if self.lists => Op::LISTS.to_vec(),
+            None if self.mends => Op::MENDS.to_vec(),
             None => Op::usual(self.books),
         };
         Generator::with(self.books, self.seed, ops)

@@ -60,6 +60,12 @@ pub enum Request {
         rows: usize,
         book: Option<Vec<u8>>,
     },
+    Mend {
+        edition: Edition,
+        pattern: Vec<u8>,
+        now: i32,
+        room: usize,
+    },
 }
 
 impl Request {
@@ -92,6 +98,12 @@ impl Request {
                 names: names(&mut words)?,
             },
             Op::List => list_request(&mut words)?,
+            Op::Mend => Request::Mend {
+                pattern: bytes(&mut words)?,
+                now: number(&mut words)?,
+                room: room(&mut words)?,
+                edition: edition(&mut words),
+            },
             read => read_request(read.choices()?.pair, &mut words)?,
         };
         words.next().is_none().then_some(request)
@@ -111,6 +123,7 @@ impl Request {
             Request::Book { .. } => Op::Book,
             Request::BookWrite { .. } => Op::BookWrite,
             Request::List { choices, .. } => Op::of_list(*choices),
+            Request::Mend { edition, .. } => Op::of_mend(*edition),
         }
     }
 
@@ -178,6 +191,15 @@ impl fmt::Display for Request {
                 let (pattern, text) = (hex(pattern), hex(text));
                 let words = choice_words(*choices, book);
                 write!(f, "{pattern} {text} {now} {rows}{words}")
+            }
+            Request::Mend {
+                edition,
+                pattern,
+                now,
+                room,
+            } => {
+                let (pattern, edition) = (hex(pattern), edition_word(*edition));
+                write!(f, "{pattern} {now} {room}{edition}")
             }
         }
     }

@@ -82,6 +82,12 @@ fn other_lines_are_bad_requests() {
         "list 79 39 2025 1 book:4c second".to_string(),
         "list_strict 79 39 2025 1".to_string(),
         "list_date 79 39 2025 1".to_string(),
+        "mend 79 2025".to_string(),
+        "mend 79 2025 4097".to_string(),
+        "mend 79 2025 second".to_string(),
+        "mend 79 2025 9 strict".to_string(),
+        "mend 79 2025 9 second book:4c".to_string(),
+        "mend_second 79 2025 9".to_string(),
     ];
     for line in lines {
         assert_eq!(answer(&line), "bad request", "{line}");
@@ -114,6 +120,9 @@ fn no_line_has_more_than_20000_bytes() {
         for request in requests.take(20_000) {
             assert!(request.to_string().len() <= 20_000);
         }
+    }
+    for request in Generator::new(1, Op::MENDS.to_vec()).take(20_000) {
+        assert!(request.to_string().len() <= 20_000);
     }
 }
 

@@ -22,6 +22,7 @@ static uint8_t out[4];
 static int64_t answer[SHEET_LINE_ANSWER];
 static int64_t parts[SHEET_SPLIT_PARTS];
 static int64_t units[SHEET_UNITS_ROW];
+static int64_t changes[SHEET_CHANGES_ROW];
 static uint8_t book[SHEET_BOOK_ROW];
 static uint8_t written[SHEET_LONGEST_BOOK];
 static bool all = true;
@@ -139,6 +140,19 @@ static void by_lists(void) {
     GIVES(read_line(NEWLINE, 1, NULL, 0), SHEET_ROW_TOO_SMALL, MARK, MARK);
 }
 
+/* An empty pattern needs no output, and no changes undo nothing. */
+static void by_mending(void) {
+    GIVES(sheet_mend(0, NULL, 0, 2025, NULL, 0, changes, SHEET_CHANGES_ROW, answer, 2), SHEET_ACCEPTED, 0, 0);
+    GIVES(sheet_mend(0, PATTERN, 2, 2025, NULL, 0, changes, SHEET_CHANGES_ROW, answer, 2), SHEET_NO_ROOM, 2, 0);
+    GIVES(sheet_mend(0, NULL, 0, 2025, NULL, 0, NULL, 0, answer, 2), SHEET_ROW_TOO_SMALL, MARK, MARK);
+    GIVES(sheet_mend(0, NULL, 0, 2025, NULL, 0, changes, SHEET_CHANGES_ROW, NULL, 0), SHEET_ROW_TOO_SMALL, MARK, MARK);
+    GIVES(sheet_mend(SHEET_DATE_PAIR, NULL, 0, 2025, NULL, 0, NULL, 0, NULL, 0), SHEET_NO_SUCH_CHOICE, MARK, MARK);
+    GIVES(sheet_undo(NULL, 0, NULL, 0, NULL, 0, answer, 2), SHEET_ACCEPTED, 0, 0);
+    GIVES(sheet_undo(PATTERN, 2, NULL, 0, NULL, 0, answer, 2), SHEET_NO_ROOM, 2, 0);
+    GIVES(sheet_undo(NULL, 0, changes, 1, NULL, 0, answer, 2), SHEET_MISFIT, MARK, MARK);
+    GIVES(sheet_undo(NULL, 0, NULL, 0, NULL, 0, NULL, 0), SHEET_ROW_TOO_SMALL, MARK, MARK);
+}
+
 static void by_others(void) {
     GIVES(sheet_parse_offset(NULL, 0, answer, 2), SHEET_OFFSET_LENGTH, 0, 0);
     GIVES(sheet_parse_offset(TEXT, 2, NULL, 0), SHEET_ROW_TOO_SMALL, MARK, MARK);
@@ -169,6 +183,7 @@ int main(void) {
     by_choices();
     by_books();
     by_lists();
+    by_mending();
     by_others();
     return all ? 0 : 1;
 }

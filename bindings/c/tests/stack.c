@@ -21,6 +21,7 @@ static uint8_t text[SHEET_LONGEST_TEXT];
 static int64_t answer[SHEET_LINE_ANSWER];
 static int64_t parts[SHEET_SPLIT_PARTS];
 static int64_t units[SHEET_UNITS_ROW];
+static int64_t changes[SHEET_CHANGES_ROW];
 static uint8_t book[SHEET_BOOK_ROW];
 static uint8_t file[SHEET_LONGEST_BOOK];
 static int32_t days_read[LINES], months_read[LINES], years_read[LINES];
@@ -130,6 +131,18 @@ static void check(size_t length) {
     sheet_check_with(SHEET_SECOND_EDITION, pattern, length, 2025, answer, SHEET_CHECK_ANSWER);
 }
 
+/* In both editions, with room and without, and undone where it is mended. */
+static void mend(size_t length) {
+    static uint8_t mended[SHEET_LONGEST_PATTERN];
+    for (uint32_t choices = 0; choices <= SHEET_SECOND_EDITION; choices += SHEET_SECOND_EDITION) {
+        sheet_mend(choices, pattern, length, 2025, NULL, 0, changes, SHEET_CHANGES_ROW, answer, SHEET_MEND_ANSWER);
+        if (sheet_mend(choices, pattern, length, 2025, mended, sizeof mended, changes, SHEET_CHANGES_ROW, answer,
+                       SHEET_MEND_ANSWER) == SHEET_ACCEPTED)
+            sheet_undo(mended, (size_t)answer[0], changes, SHEET_CHANGE * (size_t)answer[1], text, sizeof text, answer,
+                       SHEET_UNDO_ANSWER);
+    }
+}
+
 static void parse_offset(size_t length) {
     sheet_parse_offset(pattern, length, answer, SHEET_OFFSET_ANSWER);
     sheet_parse_offset((const uint8_t *)"+05:30", 6, answer, SHEET_OFFSET_ANSWER);
@@ -181,29 +194,30 @@ static size_t used_by_all_patterns(void) {
     return sizeof stack - painted;
 }
 
-static bool holds(const char *name, function *function) {
+static bool holds(const char *name, function *function, size_t most) {
     called = function;
     /* First on this stack: what a linker does at the first call is not counted. */
     by_all_patterns();
     size_t used = used_by_all_patterns();
-    bool held = used <= SHEET_MOST_STACK;
+    bool held = used <= most;
     printf("%-24s %5zu bytes of stack%s\n", name, used, held ? "" : ", more than the header says");
     return held;
 }
 
 int main(void) {
     lay_longest_names();
-    bool all = holds("write, enough room", write_with_room);
-    all &= holds("write, too little room", write_without_room);
-    all &= holds("write and read", write_and_read);
-    all &= holds("write and read with", write_and_read_with);
-    all &= holds("write and read by", write_and_read_by);
-    all &= holds("read_list, read_line", lists);
-    all &= holds("book_read, book_write", books);
-    all &= holds("split", split);
-    all &= holds("units", tell_units);
-    all &= holds("check", check);
-    all &= holds("parse_offset, was_read", parse_offset);
-    all &= holds("day, day_number", days);
+    bool all = holds("write, enough room", write_with_room, SHEET_MOST_STACK);
+    all &= holds("write, too little room", write_without_room, SHEET_MOST_STACK);
+    all &= holds("write and read", write_and_read, SHEET_MOST_STACK);
+    all &= holds("write and read with", write_and_read_with, SHEET_MOST_STACK);
+    all &= holds("write and read by", write_and_read_by, SHEET_MOST_STACK);
+    all &= holds("read_list, read_line", lists, SHEET_MOST_STACK);
+    all &= holds("book_read, book_write", books, SHEET_MOST_STACK);
+    all &= holds("split", split, SHEET_MOST_STACK);
+    all &= holds("units", tell_units, SHEET_MOST_STACK);
+    all &= holds("check", check, SHEET_MOST_STACK);
+    all &= holds("mend, undo", mend, SHEET_MEND_STACK);
+    all &= holds("parse_offset, was_read", parse_offset, SHEET_MOST_STACK);
+    all &= holds("day, day_number", days, SHEET_MOST_STACK);
     return all ? 0 : 1;
 }

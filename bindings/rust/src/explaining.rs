@@ -258,7 +258,7 @@ fn counted(least: usize, most: usize, what: &str) -> String {
     format!("{number} {what}{many}")
 }
 
-fn spelled(number: usize) -> String {
+pub(crate) fn spelled(number: usize) -> String {
     const WORDS: [&str; 10] = [
         "no", "one", "two", "three", "four", "five", "six", "seven", "eight", "nine",
     ];

@@ -8,6 +8,8 @@ pub const LONGEST_TEXT: usize = 2048;
 pub const BYTES_A_PATTERN_BYTE: usize = 8;
 /// The most bytes of the stack that a call takes.
 pub const MOST_STACK: usize = 2048;
+/// The most bytes of the stack that a call of [`sheet_mend`] or [`sheet_undo`] takes.
+pub const MEND_STACK: usize = 16384;
 
 /// How many bytes an opened book has.
 pub const BOOK_ROW: usize = BOOK_ROOMS * NAME_ROOM;
@@ -19,6 +21,11 @@ pub const NAME_ROOM: usize = 1 + LONGEST_NAME;
 pub const LONGEST_NAME: usize = 20;
 /// The longest book of version 1, in bytes.
 pub const LONGEST_BOOK: usize = 743;
+
+/// The most changes that a mended pattern has.
+pub const MOST_CHANGES: usize = 128;
+/// How many entries of `changes` a change has: its place, the byte, how often it stood there, how often it does now.
+pub const CHANGE: usize = 4;
 
 /// How many entries of `answer` a writer asks for.
 pub const WRITE_ANSWER: usize = 2;
@@ -52,6 +59,12 @@ pub const BOOK_ANSWER: usize = 2;
 pub const LIST_ANSWER: usize = 2;
 /// How many entries of `answer` [`sheet_read_line`] asks for.
 pub const LINE_ANSWER: usize = LINE_READING + READ_ANSWER;
+/// How many entries of `answer` [`sheet_mend`] asks for.
+pub const MEND_ANSWER: usize = 2;
+/// How many entries of `changes` [`sheet_mend`] asks for.
+pub const CHANGES_ROW: usize = MOST_CHANGES * CHANGE;
+/// How many entries of `answer` [`sheet_undo`] asks for.
+pub const UNDO_ANSWER: usize = 2;
 /// Where in `answer` of [`sheet_read_line`] the reading starts.
 pub const LINE_READING: usize = 3;
 
@@ -83,6 +96,7 @@ pub const BOOK_VERSION: u32 = 21;
 pub const BOOK_LENGTH: u32 = 22;
 pub const BOOK_NAME: u32 = 23;
 pub const SHORT_ROW: u32 = 24;
+pub const MENDED_TOO_LONG: u32 = 30;
 
 /// What is returned where a lent row is too small; then nothing is altered.
 pub const ROW_TOO_SMALL: u32 = 100;
@@ -92,12 +106,14 @@ pub const NO_SUCH_CHOICE: u32 = 101;
 pub const NO_BOOK: u32 = 102;
 /// What is returned where a text has no line at a place; then nothing is altered.
 pub const NO_LINE: u32 = 103;
+/// What is returned where a row holds no changes, or one that does not fit a pattern; then nothing is altered.
+pub const MISFIT: u32 = 104;
 
 /// Among the choices of [`sheet_read_with`], which are added: dates alone.
 pub const DATE_PAIR: u32 = 1;
 /// Among the choices of [`sheet_read_with`]: a strict reading.
 pub const STRICT: u32 = 2;
-/// Among the choices of [`sheet_read_with`] and of [`sheet_check_with`]: the second edition.
+/// Among the choices of [`sheet_read_with`], of [`sheet_check_with`] and of [`sheet_mend`]: the second edition.
 pub const SECOND_EDITION: u32 = 4;
 
 /// In the place of a unit: a part that is a literal.
@@ -303,6 +319,28 @@ extern "C" {
         answer: *mut i64,
         answer_len: usize,
     ) -> u32;
+    pub fn sheet_mend(
+        choices: u32,
+        pattern: *const u8,
+        pattern_len: usize,
+        year: i32,
+        out: *mut u8,
+        out_len: usize,
+        changes: *mut i64,
+        changes_len: usize,
+        answer: *mut i64,
+        answer_len: usize,
+    ) -> u32;
+    pub fn sheet_undo(
+        pattern: *const u8,
+        pattern_len: usize,
+        changes: *const i64,
+        changes_len: usize,
+        out: *mut u8,
+        out_len: usize,
+        answer: *mut i64,
+        answer_len: usize,
+    ) -> u32;
     pub fn sheet_day(number: i32, answer: *mut i64, answer_len: usize) -> u32;
     pub fn sheet_day_number(year: i32, month: u32, day: u32, answer: *mut i64, answer_len: usize) -> u32;
 }
@@ -335,10 +373,12 @@ pub fn refusal_text(number: u32) -> &'static str {
         BOOK_LENGTH => "the book is cut short, or goes on behind its names",
         BOOK_NAME => "the book has a bad name",
         SHORT_ROW => "a row is shorter than the lines",
+        MENDED_TOO_LONG => "the mended pattern has over 256 bytes",
         ROW_TOO_SMALL => "a row for the answer is too small",
         NO_SUCH_CHOICE => "there is no such choice",
         NO_BOOK => "the bytes are no opened book",
         NO_LINE => "no line is left at that place",
+        MISFIT => "the changes do not fit the pattern",
         _ => "no such number",
     }
 }

@@ -30,6 +30,7 @@ use std::fmt;
 /// | 22 | a book is cut short, or one of version 1 goes on behind its names | 0 |
 /// | 23 | a name of a book breaks a rule | the number of the first, 1 to 64 |
 /// | 24 | a row for a list is shorter than the lines | 0 |
+/// | 30 | the mended pattern has over 256 bytes | 0 |
 ///
 /// ```
 /// let refusal = sheet::read("dd/MM", "3/12", 2025).unwrap_err();
@@ -78,7 +79,7 @@ pub(crate) fn current_years(edition: Edition) -> &'static str {
 }
 
 impl Refusal {
-    /// The number, 1 to 24.
+    /// The number, 1 to 24 or 30.
     pub fn number(&self) -> u32 {
         self.number
     }
@@ -113,7 +114,8 @@ impl Refusal {
     fn says_all(&self) -> bool {
         matches!(
             self.number,
-            raw::NO_SUCH_DAY | raw::NO_DAY_NUMBER | raw::BOOK_MARK..=raw::BOOK_LENGTH | raw::SHORT_ROW
+            raw::NO_SUCH_DAY | raw::NO_DAY_NUMBER | raw::BOOK_MARK
+                ..=raw::BOOK_LENGTH | raw::SHORT_ROW | raw::MENDED_TOO_LONG
         )
     }
 

@@ -253,6 +253,36 @@ fn of_lists() {
     }
 }
 
+fn mend(pattern: &[u8], changes: &mut [i64], answer: &mut [i64]) -> u32 {
+    let (p, p_len) = lent(pattern);
+    let ((changes, entries), (answer, answers)) = (row(changes), row(answer));
+    // SAFETY: as for a write.
+    unsafe { raw::sheet_mend(0, p, p_len, YEAR, null_mut(), 0, changes, entries, answer, answers) }
+}
+
+fn undo(pattern: &[u8], changes: &[i64], answer: &mut [i64]) -> u32 {
+    let ((p, p_len), (answer, answers)) = (lent(pattern), row(answer));
+    let (c, entries) = match changes {
+        [] => (null(), 0),
+        _ => (changes.as_ptr(), changes.len()),
+    };
+    // SAFETY: as for a write.
+    unsafe { raw::sheet_undo(p, p_len, c, entries, null_mut(), 0, answer, answers) }
+}
+
+/// An empty pattern needs no output, and no changes undo nothing.
+#[test]
+fn of_mending() {
+    let changes = || [MARK; raw::CHANGES_ROW];
+    gives(|row| mend(b"", &mut changes(), row), raw::ACCEPTED, 0, 0);
+    gives(|row| mend(b"dd", &mut changes(), row), raw::NO_ROOM, 2, 0);
+    gives(|row| undo(b"", &[], row), raw::ACCEPTED, 0, 0);
+    gives(|row| undo(b"dd", &[], row), raw::NO_ROOM, 2, 0);
+    gives(|row| undo(b"dd", &[0, 100, 0, 2], row), raw::ACCEPTED, 0, 0);
+    assert_eq!(mend(b"", &mut [], &mut [MARK; 2]), raw::ROW_TOO_SMALL);
+    assert_eq!(undo(b"", &[1], &mut [MARK; 2]), raw::MISFIT);
+}
+
 fn day(number: i32, answer: &mut [i64]) -> u32 {
     let (answer, entries) = row(answer);
     // SAFETY: as for a write.

@@ -1,8 +1,8 @@
 //! Each refusal, by a call that gives it: its number, its details and its sentence.
 
 use sheet::{
-    check, check_with, day_number, parse_offset, read, read_with, split, write, write_into, Book, Choices, Edition,
-    Fields, Refusal,
+    check, check_with, day_number, mend, mend_with, parse_offset, read, read_with, split, write, write_into, Book,
+    Choices, Edition, Fields, Refusal,
 };
 use std::error::Error;
 use std::fmt::Debug;
@@ -252,6 +252,20 @@ fn of_a_day() {
         18,
         &[0],
         "the day's number doesn't fit 32 signed bits",
+    );
+}
+
+/// The detail is 0, and the sentence has none; behind it comes that of an output.
+#[test]
+fn of_a_mended_pattern() {
+    let sentence = "the mended pattern has over 256 bytes";
+    refused(mend("dH".repeat(128), 2025), 30, &[0], sentence);
+    refused(mend_with(Edition::Second, "dH".repeat(128), 2025), 30, &[0], sentence);
+    refused(
+        mend_with(Edition::Second, "dH", 80),
+        14,
+        &[80],
+        "the current year is not from 81 to 9999: it is 80",
     );
 }
 

@@ -371,6 +371,37 @@ fn listed(choices: Choices, pattern: &str, text: &str) -> String {
     })
 }
 
+/// A pattern as it is shown: `128 times` a piece where it is long.
+fn pattern_shown(pattern: &[u8]) -> String {
+    match String::from_utf8_lossy(pattern) {
+        empty if empty.is_empty() => "(empty)".to_string(),
+        long if long.len() == 256 => format!("128 times `{}`", &long[..2]),
+        other => format!("`{other}`"),
+    }
+}
+
+/// A pattern mended in an edition, or in both alike, with the sentences of its changes.
+fn of_mending(row: &[&str]) -> Vec<Sample> {
+    let editions: &[Edition] = match row[1] {
+        "first" => &[Edition::First],
+        "second" => &[Edition::Second],
+        _ => &[Edition::First, Edition::Second],
+    };
+    let sample = |column: usize, answer: String| (row[column].to_string(), answer);
+    let of_edition = |edition: &Edition| match sheet::mend_with(*edition, quoted(row[0]), 2025) {
+        Ok(mending) if mending.changes.is_empty() => [
+            sample(2, pattern_shown(&mending.pattern)),
+            sample(3, "none".to_string()),
+        ],
+        Ok(mending) => [
+            sample(2, pattern_shown(&mending.pattern)),
+            sample(3, mending.sentences().join("; ")),
+        ],
+        Err(refusal) => [sample(2, refused(refusal)), sample(3, String::new())],
+    };
+    editions.iter().flat_map(of_edition).collect()
+}
+
 /// Under its own heading a sample is of a strict reading.
 fn choices(heading: &str) -> Choices {
     match heading {
@@ -422,6 +453,7 @@ fn samples(table: &Table, row: &[&str]) -> Vec<Sample> {
             let [plain, strict] = answers;
             vec![sample(2, plain), sample(3, strict)]
         }
+        (["Pattern", "Edition", "Mended", "Changes"], _) => of_mending(row),
         _ => vec![],
     }
 }
@@ -510,6 +542,19 @@ fn lists_have_their_own_samples() {
     let (_, differing) = held(&document(strict, plain));
     let wrong = [(strict, plain), (plain, strict)].map(|(sample, right)| (sample.to_string(), right.to_string()));
     assert_eq!(differing, wrong);
+}
+
+#[test]
+fn mending_has_its_own_samples() {
+    let document =
+        |row: &str| format!("## Mending\n\n| Pattern | Edition | Mended | Changes |\n|---|---|---|---|\n{row}\n");
+    assert_eq!(held(&document("| `M` | first | `MM` | `M` became `MM` |")), (2, vec![]));
+    assert_eq!(held(&document("| `M` | second | `M` | none |")), (2, vec![]));
+    assert_eq!(held(&document("| `d'` | both | refused 3 1 | |")), (4, vec![]));
+    let (tried, differing) = held(&document("| `M` | both | `MM` | `M` became `MM` |"));
+    let [mended, changes] = [("`MM`", "`M`"), ("`M` became `MM`", "none")];
+    let wrong = [mended, changes].map(|(sample, right)| (sample.to_string(), right.to_string()));
+    assert_eq!((tried, differing), (4, wrong.to_vec()));
 }
 
 /// Of a unit that was not read both places are 0.

@@ -17,6 +17,8 @@ use crate::gregorian;
 use crate::limits::{pattern_limit, year_limit};
 use crate::names;
 use crate::walk::{Parts, Written};
+use std::cell::RefCell;
+use std::collections::HashMap;
 
 const RANDOM_RECORDS: usize = 8;
 
@@ -43,6 +45,27 @@ fn tried(request: &CheckRequest, random: &mut Random) -> Verdict {
         Some((part, fields)) => Verdict::No(part, trial.on_a_real_day(part, fields)),
         None => Verdict::Yes,
     }
+}
+
+/// Whether the first of these parts does not come back for some record. No year of two digits is among them, so that the current year
+/// does not matter; what was found is kept, since most parts come again.
+pub fn is_disturbed(edition: Edition, parts: &[u8]) -> bool {
+    thread_local! {
+        static FOUND: RefCell<HashMap<(bool, Vec<u8>), bool>> = RefCell::default();
+    }
+    let key = (edition == Edition::Second, parts.to_vec());
+    let known = FOUND.with_borrow(|found| found.get(&key).copied());
+    known.unwrap_or_else(|| {
+        let request = CheckRequest {
+            edition,
+            pattern: parts.to_vec(),
+            now: 2025,
+            book: None,
+        };
+        let disturbed = Trial::of(&request).failing_around(0).is_some();
+        FOUND.with_borrow_mut(|found| found.insert(key, disturbed));
+        disturbed
+    })
 }
 
 /// Refusals 1, 2, 3 and 14, in this order.

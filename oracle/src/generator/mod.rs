@@ -7,6 +7,7 @@ mod fields;
 mod library;
 mod lists;
 mod literals;
+mod mends;
 mod offsets;
 mod patterns;
 mod random;
@@ -79,9 +80,10 @@ fn request(op: Op, turn: usize, random: &mut Random) -> Request {
             bytes: books::bytes(turn, random),
         },
         Op::BookWrite => book_write_request(turn, random),
-        other => match other.list_choices() {
-            Some(choices) => lists::list(choices, turn, random),
-            None => {
+        other => match (other.list_choices(), other.mend_edition()) {
+            (Some(choices), _) => lists::list(choices, turn, random),
+            (_, Some(edition)) => mends::mend(edition, turn, random),
+            (None, None) => {
                 let choices = other.choices().expect("all others are reads");
                 read_request(choices, turn, random)
             }

@@ -1,4 +1,4 @@
-//! The functions with a book as C sees them, those of lists among them, and what fills what they are lent.
+//! The functions with a book as C sees them, those of lists among them, those of mending, and what fills what they are lent.
 
 // Each test uses some of it.
 #![allow(dead_code)]
@@ -118,6 +118,40 @@ pub fn read_line(choices: u32, book: &[u8], pattern: &[u8], text: &[u8], at: usi
             text.len(),
             at,
             2025,
+            answer.as_mut_ptr(),
+            answer.len(),
+        )
+    }
+}
+
+pub fn mend(choices: u32, pattern: &[u8], year: i32, out: &mut [u8], changes: &mut [i64], answer: &mut [i64]) -> u32 {
+    // SAFETY: each pointer goes with the length of the slice that it comes from.
+    unsafe {
+        raw::sheet_mend(
+            choices,
+            pattern.as_ptr(),
+            pattern.len(),
+            year,
+            out.as_mut_ptr(),
+            out.len(),
+            changes.as_mut_ptr(),
+            changes.len(),
+            answer.as_mut_ptr(),
+            answer.len(),
+        )
+    }
+}
+
+pub fn undo(pattern: &[u8], changes: &[i64], out: &mut [u8], answer: &mut [i64]) -> u32 {
+    // SAFETY: each pointer goes with the length of the slice that it comes from.
+    unsafe {
+        raw::sheet_undo(
+            pattern.as_ptr(),
+            pattern.len(),
+            changes.as_ptr(),
+            changes.len(),
+            out.as_mut_ptr(),
+            out.len(),
             answer.as_mut_ptr(),
             answer.len(),
         )

@@ -3,7 +3,7 @@
 use crate::lines::LONGEST;
 use crate::pair::Pair;
 use crate::words::Words;
-use crate::{books, checking, days, lists, reading, splitting, writing};
+use crate::{books, checking, days, lists, mending, reading, splitting, writing};
 use sheet::Refusal;
 
 const BAD_REQUEST: &str = "bad request";
@@ -29,6 +29,7 @@ fn answer_to(line: &[u8]) -> Option<String> {
         b"book" => books::answer(words),
         b"book_write" => books::answer_write(words),
         b"list" => lists::answer(words),
+        b"mend" => mending::answer(words),
         _ => None,
     }
 }
@@ -104,6 +105,10 @@ mod tests {
             "list 64 33 2025",
             "List 64 33 2025 1",
             "list 64 33 2025 1 2",
+            "mend",
+            "mend 64 2025",
+            "Mend 64 2025 9",
+            "mend 64 2025 9 9",
         ];
         for line in lines {
             assert_eq!(answer(line.as_bytes()), "bad request", "{line}");

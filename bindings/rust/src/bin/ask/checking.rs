@@ -21,7 +21,7 @@ pub fn answer(mut words: Words) -> Option<String> {
     }))
 }
 
-fn checked(verdict: Result<Verdict, Refusal>) -> String {
+pub fn checked(verdict: Result<Verdict, Refusal>) -> String {
     match verdict {
         Ok(Verdict::Yes) => "yes".to_string(),
         Ok(Verdict::No { part, record }) => format!("no {part} {}", of_fields(&record)),

@@ -9,6 +9,7 @@ mod hex;
 mod lines;
 mod lists;
 mod marks;
+mod mending;
 mod pair;
 mod reader;
 mod reading;
