@@ -3,7 +3,7 @@
 use crate::lines::LONGEST;
 use crate::pair::Pair;
 use crate::words::Words;
-use crate::{books, checking, days, lists, reading, splitting, writing};
+use crate::{books, checking, days, lists, reading, splitting, stamps, writing};
 use sheet::Refusal;
 
 const BAD_REQUEST: &str = "bad request";
@@ -29,6 +29,8 @@ fn answer_to(line: &[u8]) -> Option<String> {
         b"book" => books::answer(words),
         b"book_write" => books::answer_write(words),
         b"list" => lists::answer(words),
+        b"rfc_read" => stamps::answer_read(words),
+        b"rfc_write" => stamps::answer_write(words),
         _ => None,
     }
 }
@@ -104,6 +106,10 @@ mod tests {
             "list 64 33 2025",
             "List 64 33 2025 1",
             "list 64 33 2025 1 2",
+            "rfc_read",
+            "rfc_read 5a book:-",
+            "rfc_write 2025 12 3 0 0 0",
+            "rfc_write 2025 12 3 0 0 0 35 strict",
         ];
         for line in lines {
             assert_eq!(answer(line.as_bytes()), "bad request", "{line}");

@@ -13,6 +13,7 @@ mod pair;
 mod reader;
 mod reading;
 mod splitting;
+mod stamps;
 mod words;
 mod writer;
 mod writing;
