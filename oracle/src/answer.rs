@@ -49,6 +49,7 @@ fn accepted(request: &Request) -> Option<String> {
             Some(day_number(days::day_number(*year, *month, *day).ok()?))
         }
         Request::Book { .. } | Request::BookWrite { .. } | Request::List { .. } => None,
+        Request::RfcRead { .. } | Request::RfcWrite { .. } => None,
     }
 }
 

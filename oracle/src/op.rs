@@ -25,10 +25,12 @@ pub enum Op {
     ListStrict,
     ListSecond,
     ListStrictSecond,
+    RfcRead,
+    RfcWrite,
 }
 
 impl Op {
-    pub const ALL: [Op; 20] = [
+    pub const ALL: [Op; 22] = [
         Op::Split,
         Op::Write,
         Op::WriteDate,
@@ -49,7 +51,12 @@ impl Op {
         Op::ListStrict,
         Op::ListSecond,
         Op::ListStrictSecond,
+        Op::RfcRead,
+        Op::RfcWrite,
     ];
+
+    /// Those of stamps.
+    pub const STAMPS: [Op; 2] = [Op::RfcRead, Op::RfcWrite];
 
     /// Those of lists, which have the full pair alone.
     pub const LISTS: [Op; 4] = [
@@ -81,6 +88,8 @@ impl Op {
             Op::ListStrict => "list_strict",
             Op::ListSecond => "list_second",
             Op::ListStrictSecond => "list_strict_second",
+            Op::RfcRead => "rfc_read",
+            Op::RfcWrite => "rfc_write",
         }
     }
 
@@ -100,6 +109,7 @@ impl Op {
             Op::ParseOffset | Op::DayOf | Op::DayNumber => return None,
             Op::Book | Op::BookWrite => return None,
             Op::List | Op::ListStrict | Op::ListSecond | Op::ListStrictSecond => return None,
+            Op::RfcRead | Op::RfcWrite => return None,
         })
     }
 
@@ -142,10 +152,13 @@ impl Op {
     }
 
     /// Those that are asked where none is named: without a book all but those of books, with English those that take one; those of
-    /// lists are always named.
+    /// lists and of stamps are always named.
     pub fn usual(books: Option<Books>) -> Vec<Op> {
         let is_usual = |op: &Op| match books {
-            None => !op.is_of_a_book() && op.list_choices().is_none(),
+            None => {
+                let is_named = op.list_choices().is_some() || Op::STAMPS.contains(op);
+                !op.is_of_a_book() && !is_named
+            }
             Some(Books::English) => op.takes_a_book(),
             Some(Books::Random) => op.takes_a_book() || op.is_of_a_book(),
         };

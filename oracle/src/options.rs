@@ -19,6 +19,8 @@ pub struct Options {
     pub ops: Option<Vec<Op>>,
     /// Lists in the place of the usual ones.
     pub lists: bool,
+    /// Stamps in the place of the usual ones.
+    pub stamps: bool,
     /// Which books the requests come with; none where none is named.
     pub books: Option<Books>,
     /// Of a check; both where none is named.
@@ -35,11 +37,14 @@ impl Options {
         let options = Options::from_args(args)?;
         match options.edition {
             Some(_) => Err("the edition is in the name of an op".to_string()),
-            None if options.lists && options.ops.is_some() => {
-                Err("lists are ops of their own".to_string())
-            }
+            None if options.named() > 1 => Err("lists and stamps are ops of their own".to_string()),
             None => Ok(options),
         }
+    }
+
+    /// In how many ways ops are named.
+    fn named(&self) -> usize {
+        usize::from(self.lists) + usize::from(self.stamps) + usize::from(self.ops.is_some())
     }
 
     /// Of checks, which have no ops.
@@ -47,7 +52,9 @@ impl Options {
         let options = Options::from_args(args)?;
         match options.ops {
             Some(_) => Err("there is one op".to_string()),
-            None if options.lists => Err("a list is no check".to_string()),
+            None if options.lists || options.stamps => {
+                Err("a list or a stamp is no check".to_string())
+            }
             None => Ok(options),
         }
     }
@@ -59,6 +66,7 @@ impl Options {
             every: NonZeroUsize::MIN,
             ops: None,
             lists: false,
+            stamps: false,
             books: None,
             edition: None,
             requests: None,
@@ -71,6 +79,7 @@ impl Options {
                 "--every" => options.every = number(args.next())?,
                 "--ops" => options.ops = Some(ops(&word(args.next())?)?),
                 "--lists" => options.lists = true,
+                "--stamps" => options.stamps = true,
                 "--books" => options.books = Some(books(&word(args.next())?)?),
                 "--edition" => options.edition = Some(edition(&word(args.next())?)?),
                 "--requests" => options.requests = Some(word(args.next())?),
@@ -85,6 +94,7 @@ impl Options {
         let ops = match &self.ops {
             Some(named) => named.clone(),
             None if self.lists => Op::LISTS.to_vec(),
+            None if self.stamps => Op::STAMPS.to_vec(),
             None => Op::usual(self.books),
         };
         Generator::with(self.books, self.seed, ops)

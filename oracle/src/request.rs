@@ -4,6 +4,7 @@ use crate::book::{LONGEST_NAME, NAMES};
 use crate::calendar::Fields;
 use crate::choices::{Choices, Edition};
 pub use crate::op::Op;
+use crate::stamps::Stamp;
 use crate::walk::Pair;
 use std::fmt;
 use std::iter::Peekable;
@@ -60,6 +61,13 @@ pub enum Request {
         rows: usize,
         book: Option<Vec<u8>>,
     },
+    RfcRead {
+        text: Vec<u8>,
+    },
+    RfcWrite {
+        stamp: Stamp,
+        room: usize,
+    },
 }
 
 impl Request {
@@ -92,6 +100,13 @@ impl Request {
                 names: names(&mut words)?,
             },
             Op::List => list_request(&mut words)?,
+            Op::RfcRead => Request::RfcRead {
+                text: bytes(&mut words)?,
+            },
+            Op::RfcWrite => Request::RfcWrite {
+                stamp: Stamp::from_words(&mut words)?,
+                room: room(&mut words)?,
+            },
             read => read_request(read.choices()?.pair, &mut words)?,
         };
         words.next().is_none().then_some(request)
@@ -111,6 +126,8 @@ impl Request {
             Request::Book { .. } => Op::Book,
             Request::BookWrite { .. } => Op::BookWrite,
             Request::List { choices, .. } => Op::of_list(*choices),
+            Request::RfcRead { .. } => Op::RfcRead,
+            Request::RfcWrite { .. } => Op::RfcWrite,
         }
     }
 
@@ -179,6 +196,8 @@ impl fmt::Display for Request {
                 let words = choice_words(*choices, book);
                 write!(f, "{pattern} {text} {now} {rows}{words}")
             }
+            Request::RfcRead { text } => f.write_str(&hex(text)),
+            Request::RfcWrite { stamp, room } => write!(f, "{} {room}", stamp.words()),
         }
     }
 }

@@ -19,7 +19,8 @@ pub const COUNT: usize = 300;
 pub struct Comparer {
     path: &'static str,
     books: Option<Books>,
-    lists: bool,
+    /// The option that names its ops, where it is not the usual ones.
+    ops: Option<&'static str>,
     pub requests: Vec<String>,
     pub answers: Vec<String>,
 }
@@ -30,17 +31,22 @@ pub struct Outcome {
 }
 
 pub fn compare_with(books: Option<Books>, count: usize) -> Comparer {
-    compare_on(books, false, requests(books, count))
+    compare_on(books, None, requests(books, count))
 }
 
 /// Of lists alone.
 pub fn compare_lists(books: Option<Books>, count: usize) -> Comparer {
-    compare_on(books, true, lists(books, count))
+    compare_on(books, Some("--lists"), lists(books, count))
+}
+
+/// Of stamps alone.
+pub fn compare_stamps(count: usize) -> Comparer {
+    compare_on(None, Some("--stamps"), stamps(count))
 }
 
 fn compare_on(
     books: Option<Books>,
-    lists: bool,
+    ops: Option<&'static str>,
     requests: impl Iterator<Item = Request>,
 ) -> Comparer {
     let of_both = requests.map(|request| (request.to_string(), right(&request)));
@@ -48,7 +54,7 @@ fn compare_on(
     Comparer {
         path: env!("CARGO_BIN_EXE_compare"),
         books,
-        lists,
+        ops,
         requests,
         answers,
     }
@@ -62,6 +68,10 @@ pub fn lists(books: Option<Books>, count: usize) -> impl Iterator<Item = Request
     Generator::with(books, 1, Op::LISTS.to_vec()).take(count)
 }
 
+pub fn stamps(count: usize) -> impl Iterator<Item = Request> {
+    Generator::new(1, Op::STAMPS.to_vec()).take(count)
+}
+
 pub fn right(request: &Request) -> String {
     expected(request).line().to_string()
 }
@@ -70,7 +80,7 @@ pub fn compare_check_with(books: Option<Books>) -> Comparer {
     Comparer {
         path: env!("CARGO_BIN_EXE_compare_check"),
         books,
-        lists: false,
+        ops: None,
         requests: checks(books).map(|request| request.to_string()).collect(),
         answers: verdicts(checks(books)),
     }
@@ -96,11 +106,10 @@ impl Comparer {
             Some(Books::English) => &["--books", "english"],
             Some(Books::Random) => &["--books", "random"],
         };
-        let lists: &[&str] = if self.lists { &["--lists"] } else { &[] };
         let run = Command::new(self.path)
             .args(["--seed", "1", "--count", &self.requests.len().to_string()])
             .args(books)
-            .args(lists)
+            .args(self.ops)
             .args(["--", "sh", "-c"])
             .args(words)
             .output()
@@ -117,10 +126,10 @@ impl Comparer {
             .file_name()
             .expect("a program has a name");
         let file = Path::new(env!("CARGO_TARGET_TMPDIR")).join(format!(
-            "{}-{name}-{:?}-{}",
+            "{}-{name}-{:?}{}",
             comparer.to_string_lossy(),
             self.books,
-            self.lists
+            self.ops.unwrap_or_default()
         ));
         let lines: String = answers.iter().map(|answer| format!("{answer}\n")).collect();
         fs::write(&file, lines).expect("the file can be written");
