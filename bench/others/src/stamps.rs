@@ -133,20 +133,32 @@ fn kept<T>(all: impl Iterator<Item = T>) -> *const T {
     Box::leak(all.collect::<Vec<T>>().into_boxed_slice()).as_ptr()
 }
 
-/// Writes stamps of one length side by side: nine digits or none, and Z. chrono makes a String of each.
+/// Writes stamps from a place on, of one length, side by side: nine digits or none, and Z. chrono makes a String of each.
 #[no_mangle]
-pub unsafe extern "C" fn chrono_write(stamps: *const DateTime<FixedOffset>, count: usize, out: *mut u8, length: usize) {
+pub unsafe extern "C" fn chrono_write(
+    stamps: *const DateTime<FixedOffset>,
+    from: usize,
+    count: usize,
+    out: *mut u8,
+    length: usize,
+) {
     let places = slice::from_raw_parts_mut(out, count * length).chunks_exact_mut(length);
-    for (stamp, place) in slice::from_raw_parts(stamps, count).iter().zip(places) {
+    for (stamp, place) in slice::from_raw_parts(stamps.add(from), count).iter().zip(places) {
         let text = stamp.to_rfc3339_opts(SecondsFormat::AutoSi, true);
         place.copy_from_slice(text.as_bytes());
     }
 }
 
 #[no_mangle]
-pub unsafe extern "C" fn time_write(stamps: *const OffsetDateTime, count: usize, out: *mut u8, length: usize) {
+pub unsafe extern "C" fn time_write(
+    stamps: *const OffsetDateTime,
+    from: usize,
+    count: usize,
+    out: *mut u8,
+    length: usize,
+) {
     let places = slice::from_raw_parts_mut(out, count * length).chunks_exact_mut(length);
-    for (stamp, mut place) in slice::from_raw_parts(stamps, count).iter().zip(places) {
+    for (stamp, mut place) in slice::from_raw_parts(stamps.add(from), count).iter().zip(places) {
         stamp.format_into(&mut place, &Rfc3339).expect("it is written");
         place.flush().expect("a slice can be flushed");
     }
