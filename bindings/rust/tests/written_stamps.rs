@@ -183,7 +183,7 @@ fn what_is_written_reads_as_the_same() {
         let stamp = some_stamp(&mut random);
         let text = write_stamp(&stamp).expect("it is written");
         assert_eq!(read_stamp(&text), Ok(stamp));
-        if stamp.nanoseconds % SECOND == 0 && !stamp.unknown {
+        if (stamp.nanoseconds % SECOND, stamp.unknown) == (0, false) {
             let fields = Fields::try_from(stamp).expect("there is such a day");
             assert_eq!(write("yyyy-MM-dd'T'HH:mm:ssXXX", &fields), Ok(text));
         }

@@ -142,7 +142,7 @@ fn good(random: &mut Random) -> Vec<u8> {
             _ => 21 + random.below(9),
         };
         let digits = random.bytes(end.saturating_sub(29), b"0123456789");
-        text.splice(end.min(29).max(21)..29, digits);
+        text.splice(end.clamp(21, 29)..29, digits);
     }
     if text.ends_with(b"Z") && random.one_in(3) {
         text.truncate(text.len() - 1);
