@@ -23,7 +23,7 @@ use Rattle.meaning.specs.declared.Fields.{Fields}
 use Rattle.meaning.specs.declared.Offset.{Offset}
 use Rattle.meaning.specs.declared.Offset.the-variants as offset
 use Rattle.meaning.specs.declared.Refusal.{Refusal}
-use Rattle.meaning.specs.declared.Refusal.the-variants.{PatternTooLong, PatternByte, LoneQuote, FieldRange, NoRoom, TextTooLong, TextByte, InPart, OffsetLength, OffsetRange, CurrentYear, TextLeft, NoSuchDay, NoDayNumber, BookMark, BookVersion, BookCut, BookName}
+use Rattle.meaning.specs.declared.Refusal.the-variants.{PatternTooLong, PatternByte, LoneQuote, FieldRange, NoRoom, TextTooLong, TextByte, InPart, OffsetLength, OffsetRange, CurrentYear, TextLeft, NoSuchDay, NoDayNumber, BookMark, BookVersion, BookCut, BookName, NotStamp, StampRange, LeapSecond, StampYear, StampOffset}
 use Rattle.meaning.specs.declared.Trouble.{Trouble}
 use Rattle.meaning.specs.declared.Trouble.the-variants.{TooFew, NoNumber, NoName, NoSign, LiteralDiffers, PlusSign}
 use Rattle.meaning.specs.declared.Verdict.{Verdict}
@@ -73,6 +73,12 @@ table =
     ∷ (λ ds. BookVersion)
     ∷ (λ ds. BookCut)
     ∷ (λ ds. BookName (one ds))
+    ∷ unused
+    ∷ (λ ds. NotStamp (one ds))
+    ∷ (λ ds. StampRange)
+    ∷ (λ ds. LeapSecond)
+    ∷ (λ ds. StampYear)
+    ∷ (λ ds. StampOffset)
     ∷ []
 
 abbrev refusalOf : ℕ → List ℤ → Refusal
@@ -112,6 +118,11 @@ found BookMark = record { again = refl; not-0 = refl }
 found BookVersion = record { again = refl; not-0 = refl }
 found BookCut = record { again = refl; not-0 = refl }
 found (BookName which) = record { again = refl; not-0 = refl }
+found (NotStamp place) = record { again = refl; not-0 = refl }
+found StampRange = record { again = refl; not-0 = refl }
+found LeapSecond = record { again = refl; not-0 = refl }
+found StampYear = record { again = refl; not-0 = refl }
+found StampOffset = record { again = refl; not-0 = refl }
 
 pub refusal-number : (why : Refusal) → eqb (number why) 0 ≡ false
 refusal-number why = found why .not-0

@@ -22,8 +22,11 @@ use Rattle.meaning.specs.declared.Offset.{Offset}
 use Rattle.meaning.specs.declared.Offset.the-variants as offset
 use Rattle.meaning.specs.declared.Reading.{Reading}
 use Rattle.meaning.specs.declared.Refusal.{Refusal}
-use Rattle.meaning.specs.declared.Refusal.the-variants.{PatternTooLong, PatternByte, LoneQuote, FieldRange, NoRoom, TextTooLong, TextByte, InPart, OffsetLength, OffsetRange, CurrentYear, TextLeft, NoSuchDay, NoDayNumber, BookMark, BookVersion, BookCut, BookName}
+use Rattle.meaning.specs.declared.Refusal.the-variants.{PatternTooLong, PatternByte, LoneQuote, FieldRange, NoRoom, TextTooLong, TextByte, InPart, OffsetLength, OffsetRange, CurrentYear, TextLeft, NoSuchDay, NoDayNumber, BookMark, BookVersion, BookCut, BookName, NotStamp, StampRange, LeapSecond, StampYear, StampOffset}
 use Rattle.meaning.specs.declared.Split.{Split}
+use Rattle.meaning.specs.declared.Stamp.{Stamp}
+use Rattle.meaning.specs.declared.Stamped.{Stamped}
+use Rattle.meaning.specs.declared.Stamped.the-variants as stamped
 use Rattle.meaning.specs.declared.Trouble.{Trouble}
 use Rattle.meaning.specs.declared.Trouble.the-variants.{TooFew, NoNumber, NoName, NoSign, LiteralDiffers, PlusSign}
 use Rattle.meaning.specs.declared.Verdict.{Verdict}
@@ -58,6 +61,11 @@ number BookMark = 20
 number BookVersion = 21
 number BookCut = 22
 number (BookName which) = 23
+number (NotStamp place) = 25
+number StampRange = 26
+number LeapSecond = 27
+number StampYear = 28
+number StampOffset = 29
 
 -- what is returned with the number, in the table's order
 unfoldable pub details : Refusal → List ℤ
@@ -79,6 +87,11 @@ details BookMark = pos 0 ∷ []
 details BookVersion = pos 0 ∷ []
 details BookCut = pos 0 ∷ []
 details (BookName which) = pos which ∷ []
+details (NotStamp place) = pos place ∷ []
+details StampRange = pos 0 ∷ []
+details LeapSecond = pos 0 ∷ []
+details StampYear = pos 0 ∷ []
+details StampOffset = pos 0 ∷ []
 
 -- an answer's number, 0 where it is accepted, and what is returned with it
 pub record Answer : Type 0 where
@@ -129,6 +142,14 @@ dayNumberAnswer (dayNumber.Refused why) = refused why
 abbrev pub dayAnswer : Day → Answer
 dayAnswer d =
     accepted (d .year ∷ pos (d .month) ∷ pos (d .day) ∷ pos (d .doy) ∷ pos (d .week) ∷ pos (d .wday) ∷ [])
+
+-- the fields of a stamp, and 1 where its offset is unknown
+abbrev pub stampNumbers : Stamp → List ℤ
+stampNumbers t = t .year ∷ pos (t .month) ∷ pos (t .day) ∷ pos (t .nanos) ∷ t .offset ∷ pos (when (t .unknown) 1 0) ∷ []
+
+abbrev pub stampAnswer : Stamped → Answer
+stampAnswer (stamped.Read t) = accepted (stampNumbers t)
+stampAnswer (stamped.Refused why) = refused why
 
 -- 1 for yes; 0 for no, with the part and a record for which it fails
 abbrev pub verdictAnswer : Verdict → Answer

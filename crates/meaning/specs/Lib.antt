@@ -17,4 +17,6 @@ pub mod Weeks
 pub mod Days
 pub mod Books
 pub mod OpenedBooks
+pub mod StampGrammar
+pub mod Stamps
 pub mod Promises

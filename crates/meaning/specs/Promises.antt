@@ -5,10 +5,11 @@ use mathlib.Core.List.{List}
 use mathlib.Core.Path.{_≡_}
 use Prim.Native.Nat.{ℕ}
 use lib.IntN.{ℤ}
-use Rattle.meaning.specs.Answers.{Answer, splitAnswer, wroteAnswer, readAnswer, offsetAnswer, dayNumberAnswer}
+use Rattle.meaning.specs.Answers.{Answer, splitAnswer, wroteAnswer, readAnswer, offsetAnswer, dayNumberAnswer, stampAnswer}
 use Rattle.meaning.specs.Days.{dayNumber}
 use Rattle.meaning.specs.Names.{Book}
 use Rattle.meaning.specs.OpenedBooks.{openBook, openOutput, writeBook, bookOutput}
+use Rattle.meaning.specs.Stamps.{readStamp, writeStamp, stampOutput}
 use Rattle.meaning.specs.Whole.{split, write, output, read, parseOffset, unitNumber, marked}
 use Rattle.meaning.specs.declared.Choices.{Choices}
 use Rattle.meaning.specs.declared.DayNumber.{DayNumber}
@@ -18,6 +19,8 @@ use Rattle.meaning.specs.declared.Pair.{Pair}
 use Rattle.meaning.specs.declared.ParseUnit.{ParseUnit}
 use Rattle.meaning.specs.declared.Reading.{Reading}
 use Rattle.meaning.specs.declared.Split.{Split}
+use Rattle.meaning.specs.declared.Stamp.{Stamp}
+use Rattle.meaning.specs.declared.Stamped.{Stamped}
 use Rattle.meaning.specs.declared.Wrote.{Wrote}
 
 -- r is the answer d: by the specification's number and values, and in all that it holds. Where the answer is an enum either says the
@@ -50,3 +53,9 @@ OpensBook s out r after = SameAnswer wroteAnswer r (openBook s out) × (after �
 
 abbrev pub WritesBook : List ℕ → List ℕ → Wrote → List ℕ → Type 0
 WritesBook row out r after = SameAnswer wroteAnswer r (writeBook row out) × (after ≡ bookOutput row out)
+
+abbrev pub ReadsStamp : List ℕ → Stamped → Type 0
+ReadsStamp s r = SameAnswer stampAnswer r (readStamp s)
+
+abbrev pub WritesStamp : Stamp → List ℕ → Wrote → List ℕ → Type 0
+WritesStamp stamp out r after = SameAnswer wroteAnswer r (writeStamp stamp out) × (after ≡ stampOutput stamp out)

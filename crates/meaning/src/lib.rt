@@ -225,6 +225,11 @@ pub enum Refusal {
     BookVersion,
     BookCut,
     BookName(u32),
+    NotStamp(usize),
+    StampRange,
+    LeapSecond,
+    StampYear,
+    StampOffset,
 }
 
 // What checks find.
@@ -277,5 +282,21 @@ pub struct Day {
 // The answer of day_number.
 pub enum DayNumber {
     Number(i32),
+    Refused(Refusal),
+}
+
+// A date-time of RFC 3339: the day, the nanoseconds of the day, the offset in seconds, and whether that one is unknown.
+pub struct Stamp {
+    pub year: i32,
+    pub month: u32,
+    pub day: u32,
+    pub nanos: u64,
+    pub offset: i32,
+    pub unknown: bool,
+}
+
+// The answer of read_stamp.
+pub enum Stamped {
+    Read(Stamp),
     Refused(Refusal),
 }

@@ -92,5 +92,10 @@ pub fn tell(why: Refusal) -> Told
         Refusal::BookVersion => with_one(21, 0),
         Refusal::BookCut => with_one(22, 0),
         Refusal::BookName(which) => with_one(23, which as usize),
+        Refusal::NotStamp(place) => with_one(25, place),
+        Refusal::StampRange => with_one(26, 0),
+        Refusal::LeapSecond => with_one(27, 0),
+        Refusal::StampYear => with_one(28, 0),
+        Refusal::StampOffset => with_one(29, 0),
     }
 }
