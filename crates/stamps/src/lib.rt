@@ -1,0 +1,2 @@
+// RFC 3339 stamps: the public reader and the public writer.
+pub mod shape;
