@@ -1,0 +1,40 @@
+-- The answers of the rules in code, from what the rules of the definitions give.
+use mathlib.Core.List.{List}
+use Prim.Native.Nat.{ℕ}
+use Rattle.meaning.specs.StampGrammar.{Ruled, reads, halts, NumOffset, DateTime}
+use Rattle.stamps.specs.declared.grammar.Fraction.{Fraction}
+use Rattle.stamps.specs.declared.grammar.Fraction.the-variants as fraction
+use Rattle.stamps.specs.declared.grammar.Parts.{Parts}
+use Rattle.stamps.specs.declared.grammar.Scanned.{Scanned}
+use Rattle.stamps.specs.declared.grammar.Scanned.the-variants as scanned
+use Rattle.stamps.specs.declared.grammar.Shift.{Shift}
+use Rattle.stamps.specs.declared.grammar.Zone.{Zone}
+use Rattle.stamps.specs.declared.grammar.Zone.the-variants as zone
+
+abbrev pub fractionBy : Ruled ℕ → Fraction
+fractionBy (reads n at) = fraction.Nanos n at
+fractionBy (halts at) = fraction.Halted at
+
+abbrev pub shiftOf : NumOffset → Shift
+shiftOf o = record { negative = o .negative; hour = o .hour; minute = o .minute }
+
+abbrev pub zoneBy : Ruled NumOffset → Zone
+zoneBy (reads o at) = zone.Shifted (shiftOf o) at
+zoneBy (halts at) = zone.Halted at
+
+abbrev pub partsOf : DateTime → Parts
+partsOf t =
+    record {
+      year = t .date .year;
+      month = t .date .month;
+      day = t .date .day;
+      hour = t .time .hour;
+      minute = t .time .minute;
+      second = t .time .second;
+      nanos = t .time .nanos;
+      shift = shiftOf (t .offset);
+    }
+
+abbrev pub scannedBy : Ruled DateTime → Scanned
+scannedBy (reads t at) = scanned.Read (partsOf t)
+scannedBy (halts at) = scanned.Halted at
