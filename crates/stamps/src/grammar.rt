@@ -73,7 +73,6 @@ fn fraction_digits(text: &[u8], at: usize) -> Digits
 
 // "." and at least one digit, or nothing.
 fn optional_secfrac(text: &[u8], at: usize) -> Fraction
-    requires { ⌜ at ≤ length (now text) ⌝ }
     ensures { λ r. ⌜ r ≡ fractionBy (rfc.optionalSecfrac (now (text .entry)) at) ⌝ }
 {
     if text.len() <= at {
@@ -110,7 +109,6 @@ fn is_sign(b: u8) -> bool
 
 // A sign, two digits, a colon, two digits.
 fn num_offset(text: &[u8], at: usize) -> Zone
-    requires { ⌜ at ≤ length (now text) ⌝ }
     ensures { λ r. ⌜ r ≡ zoneBy (rfc.timeNumoffset (now (text .entry)) at) ⌝ }
 {
     if text.len() <= at {
@@ -133,7 +131,6 @@ fn num_offset(text: &[u8], at: usize) -> Zone
 }
 
 fn time_offset(text: &[u8], at: usize) -> Zone
-    requires { ⌜ at ≤ length (now text) ⌝ }
     ensures { λ r. ⌜ r ≡ zoneBy (rfc.timeOffset (now (text .entry)) at) ⌝ }
 {
     if at < text.len() {

@@ -54,6 +54,21 @@ pub run-end : (s : List ℕ) (i : ℕ) → length s ≤ i → i + digitRun (drop
 unfolding digitRun
 run-end s i h = rw (drop-of-length-le s h) (omega arith)
 
+-- a turn, by how many digits still count
+
+module _ (at i w : ℕ) (h : at ≤ i) (weighty : w ≡ weight (9 - (i - at))) where
+  fewer : 9 - (i + 1 - at) ≡ 9 - (i - at) - 1
+  fewer = omega arith
+
+  pub turn-lighter : w / 10 ≡ weight (9 - (i + 1 - at))
+  turn-lighter = rw (fewer, weighty) (lighter (9 - (i - at)))
+
+  pub turn-weighs : (s : List ℕ) (nanos d total : ℕ) → i < length s → isDigit (getD s i 0) ≡ true → d ≡ getD s i 0 - 48
+      → nanos + weighted (9 - (i - at)) (drop i s) ≡ total
+      → nanos + d * w + weighted (9 - (i + 1 - at)) (drop (i + 1) s) ≡ total
+  turn-weighs s nanos d total k yes′ value sum =
+      rw (value, weighty, fewer) (omega (arith, weighs s i k (9 - (i - at)) yes′))
+
 -- whether there is a digit at all
 pub some-run : (s : List ℕ) (i : ℕ) → digitAt i s ≡ true → i < i + digitRun (drop i s)
 unfolding digitAt

@@ -1,6 +1,8 @@
 use borrow.Author.Needs.{needs}
 use Rattle.stamps.proofs.grammar.time_offset.Statement.{statement}
 use Rattle.stamps.proofs.grammar.time_offset.Tie as tie
+use Rattle.stamps.proofs.grammar.time_offset.Reads as reads
+use Rattle.stamps.proofs.grammar.time_offset.Lts as lts
 
 shared-slice-read-is-z : tie.Need-shared-slice-read-is-z
 shared-slice-read-is-z c = search needs
@@ -12,13 +14,13 @@ add-t9 : tie.Need-add-t9
 add-t9 c = search needs
 
 returns : tie.Need-returns
-returns c = search needs
+returns c = ?
 
 num-offset-requires : tie.Need-num-offset-requires
 num-offset-requires c κs = search needs
 
 returns-2 : tie.Need-returns-2
-returns-2 c = search needs
+returns-2 c = ?
 
 pub time-offset-spec : {M : Type 1} → statement M
 time-offset-spec =
