@@ -1,7 +1,8 @@
 -- The answers of the rules in code, from what the rules of the definitions give.
 use mathlib.Core.List.{List}
-use Prim.Native.Nat.{ℕ}
+use Prim.Native.Nat.{ℕ, _+_, _*_}
 use Rattle.meaning.specs.StampGrammar.{Ruled, reads, halts, NumOffset, DateTime}
+use Rattle.numerals.specs.Numbers.{pairAt}
 use Rattle.stamps.specs.declared.grammar.Fraction.{Fraction}
 use Rattle.stamps.specs.declared.grammar.Fraction.the-variants as fraction
 use Rattle.stamps.specs.declared.grammar.Parts.{Parts}
@@ -33,6 +34,20 @@ partsOf t =
       second = t .time .second;
       nanos = t .time .nanos;
       shift = shiftOf (t .offset);
+    }
+
+-- those of a text whose bytes up to the fraction are at their places
+abbrev pub partsIn : List ℕ → ℕ → Shift → Parts
+partsIn s nanos shift =
+    record {
+      year = pairAt 0 s * 100 + pairAt 2 s;
+      month = pairAt 5 s;
+      day = pairAt 8 s;
+      hour = pairAt 11 s;
+      minute = pairAt 14 s;
+      second = pairAt 17 s;
+      nanos = nanos;
+      shift = shift;
     }
 
 abbrev pub scannedBy : Ruled DateTime → Scanned

@@ -4,8 +4,9 @@ ghost use Prim.Native.Nat.{_+_, _≤_};
 ghost use lib.ListN.{length, drop};
 ghost use Rattle.meaning.specs.Reading.{digitRun};
 ghost use Rattle.meaning.specs.StampGrammar as rfc;
-ghost use Rattle.stamps.specs.Found.{fractionBy, zoneBy, scannedBy};
+ghost use Rattle.stamps.specs.Found.{fractionBy, zoneBy, partsIn, scannedBy};
 ghost use Rattle.stamps.specs.Fractions.{weighted};
+ghost use Rattle.stamps.specs.Shape.{firstWrong};
 use crate::shape::first_wrong;
 use numerals::is_digit;
 use numerals::pairs::digit_value;
@@ -146,6 +147,23 @@ fn time_offset(text: &[u8], at: usize) -> Zone
     num_offset(text, at)
 }
 
+// The pairs of digits at their places, beside the fraction and the offset.
+fn parts_in(text: &[u8], nanos: u32, shift: Shift) -> Parts
+    requires { ⌜ firstWrong 19 0 0 (now text) ≡ 19 ⌝ }
+    ensures { λ r. ⌜ r ≡ partsIn (now (text .entry)) nanos shift ⌝ }
+{
+    Parts {
+        year: pair_at(text, 0) * 100 + pair_at(text, 2),
+        month: pair_at(text, 5),
+        day: pair_at(text, 8),
+        hour: pair_at(text, 11),
+        minute: pair_at(text, 14),
+        second: pair_at(text, 17),
+        nanos,
+        shift,
+    }
+}
+
 // The places up to the fraction, then the fraction, the offset and the end.
 pub fn date_time(text: &[u8]) -> Scanned
     ensures { λ r. ⌜ r ≡ scannedBy (rfc.whole rfc.dateTime (now (text .entry))) ⌝ }
@@ -163,16 +181,7 @@ pub fn date_time(text: &[u8]) -> Scanned
                     if next != text.len() {
                         return Scanned::Halted(next);
                     }
-                    Scanned::Read(Parts {
-                        year: pair_at(text, 0) * 100 + pair_at(text, 2),
-                        month: pair_at(text, 5),
-                        day: pair_at(text, 8),
-                        hour: pair_at(text, 11),
-                        minute: pair_at(text, 14),
-                        second: pair_at(text, 17),
-                        nanos,
-                        shift,
-                    })
+                    Scanned::Read(parts_in(text, nanos, shift))
                 }
             }
         }

@@ -2,12 +2,13 @@
 use mathlib.Core.Bool.{true, false}
 use mathlib.Core.List.{List}
 use mathlib.Core.Path.{_≡_, refl, sym, ap, _∙_}
-use Prim.Native.Nat.{ℕ, suc, _+_, _-_, _*_, _≤_}
+use Prim.Native.Nat.{ℕ, suc, _+_, _-_, _*_, _≤_, _<_}
 use native.Mathlib.Numerals.{add-one}
 use native.Mathlib.Omega.{arith}
 use borrow.Author.Tests.{eq-eqb, ne-eqb}
 use lib.Dec.{eqb}
 use lib.ListN.{length, getD, drop, List·getD-eq-default}
+use Rattle.laws.proofs.Digits.{digit-bounds}
 use Rattle.laws.proofs.Tests.{by-test}
 use Rattle.meaning.specs.Bytes.{when, isDigit, digitAt, minus}
 use Rattle.meaning.specs.Reading.{digitRun}
@@ -15,8 +16,13 @@ use Rattle.meaning.specs.StampGrammar.{Ruled, reads, halts, Grammar, onward, _t
 use Rattle.numerals.specs.Numbers.{pairAt}
 use Rattle.stamps.proofs.grammar.Fractions.{some-run, no-run, nanos-weighed}
 use Rattle.stamps.proofs.grammar.Prefixes.{Begins, all-taken, not-taken, begins-then, begins-on, begins-done, begins-byte, begins-pair, begins-hour}
+use Rattle.stamps.proofs.shape.Wrongs.{taken-at}
+use Rattle.stamps.specs.Found.{fractionBy, shiftOf, zoneBy}
 use Rattle.stamps.specs.Fractions.{weighted}
 use Rattle.stamps.specs.Shape.{takes, firstWrong}
+use Rattle.stamps.specs.declared.grammar.Fraction.the-variants as fraction
+use Rattle.stamps.specs.declared.grammar.Shift.{Shift}
+use Rattle.stamps.specs.declared.grammar.Zone.the-variants as zone
 
 module _ (s : List ℕ) where
   abbrev pub yearIn : ℕ
@@ -29,9 +35,9 @@ module _ (s : List ℕ) where
       let b = a * 10 + (getD s 1 0 - 48) in
       let c = b * 10 + (getD s 2 0 - 48) in
       let four = begins-then (λ d. digitsFrom 3 (0 * 10 + (d - 48))) 4 (begins-byte isDigit 0 0 1 s refl (λ b. refl)) refl (omega arith)
-          (begins-then (λ d. digitsFrom 2 (a * 10 + (d - 48))) 3 (begins-byte isDigit 1 1 2 s refl (λ b. refl)) refl (omega arith)
-          (begins-then (λ d. digitsFrom 1 (b * 10 + (d - 48))) 2 (begins-byte isDigit 2 2 3 s refl (λ b. refl)) refl (omega arith)
-          (begins-on (λ d. digitsFrom 0 (c * 10 + (d - 48))) (begins-byte isDigit 3 3 4 s refl (λ b. refl))))) in
+      (begins-then (λ d. digitsFrom 2 (a * 10 + (d - 48))) 3 (begins-byte isDigit 1 1 2 s refl (λ b. refl)) refl (omega arith)
+      (begins-then (λ d. digitsFrom 1 (b * 10 + (d - 48))) 2 (begins-byte isDigit 2 2 3 s refl (λ b. refl)) refl (omega arith)
+      (begins-on (λ d. digitsFrom 0 (c * 10 + (d - 48))) (begins-byte isDigit 3 3 4 s refl (λ b. refl))))) in
       let v : c * 10 + (getD s 3 0 - 48) ≡ yearIn = omega arith in
       rw v at four
 
@@ -164,3 +170,41 @@ module _ (s : List ℕ) (at : ℕ) where
     digits-read e =
         by-test (digitAt (at + 1) s)
         (λ d. behind-point ∙ rw (d, nanos-weighed (drop (at + 1) s))) (λ d. absurd (e (no-run s (at + 1) d)))
+
+-- the pairs of digits, where all bytes are taken
+
+pub pair-taken : (n i at : ℕ) (s : List ℕ) → firstWrong n i at s ≡ at + n → (j place : ℕ) → place ≡ at + j → j + 1 < n
+    → ((b : ℕ) → takes (i + j) b ≡ isDigit b) → ((b : ℕ) → takes (i + (j + 1)) b ≡ isDigit b)
+    → (digitAt place s ≡ true) × (digitAt (place + 1) s ≡ true)
+unfolding digitAt
+pair-taken n i at s all j place there h first second =
+    let next : at + j + 1 ≡ at + (j + 1) = omega arith in
+    rw (there, next) (sym (first (getD s (at + j) 0)) ∙ taken-at n i at s all j (omega arith), sym (second (getD s (at + (j + 1)) 0)) ∙ taken-at n i at s all (j + 1) h)
+
+pub pair-small : (at : ℕ) (s : List ℕ) → (digitAt at s ≡ true) × (digitAt (at + 1) s ≡ true) → pairAt at s < 100
+unfolding digitAt
+pair-small at s d = omega (arith, digit-bounds (getD s at 0) (d .0), digit-bounds (getD s (at + 1) 0) (d .1))
+
+-- what the answers of the code stand for
+
+pub fraction-halted : (x : Ruled ℕ) {place : ℕ} → fractionBy x ≡ fraction.Halted place → x ≡ halts place
+fraction-halted (reads n at) e = absurd (let z : _≡_ {A = ℕ} 0 1 = cc in omega arith)
+fraction-halted (halts at) e = cc
+
+pub fraction-nanos : (x : Ruled ℕ) {n at : ℕ} → fractionBy x ≡ fraction.Nanos n at → x ≡ reads n at
+fraction-nanos (reads n at) e = cc
+fraction-nanos (halts at) e = absurd (let z : _≡_ {A = ℕ} 0 1 = cc in omega arith)
+
+pub zone-halted : (x : Ruled NumOffset) {place : ℕ} → zoneBy x ≡ zone.Halted place → x ≡ halts place
+zone-halted (reads o at) e = absurd (let z : _≡_ {A = ℕ} 0 1 = cc in omega arith)
+zone-halted (halts at) e = cc
+
+abbrev pub offsetOf : Shift → NumOffset
+offsetOf h = record { negative = h .negative; hour = h .hour; minute = h .minute }
+
+pub zone-shifted : (x : Ruled NumOffset) {h : Shift} {at : ℕ} → zoneBy x ≡ zone.Shifted h at → x ≡ reads (offsetOf h) at
+zone-shifted (reads o p) {h} {at} e =
+    let shift : shiftOf o ≡ h = cc in
+    let place : p ≡ at = cc in
+    ap (λ (q : ℕ). reads o q) place ∙ ap (λ (k : Shift). reads (offsetOf k) at) shift
+zone-shifted (halts p) e = absurd (let z : _≡_ {A = ℕ} 0 1 = cc in omega arith)
