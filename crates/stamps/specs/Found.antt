@@ -53,3 +53,16 @@ partsIn s nanos shift =
 abbrev pub scannedBy : Ruled DateTime → Scanned
 scannedBy (reads t at) = scanned.Read (partsOf t)
 scannedBy (halts at) = scanned.Halted at
+
+-- and the other way
+
+abbrev pub offsetOf : Shift → NumOffset
+offsetOf h = record { negative = h .negative; hour = h .hour; minute = h .minute }
+
+abbrev pub dateTimeOf : Parts → DateTime
+dateTimeOf p =
+    record {
+      date = record { year = p .year; month = p .month; day = p .day };
+      time = record { hour = p .hour; minute = p .minute; second = p .second; nanos = p .nanos };
+      offset = offsetOf (p .shift);
+    }

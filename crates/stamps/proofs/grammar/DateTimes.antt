@@ -17,7 +17,7 @@ use Rattle.numerals.specs.Numbers.{pairAt}
 use Rattle.stamps.proofs.grammar.Fractions.{some-run, no-run, nanos-weighed}
 use Rattle.stamps.proofs.grammar.Prefixes.{Begins, all-taken, not-taken, begins-then, begins-on, begins-done, begins-byte, begins-pair, begins-hour}
 use Rattle.stamps.proofs.shape.Wrongs.{taken-at}
-use Rattle.stamps.specs.Found.{fractionBy, shiftOf, zoneBy}
+use Rattle.stamps.specs.Found.{fractionBy, shiftOf, zoneBy, offsetOf}
 use Rattle.stamps.specs.Fractions.{weighted}
 use Rattle.stamps.specs.Shape.{takes, firstWrong}
 use Rattle.stamps.specs.declared.grammar.Fraction.the-variants as fraction
@@ -198,9 +198,6 @@ fraction-nanos (halts at) e = absurd (let z : _≡_ {A = ℕ} 0 1 = cc in omega 
 pub zone-halted : (x : Ruled NumOffset) {place : ℕ} → zoneBy x ≡ zone.Halted place → x ≡ halts place
 zone-halted (reads o at) e = absurd (let z : _≡_ {A = ℕ} 0 1 = cc in omega arith)
 zone-halted (halts at) e = cc
-
-abbrev pub offsetOf : Shift → NumOffset
-offsetOf h = record { negative = h .negative; hour = h .hour; minute = h .minute }
 
 pub zone-shifted : (x : Ruled NumOffset) {h : Shift} {at : ℕ} → zoneBy x ≡ zone.Shifted h at → x ≡ reads (offsetOf h) at
 zone-shifted (reads o p) {h} {at} e =
