@@ -39,6 +39,7 @@ pub mod Sizes
 pub mod SomeBytes
 pub mod Spans
 pub mod Splitting
+pub mod StampGrammar
 pub mod StampPatterns
 pub mod Table
 pub mod Takes
