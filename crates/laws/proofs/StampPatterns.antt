@@ -6,7 +6,7 @@ use mathlib.Core.Path.{_≡_, refl, sym, ap, _∙_}
 use Prim.Native.Nat.{ℕ}
 use lib.Dec.{eqb}
 use lib.IntN.{natAbs}
-use Rattle.meaning.specs.Answers.{within}
+use Rattle.meaning.specs.Answers.{byteCheck, patternCheck}
 use Rattle.meaning.specs.Bytes.{when, both, bytes, num}
 use Rattle.meaning.specs.Names.{Book}
 use Rattle.meaning.specs.Rules as rules
@@ -14,6 +14,7 @@ use Rattle.meaning.specs.Splitting as splitting
 use Rattle.meaning.specs.Stamps.{stampFields, fourDigits, stampDate, stampTime, stampFraction, stampOffset, stampText}
 use Rattle.meaning.specs.Whole.{text}
 use Rattle.meaning.specs.Writing.{isNegative, quantityOf, signedText, zoneText, ruleText, stepOf, steps, stepText, texts}
+use Rattle.meaning.specs.declared.Checked.the-variants.{Fine}
 use Rattle.meaning.specs.declared.Fields.{Fields}
 use Rattle.meaning.specs.declared.Group.the-variants.{Never, Always}
 use Rattle.meaning.specs.declared.Pair.the-variants.{Full}
@@ -44,7 +45,7 @@ regroup : (y mo d h mi se fr z : List ℕ) → y ++ (mo ++ (d ++ (h ++ (mi ++ (s
 regroup y mo d h mi se fr z = simp (append-assoc, append-nil)
 
 -- what the pattern writes
-abbrev partsText : Fields → List ℕ → List ℕ → List ℕ
+abbrev pub partsText : Fields → List ℕ → List ℕ → List ℕ
 partsText f fr z =
     signedText 4 (f .year) ++ 45 ∷ (num 2 (f .month) ++ 45 ∷ (num 2 (f .day) ++ 84 ∷ (num 2 (quantityOf Hour0To23 f) ++ 58 ∷ (num 2 (quantityOf Minute f) ++ 58 ∷ (num 2 (quantityOf Second f) ++ (fr ++ (z ++ [])))))))
 
@@ -63,7 +64,7 @@ pattern-text book f true true = refl
 pattern-text book f false false = refl
 pattern-text book f false true = refl
 
-stamp-pieces : (t : Stamp) → isNegative (t .year) ≡ false → stampText t ≡ partsText (stampFields t) (stampFraction t) (stampOffset t)
+pub stamp-pieces : (t : Stamp) → isNegative (t .year) ≡ false → stampText t ≡ partsText (stampFields t) (stampFraction t) (stampOffset t)
 unfolding stampText signedText
 stamp-pieces t positive =
     rw positive
@@ -94,3 +95,10 @@ stamp-by-pattern book t f same positive =
     pattern-text book f (wholeSecond t) (t .unknown)
     ∙ same-parts t f same (wholeSecond t) (t .unknown)
     ∙ rw (← fraction-is t (wholeSecond t) refl, ← offset-is t (t .unknown) refl) (sym (stamp-pieces t positive))
+
+pub pattern-fine : (whole unknown : Bool) → patternCheck (stampPattern whole unknown) ≡ Fine
+unfolding patternCheck byteCheck bytes splitting.contents splitting.outside splitting.elements
+pattern-fine true true = refl
+pattern-fine true false = refl
+pattern-fine false true = refl
+pattern-fine false false = refl
