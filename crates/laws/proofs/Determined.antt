@@ -8,7 +8,7 @@ use Prim.Native.Nat.{ℕ}
 use lib.IntN.{ℤ}
 use Rattle.meaning.specs.Answers.{Answer}
 use Rattle.meaning.specs.Names.{Book}
-use Rattle.meaning.specs.Promises.{SameAnswer, Splits, Writes, Reads, ParsesOffset, TellsRead, NumbersDay, OpensBook, WritesBook}
+use Rattle.meaning.specs.Promises.{SameAnswer, Splits, Writes, Reads, ParsesOffset, TellsRead, NumbersDay, OpensBook, WritesBook, ReadsStamp, WritesStamp}
 use Rattle.meaning.specs.declared.Choices.{Choices}
 use Rattle.meaning.specs.declared.DayNumber.{DayNumber}
 use Rattle.meaning.specs.declared.Fields.{Fields}
@@ -17,6 +17,8 @@ use Rattle.meaning.specs.declared.Pair.{Pair}
 use Rattle.meaning.specs.declared.ParseUnit.{ParseUnit}
 use Rattle.meaning.specs.declared.Reading.{Reading}
 use Rattle.meaning.specs.declared.Split.{Split}
+use Rattle.meaning.specs.declared.Stamp.{Stamp}
+use Rattle.meaning.specs.declared.Stamped.{Stamped}
 use Rattle.meaning.specs.declared.Wrote.{Wrote}
 
 pub determined : {A : Type 0} {d r s : A} → r ≡ d → s ≡ d → r ≡ s
@@ -56,3 +58,10 @@ opened-coincide s out w v = (same-determined (w .0) (v .0), determined (w .1) (v
 
 pub books-coincide : (row out : List ℕ) {r t : Wrote} {after after′ : List ℕ} → WritesBook row out r after → WritesBook row out t after′ → (r ≡ t) × (after ≡ after′)
 books-coincide row out w v = (same-determined (w .0) (v .0), determined (w .1) (v .1))
+
+-- stamps::read_stamp and stamps::write_stamp
+pub stamps-coincide : (s : List ℕ) {r t : Stamped} → ReadsStamp s r → ReadsStamp s t → r ≡ t
+stamps-coincide s = same-determined
+
+pub stamp-writes-coincide : (stamp : Stamp) (out : List ℕ) {r t : Wrote} {after after′ : List ℕ} → WritesStamp stamp out r after → WritesStamp stamp out t after′ → (r ≡ t) × (after ≡ after′)
+stamp-writes-coincide stamp out w v = (same-determined (w .0) (v .0), determined (w .1) (v .1))

@@ -10,7 +10,7 @@ use Rattle.meaning.specs.Answers.{_else_, refuseUnless, within}
 use Rattle.meaning.specs.Bytes.{both}
 use Rattle.meaning.specs.Days.{dayCheck}
 use Rattle.meaning.specs.StampGrammar.{DateTime}
-use Rattle.meaning.specs.Stamps.{timeInRange, offsetInRange, inRange, dateTimeCheck}
+use Rattle.meaning.specs.Stamps.{isClock, inRange, dateTimeCheck}
 use Rattle.meaning.specs.declared.Checked.the-variants.{Fine}
 use Rattle.meaning.specs.declared.Refusal.the-variants.{StampRange, LeapSecond, StampYear}
 use Rattle.laws.proofs.Checks.{else-fine, fine-unless, within-is}
@@ -30,16 +30,16 @@ unfolding inRange
 in-range t h =
     let month = both-true (within 1 12 (t .date .month)) _ h in
     let day = both-true (within 1 31 (t .date .day)) _ (month .1) in
-    let parts = both-true (timeInRange (t .time)) (offsetInRange (t .offset)) (day .1) in
-    let clock = both-true (leb (t .time .hour) 23) _ (parts .0) in
-    let rest = both-true (leb (t .time .minute) 59) (leb (t .time .second) 60) (clock .1) in
-    let shift = both-true (leb (t .offset .hour) 23) (leb (t .offset .minute) 59) (parts .1) in
+    let clock = both-true (isClock (t .time .hour) (t .time .minute)) _ (day .1) in
+    let second = both-true (leb (t .time .second) 60) _ (clock .1) in
+    let time = both-true (leb (t .time .hour) 23) (leb (t .time .minute) 59) (clock .0) in
+    let shift = both-true (leb (t .offset .hour) 23) (leb (t .offset .minute) 59) (second .1) in
     record {
       month = within-is 1 12 (t .date .month) (month .0);
       day = within-is 1 31 (t .date .day) (day .0);
-      hour = leb-true (t .time .hour) 23 (clock .0);
-      minute = leb-true (t .time .minute) 59 (rest .0);
-      second = leb-true (t .time .second) 60 (rest .1);
+      hour = leb-true (t .time .hour) 23 (time .0);
+      minute = leb-true (t .time .minute) 59 (time .1);
+      second = leb-true (t .time .second) 60 (second .0);
       offset-hour = leb-true (t .offset .hour) 23 (shift .0);
       offset-minute = leb-true (t .offset .minute) 59 (shift .1);
     }

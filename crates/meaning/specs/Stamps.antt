@@ -29,16 +29,17 @@ use Rattle.meaning.specs.declared.Wrote.{Wrote}
 
 -- reading: 6, 7, 25, then 26, 27, 28, 17
 
+-- of the time and of the offset
+abbrev pub isClock : ℕ → ℕ → Bool
+isClock hour minute = both (leb hour 23) (leb minute 59)
+
 -- 26
-abbrev pub timeInRange : PartialTime → Bool
-timeInRange t = both (leb (t .hour) 23) (both (leb (t .minute) 59) (leb (t .second) 60))
-
-abbrev pub offsetInRange : NumOffset → Bool
-offsetInRange o = both (leb (o .hour) 23) (leb (o .minute) 59)
-
 unfoldable pub inRange : DateTime → Bool
 inRange t =
-    both (within 1 12 (t .date .month)) (both (within 1 31 (t .date .day)) (both (timeInRange (t .time)) (offsetInRange (t .offset))))
+    both (within 1 12 (t .date .month))
+    (both (within 1 31 (t .date .day))
+    (both (isClock (t .time .hour) (t .time .minute))
+    (both (leb (t .time .second) 60) (isClock (t .offset .hour) (t .offset .minute)))))
 
 unfoldable pub dateTimeCheck : DateTime → Checked
 unfolding inRange
