@@ -11,7 +11,7 @@ use lib.IntN.{ℤ, pos, negsuc, natAbs, negℤ}
 use lib.ListN.{length}
 use Rattle.meaning.proofs.Books.{english-valid}
 use Rattle.meaning.specs.Answers.{_else_, refuseUnless, within, fieldsCheck, textCheck}
-use Rattle.meaning.specs.Bytes.{when, both, bytes, digits, width, num, minus, plus}
+use Rattle.meaning.specs.Bytes.{when, both, bytes, digits, num}
 use Rattle.meaning.specs.Calendar.{divides}
 use Rattle.meaning.specs.Days.{dayCheck}
 use Rattle.meaning.specs.Names.{english}
@@ -31,7 +31,7 @@ use Rattle.meaning.specs.declared.Stamped.the-variants as stamped
 use Rattle.laws.proofs.Ascii.{english-ascii, written-checks}
 use Rattle.laws.proofs.BookNames.{valid-short}
 use Rattle.laws.proofs.Checks.{else-fine, fine-unless, within-is}
-use Rattle.laws.proofs.Digits.{width-at-most}
+use Rattle.laws.proofs.Digits.{num-digits}
 use Rattle.laws.proofs.Fields.{Allowed, allowed}
 use Rattle.laws.proofs.StampChecks.{in-range, checks-fine}
 use Rattle.laws.proofs.StampGrammar.{Small, read-small}
@@ -78,10 +78,6 @@ abbrev offsetParts : Stamp → NumOffset
 offsetParts t =
     record { negative = when (t .unknown) true (isNegative (t .offset)); hour = natAbs (t .offset) / 3600; minute = natAbs (t .offset) % 3600 / 60 }
 
-num-exact : (k n : ℕ) → 0 < k → n < 10 ^ k → num k n ≡ digits k n
-unfolding num
-num-exact k n p h = let e : max k (width n) ≡ k = omega (arith, width-at-most k n p h) in rw e
-
 zero-is : (z : ℤ) → natAbs z ≡ 0 → z ≡ pos 0
 zero-is (pos n) h = ap pos h
 zero-is (negsuc n) h = absurd (omega arith)
@@ -99,7 +95,7 @@ marked-again false (pos n) h = refl
 marked-again false (negsuc n) h = ne-eqb (suc n) 0 (λ e. omega arith)
 
 module _ (t : Stamp) (w : Written t) where
-  sizes : Allowed (stampFields t)
+  pub sizes : Allowed (stampFields t)
   sizes = allowed (stampFields t) (w .fields)
 
   pub positive : isNegative (t .year) ≡ false
@@ -109,7 +105,7 @@ module _ (t : Stamp) (w : Written t) where
       not-true′ true h = sym h
       not-true′ false h = refl
 
-  year-small : natAbs (t .year) < 10000
+  pub year-small : natAbs (t .year) < 10000
   year-small = omega (arith, within-is 1 9999 (natAbs (t .year)) (both-true (not (isNegative (t .year))) _ (w .year) .1))
 
   minutes : natAbs (t .offset) % 60 ≡ 0
@@ -131,7 +127,7 @@ module _ (t : Stamp) (w : Written t) where
   unfolding offsetDigits
   digits-are =
       let n = natAbs (t .offset) in
-      rw (num-exact 2 (n / 3600) (omega arith) (omega (arith, sizes .offset)), num-exact 2 (n % 3600 / 60) (omega arith) (omega arith))
+      rw (num-digits 2 (n / 3600) (omega arith) (omega (arith, sizes .offset)), num-digits 2 (n % 3600 / 60) (omega arith) (omega arith))
 
   signed-offset : eqb (natAbs (t .offset)) 0 ≡ false → offsetText true Always Never (t .offset) ≡ shiftBytes (isNegative (t .offset)) (natAbs (t .offset) / 3600) (natAbs (t .offset) % 3600 / 60)
   unfolding offsetText digits
@@ -155,13 +151,13 @@ module _ (t : Stamp) (w : Written t) where
       stamp-pieces t positive
       ∙ rw (
         positive,
-        num-exact 4 (natAbs (t .year)) (omega arith) year-small,
-        num-exact 2 (t .month) (omega arith) (omega (arith, a .month)),
-        num-exact 2 (t .day) (omega arith) (omega (arith, a .day)),
-        num-exact 2 (hourIn t) (omega arith) (omega (arith, a .nanos)),
-        num-exact 2 (minuteIn t) (omega arith) (omega arith),
-        num-exact 2 (secondIn t) (omega arith) (omega arith),
-        num-exact 9 (fractionIn t) (omega arith) (omega arith),
+        num-digits 4 (natAbs (t .year)) (omega arith) year-small,
+        num-digits 2 (t .month) (omega arith) (omega (arith, a .month)),
+        num-digits 2 (t .day) (omega arith) (omega (arith, a .day)),
+        num-digits 2 (hourIn t) (omega arith) (omega (arith, a .nanos)),
+        num-digits 2 (minuteIn t) (omega arith) (omega arith),
+        num-digits 2 (secondIn t) (omega arith) (omega arith),
+        num-digits 9 (fractionIn t) (omega arith) (omega arith),
         append-nil (stampOffset t),
       )
 

@@ -2,7 +2,7 @@
 ghost use mathlib.Core.Bool.{true};
 ghost use mathlib.Core.Path.{_≡_};
 ghost use Prim.Native.Nat.{_≤_, _<_};
-ghost use lib.Dec.{leb, eqb};
+ghost use lib.Dec.{eqb};
 ghost use Rattle.meaning.specs.Answers.{within};
 ghost use Rattle.meaning.specs.Bytes.{both};
 ghost use Rattle.meaning.specs.Numerals.{integer};
@@ -31,7 +31,7 @@ fn is_between(least: u32, most: u32, n: u32) -> bool
 
 // "hour to 23, minute to 59", of the time and of the offset.
 fn is_clock(hour: u32, minute: u32) -> bool
-    ensures { λ r. ⌜ r ≡ both (leb hour 23) (leb minute 59) ⌝ }
+    ensures { λ r. ⌜ r ≡ stamps.isClock hour minute ⌝ }
 {
     if 23 < hour {
         return false;

@@ -1,7 +1,7 @@
 -- The checks, then the stamp.
 use mathlib.Core.Path.{_≡_, sym, _∙_}
 use borrow.Author.Needs.{needs}
-use Rattle.stamps.proofs.reading.Checks.{fine-in-range}
+use Rattle.laws.proofs.StampChecks.{checks-fine}
 use Rattle.stamps.specs.Found.{dateTimeOf}
 use Rattle.stamps.proofs.reading.accept.Statement.{statement}
 use Rattle.stamps.proofs.reading.accept.Tie as tie
@@ -19,7 +19,7 @@ stamp-of-requires : tie.Need-stamp-of-requires
 stamp-of-requires c κs =
     let checked = c .before .before in
     let start = checked .before in
-    (start .pre .0, fine-in-range (dateTimeOf (start .args .t)) (sym (checked .check .ensures) ∙ c .enum-told .given .1), start .pre .1)
+    (start .pre .0, checks-fine (dateTimeOf (start .args .t)) (sym (checked .check .ensures) ∙ c .enum-told .given .1) .range, start .pre .1)
 
 returns : tie.Need-returns
 returns c = rw (sym (c .before .before .before .check .ensures) ∙ c .before .why .given .1)

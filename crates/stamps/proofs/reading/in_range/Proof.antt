@@ -3,9 +3,8 @@ use mathlib.Core.Bool.{true}
 use mathlib.Core.Path.{_≡_, sym, _∙_}
 use borrow.Author.Needs.{needs}
 use borrow.Author.Tests.{not-true, not-false}
-use lib.Dec.{leb}
 use Rattle.meaning.specs.Answers.{within}
-use Rattle.meaning.specs.Bytes.{both}
+use Rattle.meaning.specs.Stamps.{isClock}
 use Rattle.stamps.proofs.reading.Checks.{month-out, day-out, hour-out, second-out, offset-left}
 use Rattle.stamps.specs.Found.{dateTimeOf}
 use Rattle.stamps.proofs.reading.in_range.Statement.{statement}
@@ -27,7 +26,7 @@ day c = sym (c .before .is-between2 .ensures) ∙ not-false (c .before .is-betwe
 abbrev start-3 : tie.Else3 → tie.Start
 start-3 c = start-2 (c .before .before)
 
-clock : (c : tie.Else3) → both (leb (start-3 c .args .t .hour) 23) (leb (start-3 c .args .t .minute) 59) ≡ true
+clock : (c : tie.Else3) → isClock (start-3 c .args .t .hour) (start-3 c .args .t .minute) ≡ true
 clock c = sym (c .before .is-clock .ensures) ∙ not-false (c .before .is-clock .result) (c .if3 .left)
 
 is-between-requires : tie.Need-is-between-requires

@@ -5,7 +5,8 @@ use borrow.Author.Needs.{needs}
 use mir.Facts.{toZ-pos, toZ-ofZ}
 use mir.Syntax.{w32}
 use Rattle.meaning.specs.Stamps.{stampOf}
-use Rattle.stamps.proofs.reading.Checks.{InRange, in-range, offset-fits}
+use Rattle.laws.proofs.StampChecks.{InRange, in-range}
+use Rattle.stamps.proofs.reading.Checks.{offset-fits}
 use Rattle.stamps.specs.Found.{dateTimeOf}
 use Rattle.stamps.proofs.reading.stamp_of.Statement.{statement}
 use Rattle.stamps.proofs.reading.stamp_of.Tie as tie
