@@ -1,5 +1,6 @@
 -- The checks of a text, then the grammar, then the checks of what it says.
 use mathlib.Core.Path.{_≡_, sym, _∙_}
+use Prim.Native.Nat.{ℕ}
 use borrow.Author.Needs.{needs}
 use denote.Ref.{now}
 use Rattle.laws.proofs.StampGrammar.{read-small}
@@ -19,9 +20,10 @@ start c = c .before .before .before .before
 fine : (c : tie.After-enum-told) → textCheck (now (start c .args .text)) ≡ Fine
 fine c = sym (c .before .before .text-check .ensures) ∙ c .enum-told .given .1
 
-scanned : (c : tie.After-parts) → let found = c .before .before in
-    whole dateTime (now (start (found .before) .args .text)) ≡ reads (dateTimeOf (c .parts .given .0 .0)) (scan-read _ (sym (found .date-time .ensures) ∙ c .parts .given .1) .0)
-scanned c = let found = c .before .before in scan-read _ (sym (found .date-time .ensures) ∙ c .parts .given .1) .1
+scanned : (c : tie.After-parts) → (end : ℕ) × (whole dateTime (now (start (c .before .before .before) .args .text)) ≡ reads (dateTimeOf (c .parts .given .0 .0)) end)
+scanned c =
+    let found = c .before .before in
+    scan-read (whole dateTime (now (start (found .before) .args .text))) (sym (found .date-time .ensures) ∙ c .parts .given .1)
 
 text-check-requires : tie.Need-text-check-requires
 text-check-requires c κs = search needs
@@ -49,7 +51,7 @@ enum-known-parts c = search needs
 accept-requires : tie.Need-accept-requires
 accept-requires c κs =
     let found = c .before .before .before in
-    let small = read-small (now (start (found .before) .args .text)) _ _ (scanned (c .before)) in
+    let small = read-small (now (start (found .before) .args .text)) _ _ (scanned (c .before) .1) in
     (small .year, small .nanos)
 
 returns-2 : tie.Need-returns-2
@@ -62,7 +64,7 @@ returns-3 : tie.Need-returns-3
 returns-3 c =
     let parts = c .before .before in
     let begun = parts .before .before .before in
-    by-whole (c .accept .ensures ∙ sym (is-read (now (start begun .args .text)) (fine begun) (scanned parts)))
+    by-whole (c .accept .ensures ∙ sym (is-read (now (start begun .args .text)) (fine begun) (scanned parts .1)))
 
 pub read-stamp-spec : {M : Type 1} → statement M
 read-stamp-spec =

@@ -1,0 +1,57 @@
+-- How long the pieces of a stamp's text are.
+use mathlib.Core.Bool.{true, false}
+use mathlib.Core.List.{List, [], _∷_, _++_}
+use mathlib.Core.Path.{_≡_, refl, sym, ap, _∙_}
+use Prim.Native.Nat.{ℕ, suc, _+_, _*_, _/_, _%_, _^_, _≤_, _<_}
+use native.Mathlib.Omega.{arith}
+use borrow.Author.Tests.{eq-eqb, ne-eqb}
+use lib.Dec.{eqb}
+use lib.IntN.{natAbs}
+use lib.ListN.{length, length-append}
+use Rattle.laws.proofs.Digits.{num-fits, num-digits}
+use Rattle.laws.proofs.Stamps.{Written, sizes, year-small}
+use Rattle.meaning.specs.Bytes.{when, both, bytes, digits, num, minus, colon}
+use Rattle.meaning.specs.Stamps.{fractionText, stampDate, stampTime, stampFraction, stampOffset, stampText, stampFields}
+use Rattle.meaning.specs.Writing.{quantityOf, offsetText, offsetDigits, zoneText}
+use Rattle.meaning.specs.declared.Group.the-variants.{Never, Always}
+use Rattle.meaning.specs.declared.Quantity.the-variants.{Hour0To23, Minute, Second, Fraction}
+use Rattle.meaning.specs.declared.Stamp.{Stamp}
+
+pub two-long : (n : ℕ) → n < 100 → length (num 2 n) ≡ 2
+two-long n h = num-fits 2 n (omega arith) h
+
+-- ten bytes of a date, nine of a time behind its T
+
+pub date-long : (y mo d : ℕ) → y < 10000 → mo < 100 → d < 100 → length (num 4 y ++ minus ∷ num 2 mo ++ minus ∷ num 2 d) ≡ 10
+date-long y mo d hy hmo hd =
+    simp length-append (omega (arith, num-fits 4 y (omega arith) hy, two-long mo hmo, two-long d hd))
+
+pub time-long : (x : ℕ) → x < 86400 → length (84 ∷ num 2 (x / 3600) ++ colon ∷ num 2 (x % 3600 / 60) ++ colon ∷ num 2 (x % 60)) ≡ 9
+time-long x h =
+    simp length-append
+    (omega (arith, two-long (x / 3600) (omega arith), two-long (x % 3600 / 60) (omega arith), two-long (x % 60) (omega arith)))
+
+pub no-fraction : (n : ℕ) → n ≡ 0 → fractionText n ≡ []
+no-fraction n e = rw (eq-eqb n 0 e)
+
+pub nine-fraction : (n : ℕ) → (n ≡ 0 → ⊥) → n < 1000000000 → fractionText n ≡ 46 ∷ digits 9 n
+nine-fraction n e h = rw (ne-eqb n 0 e, num-digits 9 n (omega arith) h)
+
+-- the offset
+
+module _ (t : Stamp) where
+  pub mark-long : t .unknown ≡ true → length (stampOffset t) ≡ 6
+  unfolding stampOffset bytes
+  mark-long e = rw e
+
+  module _ (known : t .unknown ≡ false) where
+    pub z-long : natAbs (t .offset) ≡ 0 → length (stampOffset t) ≡ 1
+    unfolding stampOffset
+    z-long e = rw (known, eq-eqb (natAbs (t .offset)) 0 e)
+
+    pub shift-long : natAbs (t .offset) ≤ 86399 → (natAbs (t .offset) ≡ 0 → ⊥) → length (stampOffset t) ≡ 6
+    unfolding stampOffset offsetText offsetDigits
+    shift-long h e =
+        let n = natAbs (t .offset) in
+        rw (known, ne-eqb n 0 e)
+        (simp length-append (omega (arith, two-long (n / 3600) (omega arith), two-long (n % 3600 / 60) (omega arith))))
