@@ -4,12 +4,13 @@ use mathlib.Core.List.{List, [], _∷_, _++_}
 use mathlib.Core.Path.{_≡_, refl, sym, ap, _∙_}
 use Prim.Native.Nat.{ℕ, suc, _+_, _*_, _/_, _%_, _^_, _≤_, _<_}
 use native.Mathlib.Omega.{arith}
-use borrow.Author.Tests.{eq-eqb, ne-eqb}
+use borrow.Author.Tests.{eq-eqb, ne-eqb, eqb-true, eqb-false}
 use lib.Dec.{eqb}
 use lib.IntN.{natAbs}
 use lib.ListN.{length, length-append}
 use Rattle.laws.proofs.Digits.{num-fits, num-digits}
 use Rattle.laws.proofs.Stamps.{Written, sizes, year-small}
+use Rattle.laws.proofs.Tests.{by-test}
 use Rattle.meaning.specs.Bytes.{when, both, bytes, digits, num, minus, colon}
 use Rattle.meaning.specs.Stamps.{fractionText, stampDate, stampTime, stampFraction, stampOffset, stampText, stampFields}
 use Rattle.meaning.specs.Writing.{quantityOf, offsetText, offsetDigits, zoneText}
@@ -55,3 +56,45 @@ module _ (t : Stamp) where
         let n = natAbs (t .offset) in
         rw (known, ne-eqb n 0 e)
         (simp length-append (omega (arith, two-long (n / 3600) (omega arith), two-long (n % 3600 / 60) (omega arith))))
+
+pub offset-short : (t : Stamp) → Written t → length (stampOffset t) ≤ 6
+offset-short t w =
+    by-test (t .unknown) (λ e. omega (arith, mark-long t e))
+    (λ e.
+    by-test (eqb (natAbs (t .offset)) 0)
+    (λ z. omega (arith, z-long t e (eqb-true (natAbs (t .offset)) 0 z)))
+    (λ z. omega (arith, shift-long t e (sizes t w .offset) (eqb-false (natAbs (t .offset)) 0 z))))
+
+-- the whole text, in the pieces that are laid
+
+abbrev pub dateOf : Stamp → List ℕ
+dateOf t = num 4 (natAbs (t .year)) ++ minus ∷ num 2 (t .month) ++ minus ∷ num 2 (t .day)
+
+abbrev pub timeOf : ℕ → List ℕ
+timeOf x = 84 ∷ num 2 (x / 3600) ++ colon ∷ num 2 (x % 3600 / 60) ++ colon ∷ num 2 (x % 60)
+
+abbrev pub secondIn : Stamp → ℕ
+secondIn t = t .nanos / 1000000000
+
+abbrev pub fractionIn : Stamp → ℕ
+fractionIn t = t .nanos % 1000000000
+
+pub in-pieces : (t : Stamp) → stampText t ≡ dateOf t ++ timeOf (secondIn t) ++ fractionText (fractionIn t) ++ stampOffset t
+unfolding stampText stampDate stampTime stampFraction quantityOf
+in-pieces t = let e : fractionIn t / 1 ≡ fractionIn t = omega arith in rw e
+
+module _ (t : Stamp) (w : Written t) where
+  pub second-small : secondIn t < 86400
+  second-small = omega (arith, sizes t w .nanos)
+
+  pub date-ten : length (dateOf t) ≡ 10
+  date-ten =
+      let a = sizes t w in
+      date-long (natAbs (t .year)) (t .month) (t .day) (year-small t w) (omega (arith, a .month)) (omega (arith, a .day))
+
+  pub text-long : length (stampText t) ≡ 19 + length (fractionText (fractionIn t)) + length (stampOffset t)
+  text-long =
+      let p = dateOf t in
+      let q = timeOf (secondIn t) in
+      let f = fractionText (fractionIn t) in
+      rw (in-pieces t, length-append (p ++ q ++ f) (stampOffset t), length-append (p ++ q) f, length-append p q, date-ten, time-long (secondIn t) second-small)
