@@ -59,15 +59,7 @@ fn put_offset(t: Stamp, out: &mut [u8], at: usize) -> usize
     if t.unknown {
         return put_bytes(b"-00:00", out, at);
     }
-    format_zone(
-        t.offset,
-        true,
-        true,
-        Group::Always,
-        Group::Never,
-        out,
-        at,
-    )
+    format_zone(t.offset, true, true, Group::Always, Group::Never, out, at)
 }
 
 fn offset_length(t: Stamp) -> usize

@@ -41,9 +41,16 @@ nine-fraction n e h = rw (ne-eqb n 0 e, num-digits 9 n (omega arith) h)
 -- the offset
 
 module _ (t : Stamp) where
-  pub mark-long : t .unknown ≡ true → length (stampOffset t) ≡ 6
+  pub mark-text : t .unknown ≡ true → stampOffset t ≡ 45 ∷ 48 ∷ 48 ∷ 58 ∷ 48 ∷ 48 ∷ []
   unfolding stampOffset bytes
-  mark-long e = rw e
+  mark-text e = rw e
+
+  pub zone-text : t .unknown ≡ false → stampOffset t ≡ zoneText true true Always Never (t .offset)
+  unfolding stampOffset
+  zone-text e = rw e
+
+  pub mark-long : t .unknown ≡ true → length (stampOffset t) ≡ 6
+  mark-long e = rw (mark-text e)
 
   module _ (known : t .unknown ≡ false) where
     pub z-long : natAbs (t .offset) ≡ 0 → length (stampOffset t) ≡ 1
