@@ -45,6 +45,7 @@ pub mod Splitting
 pub mod StampChecks
 pub mod StampGrammar
 pub mod StampPatterns
+pub mod StampPlaces
 pub mod StampTexts
 pub mod StampWrites
 pub mod Stamps

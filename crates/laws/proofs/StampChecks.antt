@@ -1,13 +1,11 @@
 -- What it says that no check of a date-time that was read refuses: each number is in its range, and there is such a day.
-use mathlib.Core.Bool.{Bool, true, false, not}
-use mathlib.Core.Path.{_≡_, refl, sym}
+use mathlib.Core.Bool.{true, not}
+use mathlib.Core.Path.{_≡_}
 use Prim.Native.Nat.{ℕ, _≤_}
-use native.Mathlib.Omega.{arith}
-use borrow.Author.Tests.{eqb-false, leb-true}
+use borrow.Author.Tests.{eqb-false, leb-true, not-true}
 use lib.Dec.{eqb, leb}
 use lib.IntN.{pos}
-use Rattle.meaning.specs.Answers.{_else_, refuseUnless, within}
-use Rattle.meaning.specs.Bytes.{both}
+use Rattle.meaning.specs.Answers.{refuseUnless, within}
 use Rattle.meaning.specs.Days.{dayCheck}
 use Rattle.meaning.specs.StampGrammar.{DateTime}
 use Rattle.meaning.specs.Stamps.{isClock, inRange, dateTimeCheck}
@@ -45,11 +43,7 @@ in-range t h =
     }
 
 not-equal : (n k : ℕ) → not (eqb n k) ≡ true → n ≡ k → ⊥
-not-equal n k h = eqb-false n k (is-false (eqb n k) h)
-  where
-    is-false : (b : Bool) → not b ≡ true → b ≡ false
-    is-false true e = sym e
-    is-false false e = refl
+not-equal n k h = eqb-false n k (not-true (eqb n k) h)
 
 -- 26, 27, 28, 17
 pub record Accepted (t : DateTime) : Type 0 where

@@ -1,16 +1,16 @@
 -- Laws of the grammar of stamps. Whatever text was read, the year has four digits and the fraction is less than a second.
-use mathlib.Core.Bool.{Bool, true, false}
+use mathlib.Core.Bool.{true}
 use mathlib.Core.List.{List, [], _∷_, _++_}
-use mathlib.Core.Path.{_≡_, refl, sym, ap, _∙_}
-use Prim.Native.Nat.{ℕ, zero, suc, _+_, _-_, _*_, _^_, _≤_, _<_}
+use mathlib.Core.Path.{_≡_, refl, _∙_}
+use Prim.Native.Nat.{ℕ, zero, suc, _+_, _-_, _*_, _^_, _<_}
 use native.Mathlib.Nat.{mul-assoc, mul-comm, pow-suc}
 use native.Mathlib.Omega.{arith}
 use lib.Dec.{eqb}
 use lib.ListN.{length, getD, take, drop, replicate, length-take, length-append}
-use Rattle.meaning.specs.Bytes.{when, both, isDigit, digitAt}
+use Rattle.meaning.specs.Bytes.{isDigit, digitAt}
 use Rattle.meaning.specs.Numerals.{allDigits, decimal}
 use Rattle.meaning.specs.Reading.{digitRun}
-use Rattle.meaning.specs.StampGrammar.{Ruled, reads, halts, Grammar, onward, _then_, _before_, done, oneByte, isDash, isColon, isPoint, isT, digitsFrom, someDigits, dateFullyear, dateMonth, dateMday, timeHour, timeMinute, timeSecond, nanosOf, timeSecfrac, optionalSecfrac, timeOffset, PartialTime, partialTime, FullDate, fullDate, FullTime, fullTime, DateTime, dateTime, ended, whole}
+use Rattle.meaning.specs.StampGrammar.{Ruled, reads, halts, Grammar, onward, oneByte, isDash, isColon, isPoint, isT, digitsFrom, dateFullyear, dateMonth, dateMday, timeHour, timeMinute, timeSecond, nanosOf, timeSecfrac, optionalSecfrac, timeOffset, PartialTime, partialTime, FullDate, fullDate, FullTime, fullTime, DateTime, dateTime, ended, whole}
 use Rattle.laws.proofs.Digits.{digit-bounds}
 use Rattle.laws.proofs.Tests.{by-test, both-true, both-are}
 

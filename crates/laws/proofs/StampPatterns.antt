@@ -2,16 +2,16 @@
 -- `yyyy-MM-dd'T'HH:mm:ssXXX`.
 use mathlib.Core.Bool.{Bool, true, false}
 use mathlib.Core.List.{List, [], _∷_, _++_, append-assoc, append-nil}
-use mathlib.Core.Path.{_≡_, refl, sym, ap, _∙_}
+use mathlib.Core.Path.{_≡_, refl, sym, _∙_}
 use Prim.Native.Nat.{ℕ}
 use lib.Dec.{eqb}
 use lib.IntN.{natAbs}
 use Rattle.meaning.specs.Answers.{byteCheck, patternCheck}
-use Rattle.meaning.specs.Bytes.{when, both, bytes, num}
+use Rattle.meaning.specs.Bytes.{bytes, num}
 use Rattle.meaning.specs.Names.{Book}
 use Rattle.meaning.specs.Rules as rules
 use Rattle.meaning.specs.Splitting as splitting
-use Rattle.meaning.specs.Stamps.{stampFields, fourDigits, stampDate, stampTime, stampFraction, stampOffset, stampText}
+use Rattle.meaning.specs.Stamps.{stampFields, stampFraction, stampOffset, stampText}
 use Rattle.meaning.specs.Whole.{text}
 use Rattle.meaning.specs.Writing.{isNegative, quantityOf, signedText, zoneText, ruleText, stepOf, steps, stepText, texts}
 use Rattle.meaning.specs.declared.Checked.the-variants.{Fine}
@@ -20,7 +20,6 @@ use Rattle.meaning.specs.declared.Group.the-variants.{Never, Always}
 use Rattle.meaning.specs.declared.Pair.the-variants.{Full}
 use Rattle.meaning.specs.declared.Quantity.the-variants.{Hour0To23, Minute, Second, Fraction}
 use Rattle.meaning.specs.declared.Stamp.{Stamp}
-use Rattle.laws.proofs.Tests.{by-test}
 
 -- by whether the second is whole, with no fraction, and whether the offset is unknown
 abbrev pub stampPattern : Bool → Bool → List ℕ

@@ -2,19 +2,19 @@
 use mathlib.Core.Bool.{Bool, true, false}
 use mathlib.Core.List.{List, [], _∷_, _++_}
 use mathlib.Core.Path.{_≡_, refl, sym, ap, _∙_}
-use Prim.Native.Nat.{ℕ, zero, suc, _+_, _-_, _*_, _/_, _%_, _^_, _≤_, _<_}
+use Prim.Native.Nat.{ℕ, suc, _+_, _-_, _*_, _/_, _%_, _<_}
 use native.Mathlib.Nat.{add-zero}
 use native.Mathlib.Omega.{arith}
 use borrow.Author.Tests.{eq-eqb, eqb-true}
 use lib.Dec.{eqb}
 use lib.ListN.{length, getD, take, drop, replicate}
 use lib.Seq.{getD-drop, take-at}
-use Rattle.meaning.specs.Bytes.{when, both, isDigit, digitAt, digits, minus, plus}
-use Rattle.meaning.specs.Numerals.{allDigits, decimal}
+use Rattle.meaning.specs.Bytes.{when, isDigit, digitAt, digits, minus, plus}
 use Rattle.meaning.specs.Reading.{digitRun}
-use Rattle.meaning.specs.StampGrammar.{Ruled, reads, halts, onward, _then_, done, isPoint, isZ, isSign, digitsFrom, someDigits, nanosOf, timeSecfrac, optionalSecfrac, NumOffset, zulu, timeNumoffset, timeOffset, PartialTime, partialTime, FullDate, fullDate, FullTime, fullTime, DateTime, dateTime, ended, whole}
+use Rattle.meaning.specs.StampGrammar.{reads, isPoint, isZ, isSign, digitsFrom, nanosOf, timeSecfrac, optionalSecfrac, NumOffset, zulu, timeNumoffset, timeOffset, PartialTime, partialTime, fullDate, fullTime, DateTime, dateTime, whole}
 use Rattle.laws.proofs.Digits.{digit-yes, all-digits, decimal-digits, length-digits, digit-in}
-use Rattle.laws.proofs.Tests.{by-test, both-true}
+use Rattle.laws.proofs.Tests.{by-test}
+use Rattle.laws.proofs.Years.{run-of-digits}
 
 -- digits
 
@@ -56,14 +56,6 @@ module _ (y mo d h mi se : ℕ) where
 
 -- the fraction
 
-run-of : (ds z : List ℕ) → allDigits ds ≡ true → digitAt 0 z ≡ false → digitRun (ds ++ z) ≡ length ds
-unfolding allDigits digitRun digitAt
-run-of [] [] h k = refl
-run-of [] (b ∷ z) h k = rw k
-run-of (b ∷ ds) z h k =
-    let t = both-true (isDigit b) (allDigits ds) h in
-    rw (t .0) (ap suc (run-of ds z (t .1) k))
-
 nine : (q : ℕ) → q < 1000000000 → nanosOf (digits 9 q) ≡ q
 unfolding nanosOf
 nine q h = rw (take-at (digits 9 q) (replicate 9 48) 9 (length-digits 9 q)) (decimal-digits 9 q h)
@@ -80,7 +72,7 @@ module _ (s : List ℕ) (at : ℕ) where
   nine-read q z h point rest end =
       let first : getD s (suc at) 0 ≡ getD (digits 9 q ++ z) 0 0 = ap (λ (k : ℕ). getD s k 0) (sym (add-zero (suc at))) ∙ sym (getD-drop (suc at) s 0 0) ∙ rw rest in
       let digit : isDigit (getD (digits 9 q ++ z) 0 0) ≡ true = digit-in (digits 9 q) z (all-digits 9 q) 0 (omega (arith, length-digits 9 q)) in
-      let run : digitRun (digits 9 q ++ z) ≡ 9 = run-of (digits 9 q) z (all-digits 9 q) end ∙ length-digits 9 q in
+      let run : digitRun (digits 9 q ++ z) ≡ 9 = run-of-digits (digits 9 q) z (all-digits 9 q) end ∙ length-digits 9 q in
       let taken : take 9 (digits 9 q ++ z) ≡ digits 9 q = take-at (digits 9 q) z 9 (length-digits 9 q) in
       rw (point, first, digit, rest, run, taken, nine q h)
 

@@ -8,14 +8,12 @@ use borrow.Author.Tests.{leb-true}
 use lib.Dec.{leb}
 use lib.ListN.{length, take, drop}
 use lib.Seq.{sets, sets-eq, take-append-seam}
-use Rattle.meaning.specs.Answers.{_else_, fieldsCheck, roomCheck}
+use Rattle.meaning.specs.Answers.{fieldsCheck, roomCheck}
 use Rattle.meaning.specs.Bytes.{bytes}
 use Rattle.meaning.specs.Names.{Book}
-use Rattle.meaning.specs.Stamps.{stampFields, stampCheck, stampText, stampWriteCheck, readStamp, writeStamp, stampOutput}
-use Rattle.meaning.specs.Whole.{text, writeCheck, wroteBy, outputBy, write, output}
-use Rattle.meaning.specs.Writing.{isNegative}
-use Rattle.meaning.specs.declared.Checked.{Checked}
-use Rattle.meaning.specs.declared.Checked.the-variants.{Fine, Refused}
+use Rattle.meaning.specs.Stamps.{stampCheck, stampText, stampWriteCheck, readStamp, writeStamp, stampOutput}
+use Rattle.meaning.specs.Whole.{writeCheck, write, output}
+use Rattle.meaning.specs.declared.Checked.the-variants.{Fine}
 use Rattle.meaning.specs.declared.Fields.{Fields}
 use Rattle.meaning.specs.declared.Pair.the-variants.{Full}
 use Rattle.meaning.specs.declared.Refusal.the-variants.{NoRoom}

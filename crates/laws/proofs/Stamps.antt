@@ -2,28 +2,26 @@
 -- as the same record.
 use mathlib.Core.Bool.{Bool, true, false, not}
 use mathlib.Core.List.{List, [], _∷_, _++_, append-nil}
-use mathlib.Core.Path.{_≡_, refl, sym, ap, _∙_}
-use Prim.Native.Nat.{ℕ, zero, suc, _+_, _-_, _*_, _/_, _%_, _^_, _≤_, _<_, max}
+use mathlib.Core.Path.{_≡_, refl, ap, _∙_}
+use Prim.Native.Nat.{ℕ, zero, suc, _+_, _*_, _/_, _%_, _≤_, _<_}
 use native.Mathlib.Omega.{arith}
-use borrow.Author.Tests.{eq-eqb, ne-eqb, eqb-true, eqb-false, le-leb, leb-true}
-use lib.Dec.{eqb, leb}
-use lib.IntN.{ℤ, pos, negsuc, natAbs, negℤ}
-use lib.ListN.{length}
+use borrow.Author.Tests.{eq-eqb, ne-eqb, eqb-true, le-leb, not-true}
+use lib.Dec.{eqb}
+use lib.IntN.{ℤ, pos, negsuc, natAbs}
 use Rattle.meaning.proofs.Books.{english-valid}
-use Rattle.meaning.specs.Answers.{_else_, refuseUnless, within, fieldsCheck, textCheck}
-use Rattle.meaning.specs.Bytes.{when, both, bytes, digits, num}
+use Rattle.meaning.specs.Answers.{refuseUnless, fieldsCheck, textCheck}
+use Rattle.meaning.specs.Bytes.{when, both, bytes, digits}
 use Rattle.meaning.specs.Calendar.{divides}
 use Rattle.meaning.specs.Days.{dayCheck}
 use Rattle.meaning.specs.Names.{english}
 use Rattle.meaning.specs.Numerals.{integer}
-use Rattle.meaning.specs.StampGrammar.{Ruled, reads, halts, NumOffset, zulu, DateTime, dateTime, whole}
-use Rattle.meaning.specs.Stamps.{inRange, dateTimeCheck, secondsOf, stampOf, stampedBy, stampedIn, readStamp, stampFields, fourDigits, offsetWritten, stampCheck, stampDate, stampTime, stampFraction, stampOffset, stampText}
-use Rattle.meaning.specs.Writing.{isNegative, quantityOf, signedText, offsetDigits, isMinus, offsetText, zoneText}
+use Rattle.meaning.specs.StampGrammar.{Ruled, reads, halts, NumOffset, DateTime, dateTime, whole}
+use Rattle.meaning.specs.Stamps.{inRange, dateTimeCheck, secondsOf, stampOf, stampedBy, stampedIn, readStamp, stampFields, fourDigits, offsetWritten, stampCheck, stampFraction, stampOffset, stampText}
+use Rattle.meaning.specs.Writing.{isNegative, quantityOf, signedText, offsetDigits, isMinus, offsetText}
 use Rattle.meaning.specs.declared.Checked.{Checked}
 use Rattle.meaning.specs.declared.Checked.the-variants.{Fine, Refused}
 use Rattle.meaning.specs.declared.Group.the-variants.{Never, Always}
 use Rattle.meaning.specs.declared.Pair.the-variants.{Full}
-use Rattle.meaning.specs.declared.Quantity.the-variants.{Hour0To23, Minute, Second, Fraction}
 use Rattle.meaning.specs.declared.Refusal.the-variants.{StampYear, StampOffset}
 use Rattle.meaning.specs.declared.Stamp.{Stamp}
 use Rattle.meaning.specs.declared.Stamped.{Stamped}
@@ -33,11 +31,12 @@ use Rattle.laws.proofs.BookNames.{valid-short}
 use Rattle.laws.proofs.Checks.{else-fine, fine-unless, within-is}
 use Rattle.laws.proofs.Digits.{num-digits}
 use Rattle.laws.proofs.Fields.{Allowed, allowed}
+use Rattle.laws.proofs.Numbers.{size-alone}
 use Rattle.laws.proofs.StampChecks.{in-range, checks-fine}
 use Rattle.laws.proofs.StampGrammar.{Small, read-small}
 use Rattle.laws.proofs.StampPatterns.{stampPattern, wholeSecond, FieldsOf, stamp-pieces, stamp-by-pattern, pattern-fine}
 use Rattle.laws.proofs.StampTexts.{ReadsAs, z-reads, shiftBytes, shift-reads, front, fractionBytes, dateTimeBy, text-read}
-use Rattle.laws.proofs.Tests.{by-test, both-true, both-are}
+use Rattle.laws.proofs.Tests.{by-test, both-true}
 use Rattle.laws.proofs.Zones.{offsetValue, zero-offset, value-is}
 
 -- what a record that is written has
@@ -99,11 +98,7 @@ module _ (t : Stamp) (w : Written t) where
   sizes = allowed (stampFields t) (w .fields)
 
   pub positive : isNegative (t .year) ≡ false
-  positive = not-true′ (isNegative (t .year)) (both-true (not (isNegative (t .year))) _ (w .year) .0)
-    where
-      not-true′ : (b : Bool) → not b ≡ true → b ≡ false
-      not-true′ true h = sym h
-      not-true′ false h = refl
+  positive = not-true (isNegative (t .year)) (both-true (not (isNegative (t .year))) _ (w .year) .0)
 
   pub year-small : natAbs (t .year) < 10000
   year-small = omega (arith, within-is 1 9999 (natAbs (t .year)) (both-true (not (isNegative (t .year))) _ (w .year) .1))
@@ -243,12 +238,7 @@ read-from : (s : List ℕ) (t : Stamp) → readStamp s ≡ stamped.Read t → Re
 unfolding readStamp
 read-from s t h = from-parts s t (whole dateTime s) refl (by-checks (textCheck s) (stampedIn (whole dateTime s)) h .1)
 
--- the size and the mark of an offset, from its parts
-
-size-again : (negative : Bool) (n : ℕ) → natAbs (integer (record { negative = negative; size = n })) ≡ n
-size-again false n = refl
-size-again true zero = refl
-size-again true (suc n) = refl
+-- the mark of an offset, from its parts
 
 mark-fine : (negative nothing : Bool) → when (both negative nothing) nothing true ≡ true
 mark-fine true true = refl
@@ -265,7 +255,7 @@ module _ (p : DateTime) (small : Small p) (h : dateTimeCheck p ≡ Fine) where
       let a = checks-fine p h in
       let r = in-range p (a .range) in
       let some : 1 ≤ p .date .year = one-le (p .date .year) (a .year) in
-      let n = size-again (p .offset .negative) offsetSize in
+      let n = size-alone (p .offset .negative) offsetSize in
       rw (
         le-leb 1 (p .date .year) some,
         le-leb (p .date .year) 5879611 (omega (arith, small .year)),
@@ -291,7 +281,7 @@ module _ (p : DateTime) (small : Small p) (h : dateTimeCheck p ≡ Fine) where
   offset-fine : offsetWritten (stampOf p) ≡ true
   unfolding stampOf
   offset-fine =
-      rw (size-again (p .offset .negative) offsetSize, eq-eqb (offsetSize % 60) 0 (omega arith))
+      rw (size-alone (p .offset .negative) offsetSize, eq-eqb (offsetSize % 60) 0 (omega arith))
       (mark-fine (p .offset .negative) (eqb offsetSize 0))
 
   writes-parts : Written (stampOf p)

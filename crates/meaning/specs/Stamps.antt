@@ -1,9 +1,9 @@
 -- Request [10], RFC 3339 stamps: what a date-time that was read may be, and the record that it stands for; and the text of a record. The
 -- grammar is in StampGrammar.
-use mathlib.Core.Bool.{Bool, true, false, not}
+use mathlib.Core.Bool.{Bool, true, not}
 use mathlib.Core.List.{List, [], _∷_, _++_}
-use Prim.Native.Char.{Char, code}
-use Prim.Native.Nat.{ℕ, _+_, _*_, _%_}
+use Prim.Native.Char.{code}
+use Prim.Native.Nat.{ℕ, _+_, _*_}
 use lib.Dec.{eqb, leb}
 use lib.IntN.{ℤ, pos, natAbs}
 use lib.ListN.{length}

@@ -1,7 +1,6 @@
 -- The whole answers of the reader and of the writer, from what the code finds.
-use mathlib.Core.Bool.{true, false}
 use mathlib.Core.List.{List}
-use mathlib.Core.Path.{_≡_, refl, sym, ap, _∙_}
+use mathlib.Core.Path.{_≡_, ap}
 use Prim.Native.Nat.{ℕ, _≤_, _<_}
 use native.Mathlib.Omega.{arith}
 use borrow.Author.Tests.{le-leb, lt-leb}
@@ -9,7 +8,7 @@ use lib.ListN.{length}
 use lib.Seq.{sets}
 use Rattle.meaning.specs.Answers.{textCheck}
 use Rattle.meaning.specs.StampGrammar.{Ruled, reads, halts, DateTime, dateTime, whole}
-use Rattle.meaning.specs.Stamps.{dateTimeCheck, stampOf, stampedBy, readStamp, stampCheck, stampText, stampWriteCheck, writeStamp, stampOutput}
+use Rattle.meaning.specs.Stamps.{dateTimeCheck, stampOf, stampedBy, readStamp, stampCheck, stampText, writeStamp, stampOutput}
 use Rattle.meaning.specs.declared.Checked.the-variants.{Fine, Refused}
 use Rattle.meaning.specs.declared.Refusal.{Refusal}
 use Rattle.meaning.specs.declared.Refusal.the-variants.{NotStamp, NoRoom}

@@ -2,7 +2,7 @@
 use mathlib.Core.Bool.{true, false}
 use mathlib.Core.List.{List}
 use mathlib.Core.Path.{_≡_, refl, sym, ap, _∙_}
-use Prim.Native.Nat.{ℕ, suc, _+_, _-_, _*_, _≤_, _<_}
+use Prim.Native.Nat.{ℕ, _+_, _-_, _*_, _≤_, _<_}
 use native.Mathlib.Numerals.{add-one}
 use native.Mathlib.Omega.{arith}
 use borrow.Author.Tests.{eq-eqb, ne-eqb}
@@ -10,9 +10,9 @@ use lib.Dec.{eqb}
 use lib.ListN.{length, getD, drop, List·getD-eq-default}
 use Rattle.laws.proofs.Digits.{digit-bounds}
 use Rattle.laws.proofs.Tests.{by-test}
-use Rattle.meaning.specs.Bytes.{when, isDigit, digitAt, minus}
+use Rattle.meaning.specs.Bytes.{isDigit, digitAt, minus}
 use Rattle.meaning.specs.Reading.{digitRun}
-use Rattle.meaning.specs.StampGrammar.{Ruled, reads, halts, Grammar, onward, _then_, _before_, done, oneByte, isDash, isColon, isT, isZ, isSign, isPoint, digitsFrom, someDigits, nanosOf, timeSecfrac, dateFullyear, dateMonth, dateMday, timeHour, timeMinute, timeSecond, optionalSecfrac, NumOffset, zulu, timeNumoffset, timeOffset, PartialTime, partialTime, FullDate, fullDate, FullTime, fullTime, DateTime, dateTime, whole}
+use Rattle.meaning.specs.StampGrammar.{Ruled, reads, halts, Grammar, onward, _then_, _before_, done, oneByte, isDash, isColon, isT, isZ, isSign, isPoint, digitsFrom, someDigits, nanosOf, timeSecfrac, dateMonth, dateMday, timeHour, timeMinute, timeSecond, optionalSecfrac, NumOffset, zulu, timeNumoffset, timeOffset, PartialTime, partialTime, FullDate, fullDate, FullTime, fullTime, DateTime, dateTime, whole}
 use Rattle.numerals.specs.Numbers.{pairAt}
 use Rattle.stamps.proofs.grammar.Fractions.{some-run, no-run, nanos-weighed}
 use Rattle.stamps.proofs.grammar.Prefixes.{Begins, all-taken, not-taken, begins-then, begins-on, begins-done, begins-byte, begins-pair, begins-hour}

@@ -2,9 +2,9 @@
 -- nanoseconds of the definition.
 use mathlib.Core.Bool.{true, false}
 use mathlib.Core.List.{List, [], _∷_, _++_}
-use mathlib.Core.Path.{_≡_, refl, sym, ap, _∙_}
+use mathlib.Core.Path.{_≡_, refl, _∙_}
 use Prim.Native.Nat.{ℕ, zero, suc, _+_, _-_, _*_, _/_, _^_, _≤_, _<_}
-use native.Mathlib.Nat.{add-zero, mul-zero, mul-one, add-mul, mul-assoc, mul-comm, mul-le-mul-right, one-le-pow, pow-suc}
+use native.Mathlib.Nat.{mul-zero, add-mul, mul-assoc, mul-comm, mul-le-mul-right, one-le-pow, pow-suc}
 use native.Mathlib.Numerals.{add-one}
 use native.Mathlib.Omega.{arith}
 use borrow.Author.Tests.{ltb-true, ltb-false}
@@ -13,7 +13,7 @@ use lib.ListN.{length, getD, take, drop, replicate, drop-of-length-le}
 use lib.Seq.{drop-cons}
 use Rattle.laws.proofs.Digits.{digit-bounds}
 use Rattle.laws.proofs.Tests.{by-test, passes-there}
-use Rattle.meaning.specs.Bytes.{when, isDigit, digitAt}
+use Rattle.meaning.specs.Bytes.{isDigit, digitAt}
 use Rattle.meaning.specs.Numerals.{decimal}
 use Rattle.meaning.specs.Reading.{digitRun}
 use Rattle.meaning.specs.StampGrammar.{nanosOf}

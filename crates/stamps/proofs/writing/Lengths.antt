@@ -1,8 +1,8 @@
 -- How long the pieces of a stamp's text are.
 use mathlib.Core.Bool.{true, false}
 use mathlib.Core.List.{List, [], _∷_, _++_}
-use mathlib.Core.Path.{_≡_, refl, sym, ap, _∙_}
-use Prim.Native.Nat.{ℕ, suc, _+_, _*_, _/_, _%_, _^_, _≤_, _<_}
+use mathlib.Core.Path.{_≡_}
+use Prim.Native.Nat.{ℕ, _+_, _/_, _%_, _≤_, _<_}
 use native.Mathlib.Omega.{arith}
 use borrow.Author.Tests.{eq-eqb, ne-eqb, eqb-true, eqb-false}
 use lib.Dec.{eqb}
@@ -11,11 +11,10 @@ use lib.ListN.{length, length-append}
 use Rattle.laws.proofs.Digits.{num-fits, num-digits}
 use Rattle.laws.proofs.Stamps.{Written, sizes, year-small}
 use Rattle.laws.proofs.Tests.{by-test}
-use Rattle.meaning.specs.Bytes.{when, both, bytes, digits, num, minus, colon}
-use Rattle.meaning.specs.Stamps.{fractionText, stampDate, stampTime, stampFraction, stampOffset, stampText, stampFields}
+use Rattle.meaning.specs.Bytes.{bytes, digits, num, minus, colon}
+use Rattle.meaning.specs.Stamps.{fractionText, stampDate, stampTime, stampFraction, stampOffset, stampText}
 use Rattle.meaning.specs.Writing.{quantityOf, offsetText, offsetDigits, zoneText}
 use Rattle.meaning.specs.declared.Group.the-variants.{Never, Always}
-use Rattle.meaning.specs.declared.Quantity.the-variants.{Hour0To23, Minute, Second, Fraction}
 use Rattle.meaning.specs.declared.Stamp.{Stamp}
 
 pub two-long : (n : ℕ) → n < 100 → length (num 2 n) ≡ 2

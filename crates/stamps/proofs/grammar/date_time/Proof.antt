@@ -2,7 +2,7 @@
 use mathlib.Core.Path.{_≡_, sym, ap, _∙_}
 use borrow.Author.Needs.{needs}
 use denote.Ref.{now}
-use Rattle.meaning.specs.StampGrammar.{reads, halts, optionalSecfrac, timeOffset}
+use Rattle.meaning.specs.StampGrammar.{reads, optionalSecfrac, timeOffset}
 use Rattle.stamps.proofs.grammar.DateTimes.{place-halts, fraction-halts, offset-halts, rest-halts, all-read, fraction-halted, fraction-nanos, zone-halted, zone-shifted}
 use Rattle.stamps.specs.Found.{offsetOf, scannedBy}
 use Rattle.stamps.specs.Shape.{firstWrong}

@@ -10,8 +10,6 @@ use Rattle.stamps.proofs.grammar.DateTimes.{no-point, none-read, digits
 use Rattle.stamps.specs.Found.{fractionBy}
 use Rattle.stamps.proofs.grammar.optional_secfrac.Statement.{statement}
 use Rattle.stamps.proofs.grammar.optional_secfrac.Tie as tie
-use Rattle.stamps.proofs.grammar.optional_secfrac.Reads as reads
-use Rattle.stamps.proofs.grammar.optional_secfrac.Lts as lts
 
 -- where the function starts, and the point, seen from behind its test
 abbrev start-2 : tie.Else2 → tie.Start

@@ -1,6 +1,6 @@
 -- Z, or an offset with a sign.
 use mathlib.Core.Logic.{⊎-elim}
-use mathlib.Core.Path.{_≡_, refl, sym, ap, _∙_}
+use mathlib.Core.Path.{sym, ap, _∙_}
 use borrow.Author.Needs.{needs}
 use denote.Ref.{now}
 use Rattle.stamps.proofs.grammar.DateTimes.{z-read, no-z, none-z}

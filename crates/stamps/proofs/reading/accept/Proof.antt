@@ -1,5 +1,5 @@
 -- The checks, then the stamp.
-use mathlib.Core.Path.{_≡_, sym, _∙_}
+use mathlib.Core.Path.{sym, _∙_}
 use borrow.Author.Needs.{needs}
 use Rattle.laws.proofs.StampChecks.{checks-fine}
 use Rattle.stamps.specs.Found.{dateTimeOf}

@@ -1,5 +1,4 @@
 -- All numbers are in their ranges.
-use mathlib.Core.Path.{_≡_}
 use native.Mathlib.Omega.{arith}
 use borrow.Author.Needs.{needs}
 use mir.Facts.{toZ-pos, toZ-ofZ}

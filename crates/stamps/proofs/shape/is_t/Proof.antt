@@ -1,6 +1,5 @@
 -- The same tests.
 use Rattle.laws.proofs.Tests.{chosen}
-use borrow.Author.Needs.{needs}
 use Rattle.stamps.proofs.shape.is_t.Statement.{statement}
 use Rattle.stamps.proofs.shape.is_t.Tie as tie
 

@@ -1,5 +1,5 @@
 -- What is left to be searched has the first wrong byte of all.
-use mathlib.Core.Path.{_≡_, refl, sym, ap, _∙_}
+use mathlib.Core.Path.{_≡_, sym, ap, _∙_}
 use Prim.Native.Nat.{ℕ, _+_, _-_, _≤_}
 use native.Mathlib.Omega.{arith}
 use borrow.Author.Needs.{needs}
@@ -9,8 +9,6 @@ use Rattle.stamps.proofs.shape.Wrongs.{wrong-none, wrong-start, wrong-n
 use Rattle.stamps.specs.Shape.{firstWrong}
 use Rattle.stamps.proofs.shape.search.Statement.{statement}
 use Rattle.stamps.proofs.shape.search.Tie as tie
-use Rattle.stamps.proofs.shape.search.Reads as reads
-use Rattle.stamps.proofs.shape.search.Lts as lts
 
 abbrev Inv-loop : tie.InvT-loop
 Inv-loop count shape text at i₀ i =

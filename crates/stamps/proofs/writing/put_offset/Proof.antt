@@ -1,5 +1,5 @@
 -- The bytes of the mark, or the zone as a pattern writes it.
-use mathlib.Core.Path.{_≡_, ap}
+use mathlib.Core.Path.{ap}
 use native.Mathlib.Omega.{arith}
 use borrow.Author.Needs.{needs}
 use lib.ListN.{length}
