@@ -81,7 +81,7 @@ fitting-fields f =
     (field-fits (within 0 6 (f .wday)) 6 _ (omega arith)
     (field-fits (within 0 86399999999999 (f .nanos)) 7 _ (omega arith) (last-fits (within 0 86399 (natAbs (f .offset))) 8 (omega arith))))))))
 
-fields-fit : (f : Fields) → CheckedFits (fieldsCheck f)
+pub fields-fit : (f : Fields) → CheckedFits (fieldsCheck f)
 fields-fit f = fitting-fields f .fits
 
 year-small : (current : ℤ) → SFits w32 current → NumberFits (natAbs current)
@@ -93,7 +93,7 @@ unfolding currentYearCheck details
 year-fits edition current h =
     when-is CheckedFits (isNegative current) (λ _. (year-small current h, tt)) (λ _. unless-fits (within (firstCurrentYear edition) 9999 (natAbs current)) (CurrentYear current) (year-small current h, tt))
 
-text-fits : (s : List ℕ) → NumberFits (length s) → CheckedFits (textCheck s)
+pub text-fits : (s : List ℕ) → NumberFits (length s) → CheckedFits (textCheck s)
 unfolding textCheck details
 text-fits s h =
     else-fits (refuseUnless (leb (length s) 2048) (TextTooLong (length s))) (byteCheck TextByte 0 127 0 s)
@@ -204,12 +204,15 @@ day-by-fits : (checked : Checked) (z : ℤ) → CheckedFits checked → DayNumbe
 day-by-fits Fine z h = tt
 day-by-fits (Refused why) z h = h
 
+pub day-fits : (y : ℤ) (m d : ℕ) → CheckedFits (dayCheck y m d)
+unfolding dayCheck details
+day-fits y m d =
+    else-fits (refuseUnless (isDate y m d) NoSuchDay) (refuseUnless (isShort (dateNumber y m d)) NoDayNumber) (unless-fits (isDate y m d) NoSuchDay (omega arith, tt))
+    (λ _. unless-fits (isShort (dateNumber y m d)) NoDayNumber (omega arith, tt))
+
 pub day-number-fits : (y : ℤ) (m d : ℕ) → DayNumberFits (dayNumber y m d)
-unfolding dayNumber details
-day-number-fits y m d =
-    day-by-fits (dayCheck y m d) (dateNumber y m d)
-    (else-fits (refuseUnless (isDate y m d) NoSuchDay) (refuseUnless (isShort (dateNumber y m d)) NoDayNumber) (unless-fits (isDate y m d) NoSuchDay (omega arith, tt))
-    (λ _. unless-fits (isShort (dateNumber y m d)) NoDayNumber (omega arith, tt)))
+unfolding dayNumber
+day-number-fits y m d = day-by-fits (dayCheck y m d) (dateNumber y m d) (day-fits y m d)
 
 -- the check
 

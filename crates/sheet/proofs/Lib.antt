@@ -6,3 +6,4 @@ pub mod Laying
 mod ListFits
 mod MendFits
 pub mod Rooms
+mod StampFits

@@ -67,6 +67,13 @@ ofCheck n = both (ofReading n) (eqb (n % 2) 0)
 abbrev pub isBook : List ℕ → Bool
 isBook book = when (eqb (length book) 0) true (eqb (length book) openedSize)
 
+-- whether a number is the mark of a stamp, and whether that says that the offset is unknown
+abbrev pub isMark : ℕ → Bool
+isMark n = leb n 1
+
+abbrev pub marksUnknown : ℕ → Bool
+marksUnknown n = eqb n 1
+
 -- whether a mask has the bit of a unit, of which there are fifteen; a number below 0 is no mask and has none
 abbrev pub isMarked : ℤ → ℕ → Bool
 isMarked (pos mask) unit = both (leb unit 14) (marked mask unit)

@@ -8,6 +8,7 @@ pub mod mends;
 pub mod named;
 pub mod readings;
 pub mod splits;
+pub mod stamped;
 pub mod units;
 pub mod verdicts;
 

@@ -1,14 +1,14 @@
 -- How long the pieces of a stamp's text are.
 use mathlib.Core.Bool.{true, false}
 use mathlib.Core.List.{List, [], _∷_, _++_}
-use mathlib.Core.Path.{_≡_}
+use mathlib.Core.Path.{_≡_, ap}
 use Prim.Native.Nat.{ℕ, _+_, _/_, _%_, _≤_, _<_}
 use native.Mathlib.Omega.{arith}
 use borrow.Author.Tests.{eq-eqb, ne-eqb, eqb-true, eqb-false}
 use lib.Dec.{eqb}
 use lib.IntN.{natAbs}
 use lib.ListN.{length, length-append}
-use Rattle.laws.proofs.Digits.{num-fits, num-digits}
+use Rattle.laws.proofs.Digits.{length-digits, num-fits, num-digits}
 use Rattle.laws.proofs.Stamps.{Written, sizes, year-small}
 use Rattle.laws.proofs.Tests.{by-test}
 use Rattle.meaning.specs.Bytes.{bytes, digits, num, minus, colon}
@@ -104,3 +104,9 @@ module _ (t : Stamp) (w : Written t) where
       let q = timeOf (secondIn t) in
       let f = fractionText (fractionIn t) in
       rw (in-pieces t, length-append (p ++ q ++ f) (stampOffset t), length-append (p ++ q) f, length-append p q, date-ten, time-long (secondIn t) second-small)
+
+  pub text-short : length (stampText t) ≤ 35
+  text-short =
+      let n = fractionIn t in
+      by-test (eqb n 0) (λ e. omega (arith, text-long, offset-short t w, ap length (no-fraction n (eqb-true n 0 e))))
+      (λ e. omega (arith, text-long, offset-short t w, ap length (nine-fraction n (eqb-false n 0 e) (omega arith)), length-digits 9 n))
