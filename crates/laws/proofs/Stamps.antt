@@ -1,11 +1,11 @@
 -- RFC 3339 stamps, about the definitions alone: a record that is written, then read, is itself; and what was read is written, and then reads
 -- as the same record.
-use mathlib.Core.Bool.{Bool, true, false, not}
+use mathlib.Core.Bool.{Bool, true, false}
 use mathlib.Core.List.{List, [], _∷_, _++_, append-nil}
 use mathlib.Core.Path.{_≡_, refl, ap, _∙_}
-use Prim.Native.Nat.{ℕ, zero, suc, _+_, _*_, _/_, _%_, _≤_, _<_}
+use Prim.Native.Nat.{ℕ, suc, _+_, _*_, _/_, _%_, _≤_, _<_}
 use native.Mathlib.Omega.{arith}
-use borrow.Author.Tests.{eq-eqb, ne-eqb, eqb-true, le-leb, not-true}
+use borrow.Author.Tests.{eq-eqb, ne-eqb, eqb-true, le-leb}
 use lib.Dec.{eqb}
 use lib.IntN.{ℤ, pos, negsuc, natAbs}
 use Rattle.meaning.proofs.Books.{english-valid}
@@ -59,6 +59,18 @@ pub fine-stamp : (t : Stamp) → Written t → stampCheck t ≡ Fine
 unfolding stampCheck
 fine-stamp t w = rw (w .fields, w .year, w .day, w .offset)
 
+-- a year of four digits
+
+pub record FourDigits (year : ℤ) : Type 0 where
+  pub positive : isNegative year ≡ false
+  pub is : year ≡ pos (natAbs year)
+  pub some : 1 ≤ natAbs year
+  pub small : natAbs year ≤ 9999
+
+pub four-digits : (year : ℤ) → fourDigits year ≡ true → FourDigits year
+four-digits (pos n) h = let w = within-is 1 9999 n h in record { positive = refl; is = refl; some = w .0; small = w .1 }
+four-digits (negsuc n) h = absurd (let z : _≡_ {A = ℕ} 0 1 = cc in omega arith)
+
 -- its numbers, small enough for their digits
 
 abbrev hourIn : Stamp → ℕ
@@ -97,11 +109,14 @@ module _ (t : Stamp) (w : Written t) where
   pub sizes : Allowed (stampFields t)
   sizes = allowed (stampFields t) (w .fields)
 
+  four : FourDigits (t .year)
+  four = four-digits (t .year) (w .year)
+
   pub positive : isNegative (t .year) ≡ false
-  positive = not-true (isNegative (t .year)) (both-true (not (isNegative (t .year))) _ (w .year) .0)
+  positive = four .positive
 
   pub year-small : natAbs (t .year) < 10000
-  year-small = omega (arith, within-is 1 9999 (natAbs (t .year)) (both-true (not (isNegative (t .year))) _ (w .year) .1))
+  year-small = omega (arith, four .small)
 
   minutes : natAbs (t .offset) % 60 ≡ 0
   minutes = eqb-true (natAbs (t .offset) % 60) 0 (both-true (divides 60 (natAbs (t .offset))) _ (w .offset) .0)
@@ -161,13 +176,6 @@ module _ (t : Stamp) (w : Written t) where
   abbrev timeOf : DateTime
   timeOf = dateTimeBy (natAbs (t .year)) (t .month) (t .day) (hourIn t) (minuteIn t) (secondIn t) (fractionIn t) (offsetParts t)
 
-  year-is : t .year ≡ pos (natAbs (t .year))
-  year-is = natural (t .year) positive
-    where
-      natural : (z : ℤ) → isNegative z ≡ false → z ≡ pos (natAbs z)
-      natural (pos n) h = refl
-      natural (negsuc n) h = absurd (let q : _≡_ {A = ℕ} 0 1 = cc in omega arith)
-
   range-in : inRange timeOf ≡ true
   unfolding inRange
   range-in =
@@ -188,7 +196,7 @@ module _ (t : Stamp) (w : Written t) where
   unfolding dateTimeCheck
   passes =
       let some = sizes .year .0 in
-      rw (range-in, ne-eqb (secondIn t) 60 (λ e. omega arith), ne-eqb (natAbs (t .year)) 0 (λ e. omega arith), ← year-is) (w .day)
+      rw (range-in, ne-eqb (secondIn t) 60 (λ e. omega arith), ne-eqb (natAbs (t .year)) 0 (λ e. omega arith), ← four .is) (w .day)
 
   offset-size : secondsOf (natAbs (t .offset) / 3600) (natAbs (t .offset) % 3600 / 60) ≡ natAbs (t .offset)
   offset-size = omega (arith, minutes)
@@ -198,7 +206,7 @@ module _ (t : Stamp) (w : Written t) where
 
   stamp-is : stampOf timeOf ≡ t
   unfolding stampOf
-  stamp-is = rw (offset-size, time-is, signed-again (t .unknown) (t .offset) unmarked, marked-again (t .unknown) (t .offset) unmarked, ← year-is)
+  stamp-is = rw (offset-size, time-is, signed-again (t .unknown) (t .offset) unmarked, marked-again (t .unknown) (t .offset) unmarked, ← four .is)
 
   text-checks : textCheck (stampText t) ≡ Fine
   text-checks =
@@ -254,7 +262,7 @@ module _ (p : DateTime) (small : Small p) (h : dateTimeCheck p ≡ Fine) where
   fields-fine =
       let a = checks-fine p h in
       let r = in-range p (a .range) in
-      let some : 1 ≤ p .date .year = one-le (p .date .year) (a .year) in
+      let some : 1 ≤ p .date .year = omega (arith, a .year) in
       let n = size-alone (p .offset .negative) offsetSize in
       rw (
         le-leb 1 (p .date .year) some,
@@ -269,10 +277,6 @@ module _ (p : DateTime) (small : Small p) (h : dateTimeCheck p ≡ Fine) where
         le-leb 0 offsetSize (omega arith),
         le-leb offsetSize 86399 (omega (arith, r .offset-hour, r .offset-minute)),
       )
-    where
-      one-le : (k : ℕ) → (k ≡ 0 → ⊥) → 1 ≤ k
-      one-le zero e = absurd (e refl)
-      one-le (suc k) e = omega arith
 
   year-fine : fourDigits (stampOf p .year) ≡ true
   unfolding stampOf

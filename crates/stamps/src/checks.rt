@@ -1,12 +1,11 @@
 // What is asked of a stamp before it is written: the refusals 4, 28, 17, 29, in that order.
 ghost use mathlib.Core.Path.{_≡_};
 ghost use Rattle.meaning.specs.Stamps as stamps;
-use calendar::day_number;
+use calendar::numbers::day_check;
 use fields::checks::fields_check;
 use fields::signed::is_negative;
 use fields::signed::size;
 use meaning::Checked;
-use meaning::DayNumber;
 use meaning::Fields;
 use meaning::Refusal;
 use meaning::Stamp;
@@ -62,7 +61,7 @@ pub fn stamp_check(t: Stamp) -> Checked
     if !has_four_digits(t.year) {
         return Checked::Refused(Refusal::StampYear);
     }
-    if let DayNumber::Refused(why) = day_number(t.year, t.month, t.day) {
+    if let Checked::Refused(why) = day_check(size(t.year), t.month, t.day) {
         return Checked::Refused(why);
     }
     if !is_written(t) {

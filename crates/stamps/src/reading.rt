@@ -9,9 +9,8 @@ ghost use Rattle.meaning.specs.Numerals.{integer};
 ghost use Rattle.meaning.specs.Stamps as stamps;
 ghost use Rattle.stamps.specs.Found.{dateTimeOf};
 use crate::grammar::Parts;
-use calendar::day_number;
+use calendar::numbers::day_check;
 use meaning::Checked;
-use meaning::DayNumber;
 use meaning::Refusal;
 use meaning::Stamp;
 use meaning::Stamped;
@@ -72,10 +71,7 @@ fn check(t: Parts) -> Checked
     if t.year == 0 {
         return Checked::Refused(Refusal::StampYear);
     }
-    match day_number(t.year as i32, t.month, t.day) {
-        DayNumber::Refused(why) => Checked::Refused(why),
-        DayNumber::Number(_) => Checked::Fine,
-    }
+    day_check(t.year, t.month, t.day)
 }
 
 fn seconds_of(hour: u32, minute: u32) -> u32

@@ -1,41 +1,19 @@
--- The checks of a date-time as the code goes through them, and what a day's number says of its check.
+-- The checks of a date-time as the code goes through them.
 use mathlib.Core.Bool.{Bool, true, false}
-use mathlib.Core.Path.{_≡_, refl}
+use mathlib.Core.Path.{_≡_}
 use Prim.Native.Nat.{ℕ, zero, suc, _≤_, _<_}
 use native.Mathlib.Omega.{arith}
 use borrow.Author.Tests.{eq-eqb, ne-eqb, lt-leb, le-leb}
-use lib.IntN.{ℤ, pos}
+use lib.IntN.{pos}
 use mir.Syntax.{w32}
 use mir.Val.{SFits}
 use Rattle.meaning.specs.Answers.{within}
-use Rattle.meaning.specs.Days.{dayCheck, dayNumberBy, dayNumber}
+use Rattle.meaning.specs.Days.{dayCheck}
 use Rattle.meaning.specs.Numerals.{integer}
 use Rattle.meaning.specs.StampGrammar.{DateTime}
 use Rattle.meaning.specs.Stamps.{isClock, inRange, dateTimeCheck}
-use Rattle.meaning.specs.declared.Checked.{Checked}
-use Rattle.meaning.specs.declared.Checked.the-variants.{Fine, Refused}
-use Rattle.meaning.specs.declared.DayNumber.the-variants as number
-use Rattle.meaning.specs.declared.Refusal.{Refusal}
+use Rattle.meaning.specs.declared.Checked.the-variants.{Refused}
 use Rattle.meaning.specs.declared.Refusal.the-variants.{StampRange, LeapSecond, StampYear}
-
--- what a day's number says of its check
-
-by-number : (c : Checked) (z : ℤ) {why : Refusal} → dayNumberBy c z ≡ number.Refused why → c ≡ Refused why
-by-number Fine z e = absurd (let q : _≡_ {A = ℕ} 0 1 = cc in omega arith)
-by-number (Refused w) z e = cc
-
-by-its-number : (c : Checked) (z : ℤ) {n : ℤ} → dayNumberBy c z ≡ number.Number n → c ≡ Fine
-by-its-number Fine z e = refl
-by-its-number (Refused w) z e = absurd (let q : _≡_ {A = ℕ} 0 1 = cc in omega arith)
-
-module _ (y : ℤ) (m d : ℕ) where
-  pub day-refused : {why : Refusal} → dayNumber y m d ≡ number.Refused why → dayCheck y m d ≡ Refused why
-  unfolding dayNumber
-  day-refused e = by-number (dayCheck y m d) _ e
-
-  pub day-numbered : {n : ℤ} → dayNumber y m d ≡ number.Number n → dayCheck y m d ≡ Fine
-  unfolding dayNumber
-  day-numbered e = by-its-number (dayCheck y m d) _ e
 
 -- 26, test by test
 

@@ -1,18 +1,19 @@
 -- Each refusal in its turn.
 use mathlib.Core.Bool.{true}
 use mathlib.Core.Path.{_≡_, sym, _∙_}
+use native.Mathlib.Omega.{arith}
 use borrow.Author.Needs.{needs}
 use borrow.Author.Tests.{not-true, not-false}
 use mir.Facts.{toZ-ofZ}
 use mir.Syntax.{w32}
 use mir.Val.{SFits}
+use Rattle.laws.proofs.Fields.{allowed}
+use Rattle.laws.proofs.Stamps.{four-digits}
 use Rattle.meaning.specs.Answers.{fieldsCheck}
-use Rattle.meaning.specs.Days.{dayCheck, dayNumber}
+use Rattle.meaning.specs.Days.{dayCheck}
 use Rattle.meaning.specs.Stamps.{stampFields, fourDigits}
 use Rattle.meaning.specs.declared.Checked.the-variants.{Fine}
 use Rattle.stamps.proofs.checks.Refusals.{fields-refused, year-refused, day-refused, offset-refused, none-refused}
-use Rattle.stamps.proofs.reading.Checks.{day-numbered}
-use Rattle.stamps.proofs.reading.Checks as reading
 use Rattle.stamps.proofs.checks.stamp_check.Statement.{statement}
 use Rattle.stamps.proofs.checks.stamp_check.Tie as tie
 
@@ -37,18 +38,19 @@ digits-by c =
 year : (c : tie.Else1) → fourDigits (start (at-fields c) .args .t .year) ≡ true
 year c = sym (digits-by (c .before)) ∙ not-false (c .before .has-four-digits .result) (c .if1 .left)
 
-number-is : (c : tie.After-day-number) → let t = start (at-fields (c .before .before)) .args .t in
-    c .day-number .result ≡ dayNumber (t .year) (t .month) (t .day)
-number-is c =
-    let t = start (at-fields (c .before .before)) .args .t in
+checked-day : (c : tie.After-day-check) → let t = start (at-fields (c .before .before .before)) .args .t in
+    c .day-check .result ≡ dayCheck (t .year) (t .month) (t .day)
+checked-day c =
+    let first = c .before .before .before in
+    let t = start (at-fields first) .args .t in
     let fits : SFits w32 (t .year) = search needs in
-    rw (toZ-ofZ fits) at (c .day-number .ensures .whole)
+    rw (rw (toZ-ofZ fits) at (c .before .size .ensures), ← four-digits (t .year) (year first) .is) at (c .day-check .ensures)
 
 abbrev at-year : tie.After-enum-told2 → tie.Else1
-at-year c = c .before .before .before .before
+at-year c = c .before .before .before .before .before
 
 day : (c : tie.After-enum-told2) → let t = start (at-fields (at-year c)) .args .t in dayCheck (t .year) (t .month) (t .day) ≡ Fine
-day c = day-numbered _ _ _ (sym (number-is (c .before .before)) ∙ c .enum-told2 .given .1)
+day c = sym (checked-day (c .before .before)) ∙ c .enum-told2 .given .1
 
 fields-of-requires : tie.Need-fields-of-requires
 fields-of-requires c κs = search needs
@@ -75,8 +77,18 @@ returns-2 c =
     let told = c .before .before .before in
     sym (year-refused (start told .args .t) (fields told) (sym (digits-by (c .before)) ∙ not-true (c .before .has-four-digits .result) (c .if1 .taken)))
 
-day-number-requires : tie.Need-day-number-requires
-day-number-requires c κs = search needs
+size-requires : tie.Need-size-requires
+size-requires c κs = search needs
+
+day-check-requires : tie.Need-day-check-requires
+day-check-requires c κs =
+    let first = c .before .before in
+    let t = start (at-fields first) .args .t in
+    let fits : SFits w32 (t .year) = search needs in
+    let sized = rw (toZ-ofZ fits) at (c .size .ensures) in
+    let four = four-digits (t .year) (year first) in
+    let a = allowed (stampFields t) (fields (at-fields first)) in
+    (omega (arith, four .some), omega (arith, four .small), a .month .0, a .month .1, a .day .0)
 
 enum-known-why-2 : tie.Need-enum-known-why-2
 enum-known-why-2 c = search needs
@@ -84,9 +96,9 @@ enum-known-why-2 c = search needs
 returns-3 : tie.Need-returns-3
 returns-3 c =
     let found = c .before .before .before in
-    let first = found .before .before in
+    let first = found .before .before .before in
     let told = at-fields first in
-    sym (day-refused (start told .args .t) (fields told) (year first) (reading.day-refused _ _ _ (sym (number-is found) ∙ c .before .why2 .given .1)))
+    sym (day-refused (start told .args .t) (fields told) (year first) (sym (checked-day found) ∙ c .before .why2 .given .1))
 
 enum-told-2 : tie.Need-enum-told-2
 enum-told-2 c = search needs
@@ -119,7 +131,8 @@ stamp-check-spec =
     enum-told
     has-four-digits-requires
     returns-2
-    day-number-requires
+    size-requires
+    day-check-requires
     enum-known-why-2
     returns-3
     enum-told-2

@@ -1,15 +1,14 @@
--- Each refusal in its turn, and the day by its number.
+-- Each refusal in its turn.
 use mathlib.Core.Bool.{true}
 use mathlib.Core.Path.{_≡_, sym, _∙_}
 use native.Mathlib.Omega.{arith}
 use borrow.Author.Needs.{needs}
 use borrow.Author.Tests.{not-true, not-false}
 use lib.IntN.{pos}
-use mir.Facts.{toZ-pos}
-use mir.Syntax.{w32}
-use Rattle.meaning.specs.Days.{dayCheck, dayNumber}
+use Rattle.laws.proofs.StampChecks.{in-range}
+use Rattle.meaning.specs.Days.{dayCheck}
 use Rattle.meaning.specs.Stamps.{inRange, dateTimeCheck}
-use Rattle.stamps.proofs.reading.Checks.{range-refused, second-refused, year-refused, day-left, day-refused, day-numbered}
+use Rattle.stamps.proofs.reading.Checks.{range-refused, second-refused, year-refused, day-left}
 use Rattle.stamps.specs.Found.{dateTimeOf}
 use Rattle.stamps.proofs.reading.check.Statement.{statement}
 use Rattle.stamps.proofs.reading.check.Tie as tie
@@ -27,12 +26,6 @@ first-of c = c .before .before .before .before
 day-is : (c : tie.Else3) → let t = start-1 (first-of c) .args .t in
     dateTimeCheck (dateTimeOf t) ≡ dayCheck (pos (t .year)) (t .month) (t .day)
 day-is c = day-left (dateTimeOf (start-1 (first-of c) .args .t)) (range (first-of c)) (c .before .before .if2 .left) (c .if3 .left)
-
-number-is : (c : tie.After-day-number) → let t = start-1 (first-of (c .before .before)) .args .t in
-    c .day-number .result ≡ dayNumber (pos (t .year)) (t .month) (t .day)
-number-is c =
-    let start = start-1 (first-of (c .before .before)) in
-    rw (toZ-pos w32 {n = start .args .t .year} (omega (arith, start .pre))) at (c .day-number .ensures .whole)
 
 in-range-requires : tie.Need-in-range-requires
 in-range-requires c κs = search needs
@@ -52,39 +45,15 @@ returns-3 c =
     let first = second .before .before in
     sym (year-refused (dateTimeOf (start-1 first .args .t)) (range first) (second .if2 .left) (c .if3 .taken))
 
-cast-day-number : tie.Need-cast-day-number
-cast-day-number c = search needs
-
-day-number-requires : tie.Need-day-number-requires
-day-number-requires c κs = search needs
-
-enum-known-why : tie.Need-enum-known-why
-enum-known-why c = search needs
-
-enum-told : tie.Need-enum-told
-enum-told c = search needs
+day-check-requires : tie.Need-day-check-requires
+day-check-requires c κs =
+    let start = start-1 (first-of c) in
+    let r = in-range (dateTimeOf (start .args .t)) (range (first-of c)) in
+    (omega (arith, c .if3 .left), omega (arith, start .pre), r .month .0, r .month .1, r .day .0)
 
 returns-4 : tie.Need-returns-4
-returns-4 c =
-    let found = c .before .before .before in
-    sym (day-is (found .before .before) ∙ day-refused _ _ _ (sym (number-is found) ∙ c .before .why .given .1))
-
-returns-5 : tie.Need-returns-5
-returns-5 c =
-    let found = c .before .before in
-    sym (day-is (found .before .before) ∙ day-numbered _ _ _ (sym (number-is found) ∙ c .enum-told .given .1))
+returns-4 c = c .day-check .ensures ∙ sym (day-is (c .before))
 
 pub check-spec : {M : Type 1} → statement M
 check-spec =
-    tie.close
-    (tie.spec
-    in-range-requires
-    returns
-    returns-2
-    returns-3
-    cast-day-number
-    day-number-requires
-    enum-known-why
-    enum-told
-    returns-4
-    returns-5)
+    tie.close (tie.spec in-range-requires returns returns-2 returns-3 day-check-requires returns-4)
