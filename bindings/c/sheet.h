@@ -48,9 +48,9 @@ extern "C" {
 /* A writer needs no more than so many bytes of output for each byte of the pattern, so SHEET_LONGEST_TEXT are always enough. */
 #define SHEET_BYTES_A_PATTERN_BYTE 8
 
-/* No call takes more bytes of the stack. As measured on x86-64, a write takes 1,272 at most, with names, a read 1,992,
- * a line of a list 2,040, sheet_day 1,632, which lays a table, opening or writing a book 928, and the other functions under 260. */
-#define SHEET_MOST_STACK 2304
+/* No call takes more bytes of the stack. As measured on x86-64, a write takes 1,272 at most, with names, a read 1,560,
+ * a list 1,912, sheet_day 1,632, which lays a table, opening or writing a book 928, and the other functions under 260. */
+#define SHEET_MOST_STACK 2048
 
 /* But for sheet_mend and sheet_undo, which hold a list of changes. */
 #define SHEET_MEND_STACK 16384

@@ -1,17 +1,17 @@
 // A whole list at once: a text of lines, each read by itself with one pattern, into four lent rows. The checks 1, 2, 3, 14 and 24 stand
 // before anything is stored.
+pub mod cells;
 pub mod counting;
 pub mod line;
 pub mod line_reader;
 pub mod lines;
-pub mod rows;
 
 ghost use Rattle.meaning.specs.Lists.{rowsOf};
 ghost use Rattle.meaning.specs.OpenedBooks.{bookIn};
 ghost use Rattle.meaning.specs.Promises.{ReadsList};
+use crate::cells::read_lines;
+use crate::cells::rows_check;
 use crate::counting::count_lines;
-use crate::rows::read_lines;
-use crate::rows::rows_check;
 use fields::checks::or_else;
 use meaning::Checked;
 use meaning::Choices;

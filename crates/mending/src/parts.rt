@@ -4,21 +4,18 @@ ghost use Prim.Native.Nat.{_+_, _≤_};
 ghost use lib.ListN.{length, drop};
 ghost use Rattle.meaning.specs.Mending as mending;
 ghost use Rattle.meaning.specs.Splitting.{contents};
-ghost use Rattle.meaning.specs.Writing.{stepOf};
+ghost use Rattle.mending.specs.Asked.{passedOver};
 ghost use Rattle.pattern.specs.First.{contentOf};
 ghost use Rattle.pattern.specs.Next.{Next};
 ghost use Rattle.trust.specs.Mending as trust;
-ghost use Rattle.trust.specs.Needs.{stepNeed};
 use meaning::Change;
 use meaning::Edition;
 use meaning::Kind;
-use meaning::Pair;
 use meaning::Part;
 use pattern::quoted::ends_in_quote;
-use rules::step::run_step;
 use trust::Need;
-use verdict::meets;
-use verdict::needs::step_need;
+use trust::Unmet;
+use verdict::first_unmet;
 
 // M, once in the first edition.
 fn month_count(edition: Edition, n: usize) -> usize
@@ -106,23 +103,18 @@ pub fn own_change(edition: Edition, pattern: &[u8], part: Part, at: usize) -> Ch
     }
 }
 
-// What a part needs, after its own change, of the text behind it. A literal needs nothing then.
-fn mended_need(edition: Edition, pattern: &[u8], part: Part) -> Need
-    requires { ⌜ Next (now pattern) (part .start) part ⌝ }
-    ensures { λ r. ⌜ r ≡ stepNeed edition (stepOf Pair.Full (mending.mendPart edition (contentOf (now (pattern .entry)) part))) ⌝ }
+// How many bytes of a part, by its first byte and length, the check is not asked about: yy becomes yyyy, which needs what its
+// second y needs by itself.
+fn passed_over(b: u8, n: usize) -> usize
+    ensures { λ r. ⌜ r ≡ passedOver b n ⌝ }
 {
-    let kind = part.kind;
-    let start = part.start;
-    match kind {
-        Kind::Run => {
-            let b = pattern[start];
-            let n = mended_count(edition, b, part.length);
-            step_need(edition, run_step(Pair::Full, b, n), pattern)
-        }
-        Kind::Quotes => Need::Nothing,
-        Kind::Quoted => Need::Nothing,
-        Kind::Open => Need::Nothing,
+    if b != b'y' {
+        return 0;
     }
+    if n != 2 {
+        return 0;
+    }
+    1
 }
 
 fn spaces_for(need: Need) -> usize
@@ -137,14 +129,16 @@ fn spaces_for(need: Need) -> usize
     }
 }
 
-// How many spaces are put behind a part. The own changes of those behind it do not change what they can begin with.
+// How many spaces are put behind a part. One with another own change has a need that no spaces are put in for, and needs none after
+// it. The own changes of those behind it do not change what they can begin with.
 pub fn spaces_behind(edition: Edition, pattern: &[u8], part: Part) -> usize
     requires { ⌜ Next (now pattern) (part .start) part ⌝ }
     ensures { λ r. ⌜ r ≡ trust.gap edition (contentOf (now (pattern .entry)) part) (contents (drop (part .start + part .length) (now (pattern .entry)))) ⌝ }
 {
-    let need = mended_need(edition, pattern, part);
-    if meets(need, pattern, part.start + part.length) {
-        return 0;
+    let start = part.start;
+    let from = start + passed_over(pattern[start], part.length);
+    match first_unmet(edition, pattern, from, start + part.length) {
+        Unmet::Nowhere => 0,
+        Unmet::At { part: _, need } => spaces_for(need),
     }
-    spaces_for(need)
 }

@@ -32,7 +32,7 @@ pub enum Step {
 }
 
 // The step of so many equal bytes.
-pub fn run_step(pair: Pair, b: u8, count: usize) -> Step
+fn run_step(pair: Pair, b: u8, count: usize) -> Step
     requires { ⌜ 0 < count ⌝ }
     ensures { λ r. ⌜ RunChosen pair b count r ⌝ }
 {

@@ -23,7 +23,8 @@ use Rattle.meaning.specs.declared.Pair.{Pair}
 use Rattle.meaning.specs.declared.Stamp.{Stamp}
 use Rattle.meaning.specs.declared.Verdict.{Verdict}
 use Rattle.meaning.specs.declared.Verdict.the-variants.{Yes, No, Refused}
-use Rattle.sheet.specs.Rows.{inRow, Given, editionOf, ofCheck}
+use Rattle.rows.specs.Rows.{inRow, Given}
+use Rattle.sheet.specs.Numbers.{editionOf, ofCheck}
 use Rattle.sheet.specs.Sheet.{has, ifRoom, ifChoices, verdictIn, SheetWrites, SheetReads, SheetReadsWith, SheetWritesBy, SheetReadsBy, SheetReadsList, SheetReadsLine, SheetOpensBook, SheetWritesBook, SheetTellsRead, SheetParsesOffset, SheetSplits, SheetUnits, SheetChecks, SheetChecksWith, SheetMends, SheetUndoes, SheetDay, SheetDayNumber, SheetReadsStamp, SheetWritesStamp}
 use Rattle.trust.proofs.Agreement.{SameButRecord, answers-coincide}
 

@@ -23,8 +23,8 @@ use Rattle.meaning.specs.declared.Pair.{Pair}
 use Rattle.meaning.specs.declared.Part.{Part}
 use Rattle.meaning.specs.declared.Wrote.{Wrote}
 use Rattle.meaning.specs.declared.Wrote.the-variants as wrote
-use Rattle.sheet.proofs.splits.Parts.{split-fine}
-use Rattle.sheet.specs.Rows.{inRow, Given, laid, partNumbers}
+use Rattle.rows.proofs.splits.Parts.{split-fine}
+use Rattle.rows.specs.Rows.{inRow, Given, laid, partNumbers}
 use Rattle.sheet.specs.Sheet.{has, ifRoom, SheetWrites, SheetSplits}
 
 -- a row that starts with n, and has a zero behind it

@@ -16,9 +16,9 @@ use Rattle.meaning.specs.declared.Checked.the-variants.{Fine, Refused}
 use Rattle.meaning.specs.declared.Choices.{Choices}
 use Rattle.meaning.specs.declared.Edition.{Edition}
 use Rattle.meaning.specs.declared.Refusal.the-variants.{ShortRow}
-use Rattle.sheet.proofs.Fits.{pattern-fits, year-fits}
-use Rattle.sheet.proofs.entries.Fits.{else-fits, unless-fits}
-use Rattle.sheet.specs.Fits.{NumberFits, CheckedFits, ListedFits}
+use Rattle.rows.proofs.Fits.{pattern-fits, year-fits}
+use Rattle.rows.proofs.entries.Fits.{else-fits, unless-fits}
+use Rattle.rows.specs.Fits.{NumberFits, CheckedFits, ListedFits}
 
 -- how many lines
 

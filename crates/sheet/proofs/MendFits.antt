@@ -26,9 +26,9 @@ use Rattle.mending.proofs.undoing.Laws.{fits-is}
 use Rattle.trust.proofs.MendedSizes.{few-changes}
 use Rattle.trust.proofs.Undoing.{changes-undone}
 use Rattle.trust.specs.Mending.{mended, changes, mendCheck, mendedBy, mend}
-use Rattle.sheet.proofs.Fits.{pattern-fits, year-fits}
-use Rattle.sheet.proofs.entries.Fits.{else-fits, unless-fits}
-use Rattle.sheet.specs.Fits.{NumberFits, CheckedFits, ChangeFits, AllChangesFit, MendedFits, UndoneFits}
+use Rattle.rows.proofs.Fits.{pattern-fits, year-fits}
+use Rattle.rows.proofs.entries.Fits.{else-fits, unless-fits}
+use Rattle.rows.specs.Fits.{NumberFits, CheckedFits, AllChangesFit, MendedFits, UndoneFits}
 
 -- changes
 
@@ -41,12 +41,6 @@ none-fit : (n : ℕ) → AllChangesFit (replicate n noChange)
 unfolding AllChangesFit
 none-fit zero = tt
 none-fit (suc n) = ((omega arith, omega arith, omega arith), none-fit n)
-
-pub change-fits : (cs : List Change) → AllChangesFit cs → (i : ℕ) → ChangeFits (getD cs i noChange)
-unfolding AllChangesFit
-change-fits [] h i = (omega arith, omega arith, omega arith)
-change-fits (c ∷ cs) h zero = h .0
-change-fits (c ∷ cs) h (suc i) = change-fits cs (h .1) i
 
 -- those that fit a pattern
 standing-fit : (p : List ℕ) (at : ℕ) (cs : List Change) → NumberFits (length p) → allFit p at cs ≡ true → AllChangesFit cs

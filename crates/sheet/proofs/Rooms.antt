@@ -1,26 +1,14 @@
--- An answer that fills its row with no zeros, as a reading does; one where the lent row has room for it, and where it has none; one by
--- choices and one by a book.
+-- An answer where the lent row has room for it, and where it has none; one by choices and one by a book.
 use mathlib.Core.Bool.{Bool, true, false}
-use mathlib.Core.List.{List, _∷_, _++_, map, append-nil}
+use mathlib.Core.List.{List}
 use mathlib.Core.Path.{_≡_, refl}
 use Prim.Native.Nat.{ℕ, _≤_, _<_}
-use native.Mathlib.Nat.{sub-self}
 use borrow.Author.Tests.{le-leb, lt-leb}
-use lib.IntN.{ℤ, pos}
-use lib.ListN.{length, length-append, length-map}
-use Rattle.meaning.specs.Answers.{Answer, accepted}
-use Rattle.meaning.specs.declared.Reading.{Reading}
-use Rattle.sheet.specs.Rows.{inRow, Given, laid}
+use lib.IntN.{ℤ}
+use lib.ListN.{length}
+use Rattle.meaning.specs.Answers.{Answer}
+use Rattle.rows.specs.Rows.{inRow, Given, laid}
 use Rattle.sheet.specs.Sheet.{has, ifRoom, ifChoices, ifBook, InTwoRows}
-
-pub full : {old new vs : List ℤ} {r : ℕ} (n : ℕ) → length vs ≡ n → Given (accepted vs) old new r → Given (inRow n (accepted vs)) old new r
-full {vs = vs} n long given = rw (long, sub-self n, append-nil vs) given
-
--- the row of a reading
-pub row-long : (r : Reading) → length (r .values) ≡ 15 → length (r .starts) ≡ 15 → length (r .ends) ≡ 15
-    → length (pos (r .taken) ∷ pos (r .mask) ∷ pos (r .units) ∷ r .values ++ map pos (r .starts) ++ map pos (r .ends)) ≡ 48
-row-long r h k l =
-    rw (length-append, length-append, length-map (r .starts) pos, length-map (r .ends) pos, h, k, l)
 
 module _ (n : ℕ) (row : List ℤ) (answer : Answer) where
   pub room : {new : List ℤ} {r : ℕ} → n ≤ length row → Given (inRow n answer) row new r → Given (ifRoom (has n row) (inRow n answer)) row new r

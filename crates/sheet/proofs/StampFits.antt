@@ -22,9 +22,10 @@ use Rattle.meaning.specs.declared.Stamp.{Stamp}
 use Rattle.meaning.specs.declared.Stamped.{Stamped}
 use Rattle.meaning.specs.declared.Stamped.the-variants as stamped
 use Rattle.stamps.proofs.writing.Lengths.{text-short}
-use Rattle.sheet.proofs.Fits.{fields-fit, text-fits, day-fits, wrote-fits}
-use Rattle.sheet.proofs.entries.Fits.{else-fits, unless-fits}
-use Rattle.sheet.specs.Fits.{NumberFits, WhyFits, CheckedFits, WroteFits, StampedFits}
+use Rattle.rows.proofs.Fits.{text-fits}
+use Rattle.sheet.proofs.Fits.{fields-fit, day-fits, wrote-fits}
+use Rattle.rows.proofs.entries.Fits.{else-fits, unless-fits}
+use Rattle.rows.specs.Fits.{NumberFits, WhyFits, CheckedFits, WroteFits, StampedFits}
 
 -- reading: 26, 27, 28, 17
 

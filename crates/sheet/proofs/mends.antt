@@ -1,3 +1,1 @@
 mod Answers
-mod Changes
-mod Counts

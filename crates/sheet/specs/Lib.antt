@@ -1,3 +1,2 @@
-pub mod Rows
-pub mod Fits
+pub mod Numbers
 pub mod Sheet

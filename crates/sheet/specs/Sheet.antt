@@ -26,7 +26,9 @@ use Rattle.meaning.specs.declared.Fields.{Fields}
 use Rattle.meaning.specs.declared.Pair.{Pair}
 use Rattle.meaning.specs.declared.Stamp.{Stamp}
 use Rattle.meaning.specs.declared.Verdict.{Verdict}
-use Rattle.sheet.specs.Rows.{inRow, inLine, Given, laid, pairOf, editionOf, choicesOf, ofReading, ofCheck, isBook, isMark, isMarked, splitNumbers, unitEntries, mendedCounts, mendNumbers, holdsChanges, changesHeld, undoneBy, inUndone}
+use Rattle.rows.specs.Changes.{mendedCounts, mendNumbers, holdsChanges, changesHeld, undoneBy, inUndone}
+use Rattle.rows.specs.Rows.{inRow, Given, laid, inLine, splitNumbers, unitEntries}
+use Rattle.sheet.specs.Numbers.{pairOf, editionOf, choicesOf, ofReading, ofCheck, isBook, isMark, isMarked}
 use Rattle.trust.specs.Mending.{mend, mendOutput}
 
 -- whether a row has so many entries

@@ -1,41 +1,37 @@
 // The functions for C and Rust. Each that is lent a row returns 0 where it accepts and the specification's number where it refuses, and
 // lays its answer over the row's start. Where the row is too small for the answer it returns 100 and alters nothing.
-pub mod answers;
-pub mod days;
-pub mod entries;
 pub mod listed;
 pub mod mends;
 pub mod named;
-pub mod readings;
-pub mod splits;
+pub mod numbers;
 pub mod stamped;
-pub mod units;
-pub mod verdicts;
 
 ghost use Rattle.meaning.specs.Names.{english};
 ghost use Rattle.meaning.specs.OpenedBooks.{bookIn};
 ghost use Rattle.meaning.specs.Whole.{plain};
 ghost use Rattle.sheet.specs.Sheet.{SheetWrites, SheetReads, SheetReadsWith, SheetParsesOffset, SheetSplits, SheetUnits, SheetChecks, SheetChecksWith, SheetTellsRead, SheetDay, SheetDayNumber};
-use crate::answers::give_offset;
-use crate::answers::give_wrote;
-use crate::days::give_day;
-use crate::days::give_day_number;
-use crate::readings::choices_of;
-use crate::readings::edition_of;
-use crate::readings::give_reading;
-use crate::readings::is_marked;
-use crate::splits::give_split;
-use crate::units::give_units;
-use crate::verdicts::give_verdict;
+use crate::numbers::choices_of;
+use crate::numbers::edition_of;
+use crate::numbers::is_marked;
 use calendar::day_number;
 use calendar::day_of;
+use meaning::Checked;
 use meaning::Choices;
 use meaning::Edition;
 use meaning::Fields;
 use meaning::Pair;
+use reader::checks::once_check;
 use reader::offset::parse_offset;
-use reader::parse_with;
 use reader::plain;
+use rows::answers::give_offset;
+use rows::answers::give_refusal;
+use rows::answers::give_wrote;
+use rows::days::give_day;
+use rows::days::give_day_number;
+use rows::readings::read_row;
+use rows::splits::give_split;
+use rows::units::give_units;
+use rows::verdicts::give_verdict;
 use verdict::verdict_on;
 use writer::format_with;
 
@@ -61,7 +57,11 @@ fn read(
     if row.len() < 48 {
         return 100;
     }
-    give_reading(parse_with(choices, book, pattern, text, year), row)
+    let edition = choices.edition;
+    match once_check(edition, pattern, year) {
+        Checked::Fine => read_row(choices, book, pattern, text, year, row),
+        Checked::Refused(why) => give_refusal(why, 48, row),
+    }
 }
 
 // The full pair's writer. The row: the length and 0, or the refusal's details.

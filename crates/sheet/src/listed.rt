@@ -4,21 +4,21 @@ ghost use lib.ListN.{length};
 ghost use Rattle.meaning.specs.Answers.{listAnswer};
 ghost use Rattle.meaning.specs.Lists.{rowsOf, readLine};
 ghost use Rattle.meaning.specs.OpenedBooks.{bookIn};
-ghost use Rattle.sheet.specs.Fits.{ListedFits};
-ghost use Rattle.sheet.specs.Rows.{inRow, inLine, Given};
+ghost use Rattle.rows.specs.Fits.{ListedFits};
+ghost use Rattle.rows.specs.Rows.{inRow, Given, inLine};
 ghost use Rattle.sheet.specs.Sheet.{SheetReadsList, SheetReadsLine};
-use crate::answers::give_count;
-use crate::answers::give_refusal;
-use crate::entries::entry;
-use crate::entries::lay;
+use crate::numbers::choices_of;
+use crate::numbers::is_book;
 use crate::read;
-use crate::readings::choices_of;
-use crate::readings::is_book;
 use lists::lines::line_end;
 use lists::lines::next_line;
 use lists::read_list;
 use meaning::Choices;
 use meaning::Listed;
+use rows::answers::give_count;
+use rows::answers::give_refusal;
+use rows::entries::entry;
+use rows::entries::lay;
 
 fn give_listed(listed: Listed, row: &mut [i64]) -> u32
     requires { ⌜ (2 ≤ length (now row)) × ListedFits listed ⌝ }

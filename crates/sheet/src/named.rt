@@ -1,15 +1,15 @@
 // Name books, for C and Rust: one opened, one written, and texts written and read with a lent one. A row that is no book is answered
 // 102, and nothing is altered.
 ghost use Rattle.sheet.specs.Sheet.{SheetOpensBook, SheetWritesBook, SheetWritesBy, SheetReadsBy};
-use crate::answers::give_wrote;
+use crate::numbers::choices_of;
+use crate::numbers::is_book;
+use crate::numbers::pair_of;
 use crate::read;
-use crate::readings::choices_of;
-use crate::readings::is_book;
-use crate::readings::pair_of;
 use crate::write;
 use books::read_book;
 use books::write_book;
 use meaning::Fields;
+use rows::answers::give_wrote;
 
 // A book opened: its bytes into a lent row of 1,344 bytes or more. The row of the answer: 1344 and 0, or the refusal's details.
 #[no_mangle]

@@ -1,11 +1,13 @@
 -- Demand 3: the check. A part holds where what can follow it meets its need; the first that does not is shown with a record
 -- for which it fails; and the whole answer, "the check 1, 2, 3, 14" first.
 use mathlib.Core.Bool.{Bool, true, false, not}
-use mathlib.Core.List.{List, [], _∷_}
-use Prim.Native.Nat.{ℕ, suc}
+use mathlib.Core.List.{List, [], _∷_, map}
+use Prim.Native.Nat.{ℕ, suc, _-_}
+use lib.Dec.{ltb}
 use lib.IntN.{ℤ, pos, negℤ}
+use Rattle.meaning.specs.Splitting.{Content, lengthOf}
 use Rattle.meaning.specs.Trust.{trustCheck}
-use Rattle.meaning.specs.Writing.{Step, steps}
+use Rattle.meaning.specs.Writing.{Step, stepOf, steps}
 use Rattle.meaning.specs.declared.Checked.{Checked}
 use Rattle.meaning.specs.declared.Checked.the-variants.{Fine, Refused}
 use Rattle.meaning.specs.declared.Edition.{Edition}
@@ -17,6 +19,8 @@ use Rattle.trust.specs.Ahead.{digitFirst, digitSecond}
 use Rattle.trust.specs.Needs.{stepNeed}
 use Rattle.trust.specs.declared.Need.{Need}
 use Rattle.trust.specs.declared.Need.the-variants.{Nothing, NoDigit, NoSecondDigit, Broken, LosesYear}
+use Rattle.trust.specs.declared.Unmet.{Unmet}
+use Rattle.trust.specs.declared.Unmet.the-variants.{Nowhere, At}
 
 -- whether what these parts can write meets a need
 unfoldable pub meets : Need → List Step → Bool
@@ -80,6 +84,25 @@ firstFailing edition i (s ∷ ss) =
       | true ↦ firstFailing edition (suc i) ss
       | false ↦ verdict.No i (witness (stepNeed edition s))
     ]
+
+-- the same of the parts that start in the next n bytes, with the need that is not met; of all parts, `shown` is what the check
+-- answers (`shown-failing` of proofs/Turns)
+unfoldable pub firstUnmet : Edition → ℕ → ℕ → List Content → Unmet
+unfolding stepOf stepNeed meets lengthOf
+firstUnmet edition n i [] = Nowhere
+firstUnmet edition n i (c ∷ cs) =
+    elim (ltb 0 n) [
+      | true ↦
+          elim (meets (stepNeed edition (stepOf Full c)) (map (stepOf Full) cs)) [
+            | true ↦ firstUnmet edition (n - lengthOf c) (suc i) cs
+            | false ↦ At i (stepNeed edition (stepOf Full c))
+          ]
+      | false ↦ Nowhere
+    ]
+
+abbrev pub shown : Unmet → Verdict
+shown Nowhere = verdict.Yes
+shown (At part need) = verdict.No part (witness need)
 
 -- a refusal, or else what is found of the parts
 abbrev pub verdictBy : Checked → Verdict → Verdict

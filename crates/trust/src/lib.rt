@@ -10,6 +10,12 @@ pub enum Need {
     LosesYear,
 }
 
+// The first of some parts whose need is not met, counted from 0, and that need; or none of them.
+pub enum Unmet {
+    Nowhere,
+    At { part: usize, need: Need },
+}
+
 // How the names of a list begin: with a digit; with a letter, which is all; with two bytes that are no digits.
 pub enum Opening {
     Digit,

@@ -4,7 +4,9 @@ pub mod lookahead;
 pub mod needs;
 
 ghost use mathlib.Core.Path.{_≡_};
-ghost use lib.ListN.{drop};
+ghost use Prim.Native.Nat.{_-_, _≤_};
+ghost use lib.ListN.{length, drop};
+ghost use Rattle.meaning.specs.Splitting.{contents};
 ghost use Rattle.meaning.specs.Trust.{Says, trustCheck};
 ghost use Rattle.meaning.specs.Writing.{steps};
 ghost use Rattle.trust.specs.Check as trust;
@@ -22,9 +24,10 @@ use pattern::checks::quoted_check;
 use pattern::parts::next_part;
 use rules::step::step_of;
 use trust::Need;
+use trust::Unmet;
 
 // Whether what the parts from a place on can write meets a need.
-pub fn meets(need: Need, pattern: &[u8], place: usize) -> bool
+fn meets(need: Need, pattern: &[u8], place: usize) -> bool
     ensures { λ r. ⌜ r ≡ trust.meets need (steps Pair.Full (drop place (now (pattern .entry)))) ⌝ }
 {
     match need {
@@ -96,24 +99,36 @@ fn witness(need: Need) -> Fields
     }
 }
 
-fn first_failing(edition: Edition, pattern: &[u8]) -> Verdict
-    ensures { λ r. ⌜ r ≡ trust.firstFailing edition 0 (steps Pair.Full (now (pattern .entry))) ⌝ }
+// What the check answers, by the first part whose need is not met.
+fn shown(unmet: Unmet) -> Verdict
+    ensures { λ r. ⌜ r ≡ trust.shown unmet ⌝ }
 {
-    let mut place = 0;
+    match unmet {
+        Unmet::Nowhere => Verdict::Yes,
+        Unmet::At { part, need } => Verdict::No {
+            part,
+            record: witness(need),
+        },
+    }
+}
+
+// The first of the parts that start from a place on and before another whose need those behind it do not meet.
+pub fn first_unmet(edition: Edition, pattern: &[u8], from: usize, to: usize) -> Unmet
+    requires { ⌜ to ≤ length (now pattern) ⌝ }
+    ensures { λ r. ⌜ r ≡ trust.firstUnmet edition (to - from) 0 (contents (drop from (now (pattern .entry)))) ⌝ }
+{
+    let mut place = from;
     let mut i = 0;
-    while place < pattern.len() {
+    while place < to {
         let part = next_part(pattern, place);
         let need = step_need(edition, step_of(Pair::Full, pattern, part), pattern);
         place += part.length;
         if !meets(need, pattern, place) {
-            return Verdict::No {
-                part: i,
-                record: witness(need),
-            };
+            return Unmet::At { part: i, need };
         }
         i += 1;
     }
-    Verdict::Yes
+    Unmet::Nowhere
 }
 
 pub fn trust_check(edition: Edition, pattern: &[u8], year: i32) -> Checked
@@ -130,7 +145,7 @@ pub fn verdict_on(edition: Edition, pattern: &[u8], year: i32) -> Verdict
     ensures { λ r. ⌜ Says edition (now (pattern .entry)) year r ⌝ }
 {
     match trust_check(edition, pattern, year) {
-        Checked::Fine => first_failing(edition, pattern),
+        Checked::Fine => shown(first_unmet(edition, pattern, 0, pattern.len())),
         Checked::Refused(why) => Verdict::Refused(why),
     }
 }

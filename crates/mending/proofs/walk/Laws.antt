@@ -10,7 +10,8 @@ use Rattle.meaning.specs.Splitting.{contents, lengthOf}
 use Rattle.meaning.specs.declared.Change.{Change}
 use Rattle.meaning.specs.declared.Edition.{Edition}
 use Rattle.meaning.specs.declared.Part.{Part}
-use Rattle.mending.proofs.parts.Laws.{own-grows, own-bytes, own-length, part-bytes, part-long}
+use Rattle.mending.proofs.parts.Laws.{own-grows, own-bytes, own-length, part-bytes}
+use Rattle.pattern.proofs.parts.Walks.{part-long}
 use Rattle.pattern.specs.First.{contentOf}
 use Rattle.pattern.specs.Next.{Next}
 use Rattle.trust.proofs.MendedSizes as sizes

@@ -6,8 +6,8 @@ use native.Mathlib.Omega.{arith}
 use lib.IntN.{ℤ}
 use lib.ListN.{length, take, drop}
 use lib.Seq.{sets, take-length, drop-length}
-use Rattle.sheet.proofs.Laying.{laid-behind}
-use Rattle.sheet.specs.Rows.{laid}
+use Rattle.rows.proofs.Laying.{laid-behind}
+use Rattle.rows.specs.Rows.{laid}
 
 sets-past : (z : ℤ) (row : List ℤ) (i : ℕ) (ns : List ℤ) → sets (z ∷ row) (suc i) ns ≡ z ∷ sets row i ns
 sets-past z row i [] = refl

@@ -9,7 +9,9 @@ use lib.IntN.{ℤ}
 use lib.ListN.{length}
 use Rattle.laws.proofs.Tests.{both-no}
 use Rattle.meaning.specs.declared.Mended.{Mended}
-use Rattle.sheet.specs.Rows.{Given, inRow, laid, editionOf, ofCheck, mendedCounts, mendNumbers}
+use Rattle.rows.specs.Changes.{mendedCounts, mendNumbers}
+use Rattle.rows.specs.Rows.{Given, inRow, laid}
+use Rattle.sheet.specs.Numbers.{editionOf, ofCheck}
 use Rattle.sheet.specs.Sheet.{has, SheetMends}
 use Rattle.trust.specs.Mending.{mend, mendOutput}
 

@@ -14,7 +14,7 @@ use Rattle.laws.proofs.Tests.{both-no}
 use Rattle.trust.proofs.Verdicts.{verdict-says}
 use Rattle.trust.specs.Check.{verdictOf}
 use Rattle.sheet.proofs.Rooms.{chosen, no-choices}
-use Rattle.sheet.specs.Rows.{editionOf, ofCheck}
+use Rattle.sheet.specs.Numbers.{editionOf, ofCheck}
 use Rattle.sheet.specs.Sheet.{verdictIn}
 use Rattle.sheet.proofs.sheet_check_with.Statement.{statement}
 use Rattle.sheet.proofs.sheet_check_with.Tie as tie

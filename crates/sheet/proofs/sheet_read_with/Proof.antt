@@ -7,7 +7,7 @@ use mir.ValLaws.{toZ-ofZ}
 use Rattle.meaning.proofs.Books.{english-unopened}
 use Rattle.meaning.specs.Names.{english}
 use Rattle.sheet.proofs.Rooms.{chosen, no-choices}
-use Rattle.sheet.specs.Rows.{choicesOf, ofReading}
+use Rattle.sheet.specs.Numbers.{choicesOf, ofReading}
 use Rattle.sheet.specs.Sheet.{readOf}
 use borrow.Author.Needs.{needs}
 use Rattle.sheet.proofs.sheet_read_with.Statement.{statement}

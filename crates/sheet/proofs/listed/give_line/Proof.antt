@@ -15,9 +15,9 @@ use Rattle.laws.specs.Lists.{lineEnd, nextLine}
 use Rattle.meaning.specs.Answers.{readAnswer}
 use Rattle.meaning.specs.OpenedBooks.{bookIn}
 use Rattle.meaning.specs.Whole.{read}
-use Rattle.sheet.proofs.entries.Stored.{stored}
+use Rattle.rows.proofs.entries.Stored.{stored}
 use Rattle.sheet.proofs.listed.Behind.{part, part-behind}
-use Rattle.sheet.specs.Rows.{inRow, laid}
+use Rattle.rows.specs.Rows.{inRow, laid}
 use Rattle.sheet.proofs.listed.give_line.Statement.{statement}
 use Rattle.sheet.proofs.listed.give_line.Tie as tie
 

@@ -9,7 +9,7 @@ use mir.Syntax.{w32}
 use mir.ValLaws.{toZ-ofZ}
 use Rattle.meaning.specs.OpenedBooks.{bookIn}
 use Rattle.laws.proofs.Lists.{no-line-read}
-use Rattle.sheet.specs.Rows.{choicesOf}
+use Rattle.sheet.specs.Numbers.{choicesOf}
 use Rattle.sheet.proofs.listed.sheet_read_line.Statement.{statement}
 use Rattle.sheet.proofs.listed.sheet_read_line.Tie as tie
 

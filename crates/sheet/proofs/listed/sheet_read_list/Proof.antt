@@ -10,7 +10,7 @@ use mir.ValLaws.{toZ-ofZ}
 use Rattle.meaning.specs.Lists.{rowsOf}
 use Rattle.meaning.specs.OpenedBooks.{bookIn}
 use Rattle.sheet.proofs.ListFits.{list-fits}
-use Rattle.sheet.specs.Rows.{choicesOf}
+use Rattle.sheet.specs.Numbers.{choicesOf}
 use Rattle.sheet.proofs.listed.sheet_read_list.Statement.{statement}
 use Rattle.sheet.proofs.listed.sheet_read_list.Tie as tie
 

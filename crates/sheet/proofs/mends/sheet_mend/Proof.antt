@@ -12,7 +12,7 @@ use native.Mathlib.Omega.{arith}
 use Rattle.laws.proofs.Tests.{both-no}
 use Rattle.sheet.proofs.MendFits.{mend-fits}
 use Rattle.sheet.proofs.mends.Answers.{no-choices, no-room, given}
-use Rattle.sheet.specs.Rows.{editionOf, ofCheck}
+use Rattle.sheet.specs.Numbers.{editionOf, ofCheck}
 use borrow.Author.Needs.{needs}
 use Rattle.sheet.proofs.mends.sheet_mend.Statement.{statement}
 use Rattle.sheet.proofs.mends.sheet_mend.Tie as tie

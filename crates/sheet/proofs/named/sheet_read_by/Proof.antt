@@ -7,7 +7,7 @@ use mir.Syntax.{w32}
 use mir.ValLaws.{toZ-ofZ}
 use Rattle.meaning.specs.OpenedBooks.{bookIn}
 use Rattle.sheet.proofs.Rooms.{chosen, no-choices, by-book, no-book}
-use Rattle.sheet.specs.Rows.{choicesOf, ofReading, isBook}
+use Rattle.sheet.specs.Numbers.{choicesOf, ofReading, isBook}
 use Rattle.sheet.specs.Sheet.{ifBook, readOf}
 use borrow.Author.Needs.{needs}
 use Rattle.sheet.proofs.named.sheet_read_by.Statement.{statement}

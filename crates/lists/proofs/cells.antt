@@ -1,0 +1,2 @@
+mod Line
+mod Stored
