@@ -88,7 +88,7 @@ day-check-requires c κs =
     let sized = rw (toZ-ofZ fits) at (c .size .ensures) in
     let four = four-digits (t .year) (year first) in
     let a = allowed (stampFields t) (fields (at-fields first)) in
-    (omega (arith, four .some), omega (arith, four .small), a .month .0, a .month .1, a .day .0)
+    (omega (arith, four .some), omega (arith, four .small), omega (arith, a .month), omega (arith, a .month), omega (arith, a .day))
 
 enum-known-why-2 : tie.Need-enum-known-why-2
 enum-known-why-2 c = search needs

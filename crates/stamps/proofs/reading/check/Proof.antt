@@ -49,7 +49,7 @@ day-check-requires : tie.Need-day-check-requires
 day-check-requires c κs =
     let start = start-1 (first-of c) in
     let r = in-range (dateTimeOf (start .args .t)) (range (first-of c)) in
-    (omega (arith, c .if3 .left), omega (arith, start .pre), r .month .0, r .month .1, r .day .0)
+    (omega (arith, c .if3 .left), omega (arith, start .pre), omega (arith, r .month), omega (arith, r .month), omega (arith, r .day))
 
 returns-4 : tie.Need-returns-4
 returns-4 c = c .day-check .ensures ∙ sym (day-is (c .before))
