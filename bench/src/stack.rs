@@ -136,6 +136,22 @@ fn of_check(pattern: &[u8]) -> usize {
     })
 }
 
+/// A pattern mended, and its changes undone.
+fn of_mend(pattern: &[u8]) -> [usize; 2] {
+    let (mut mended, mut undone) = ([0; raw::LONGEST_PATTERN], [0; raw::LONGEST_PATTERN]);
+    let mut changes = [0; raw::CHANGES_ROW];
+    let mut answer = [0; raw::MEND_ANSWER];
+    let (p, c) = ((pattern.as_ptr(), pattern.len()), (changes.as_mut_ptr(), changes.len()));
+    let (m, u) = ((mended.as_mut_ptr(), mended.len()), (undone.as_mut_ptr(), undone.len()));
+    let row = (answer.as_mut_ptr(), answer.len());
+    // SAFETY: each pointer goes with the length of the slice that it comes from; and likewise below.
+    let mend = depth(|| unsafe { raw::sheet_mend(0, p.0, p.1, CURRENT_YEAR, m.0, m.1, c.0, c.1, row.0, row.1) });
+    let (length, used) = (answer[0] as usize, raw::CHANGE * answer[1] as usize);
+    let row = (answer.as_mut_ptr(), answer.len());
+    let undo = depth(|| unsafe { raw::sheet_undo(m.0, length, c.0, used, u.0, u.1, row.0, row.1) });
+    [mend, undo]
+}
+
 /// A write and the read of what it wrote, by the book.
 fn of_both_by(book: &[u8], pattern: &[u8], f: &Fields, text: &[u8]) -> [usize; 2] {
     let (mut wrote, mut read) = ([0; raw::WRITE_ANSWER], [0; raw::READ_ANSWER]);
@@ -264,6 +280,7 @@ fn depths(book: &[u8], pattern: &[u8], f: &Fields) -> Vec<usize> {
     let text = out[..length].to_vec();
     let [write_by, read_by] = of_both_by(book, pattern, f, &text);
     let [list, line] = of_lists(book, pattern, &text);
+    let [mend, undo] = of_mend(pattern);
     vec![
         write,
         of_write(raw::sheet_write, pattern, f, &mut out[..length]).0,
@@ -276,12 +293,14 @@ fn depths(book: &[u8], pattern: &[u8], f: &Fields) -> Vec<usize> {
         list,
         line,
         of_check(pattern),
+        mend,
+        undo,
         of_rows(raw::sheet_split, pattern),
         of_rows(raw::sheet_units, pattern),
     ]
 }
 
-const FUNCTIONS: [&str; 13] = [
+const FUNCTIONS: [&str; 15] = [
     "write",
     "write, room to the byte",
     "write, a byte too little",
@@ -293,6 +312,8 @@ const FUNCTIONS: [&str; 13] = [
     "read_list by a book",
     "read_line by a book",
     "check",
+    "mend",
+    "undo",
     "split",
     "units",
 ];

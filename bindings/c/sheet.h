@@ -49,11 +49,11 @@ extern "C" {
 #define SHEET_BYTES_A_PATTERN_BYTE 8
 
 /* No call takes more bytes of the stack. As measured on x86-64, a write takes 1,272 at most, with names, a read 1,560,
- * a list 1,912, sheet_day 1,632, which lays a table, opening or writing a book 928, and the other functions under 260. */
+ * a list 1,912, sheet_day 1,632, which lays a table, opening or writing a book 928, and the other functions 320 at most. */
 #define SHEET_MOST_STACK 2048
 
-/* But for sheet_mend and sheet_undo, which hold a list of changes. */
-#define SHEET_MEND_STACK 16384
+/* But for sheet_mend and sheet_undo, which hold a list of changes, and take 8,576 and 8,328 as measured. */
+#define SHEET_MEND_STACK 8960
 
 /* An opened book: 64 rooms of 21 bytes, one for each name in book order. In a room stand a byte that is the length of the name,
  * the name, which has 20 letters at most, and then zeros. */

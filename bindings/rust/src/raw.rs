@@ -9,7 +9,7 @@ pub const BYTES_A_PATTERN_BYTE: usize = 8;
 /// The most bytes of the stack that a call takes.
 pub const MOST_STACK: usize = 2048;
 /// The most bytes of the stack that a call of [`sheet_mend`] or [`sheet_undo`] takes.
-pub const MEND_STACK: usize = 16384;
+pub const MEND_STACK: usize = 8960;
 
 /// How many bytes an opened book has.
 pub const BOOK_ROW: usize = BOOK_ROOMS * NAME_ROOM;

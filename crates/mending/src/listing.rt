@@ -1,10 +1,9 @@
 // The list of the changes.
 ghost use mathlib.Core.List.{[]};
 ghost use mathlib.Core.Path.{_≡_};
-ghost use Prim.Native.Nat.{_+_, _≤_};
+ghost use Prim.Native.Nat.{_≤_};
 ghost use lib.ListN.{length};
-ghost use Rattle.meaning.specs.Mending.{listed, noChange, changesOf};
-ghost use Rattle.mending.specs.Listing.{withChange};
+ghost use Rattle.meaning.specs.Mending.{noChange, changesOf};
 ghost use Rattle.trust.specs.Mending.{mended, changes};
 use crate::parts::own_change;
 use crate::parts::spaces_behind;
@@ -36,49 +35,37 @@ pub fn no_changes() -> Changes
     }
 }
 
-// A list with one more change; as often as before is none.
-fn with_change(list: Changes, change: Change) -> Changes
-    requires { ⌜ list .used + length (listed change) ≤ 128 ⌝ }
-    ensures { λ r. ⌜ r ≡ withChange list change ⌝ }
-{
-    if change.before == change.after {
-        return list;
-    }
-    let used = list.used;
-    let mut listed = list.listed;
-    listed[used] = change;
-    Changes {
-        listed: listed,
-        used: used + 1,
-    }
-}
-
 // The changes of a pattern whose mended pattern has at most 256 bytes.
 pub fn list_changes(edition: Edition, pattern: &[u8]) -> Changes
     requires { ⌜ length (now pattern) ≤ 256 ⌝ }
     requires { ⌜ length (mended edition (now pattern)) ≤ 256 ⌝ }
     ensures { λ r. ⌜ r ≡ changesOf (changes edition (now (pattern .entry))) ⌝ }
 {
-    let mut list = no_changes();
+    let empty = no_change();
+    let mut listed = [empty; 128];
+    let mut used = 0;
     let mut at = 0;
     let mut place = 0;
     while place < pattern.len() {
         let part = next_part(pattern, place);
         let own = own_change(edition, pattern, part, at);
         let spaces = spaces_behind(edition, pattern, part);
-        list = with_change(list, own);
+        if own.before != own.after {
+            listed[used] = own;
+            used += 1;
+        }
         at += part.length + (own.after - own.before);
-        list = with_change(
-            list,
-            Change {
+        if 0 < spaces {
+            listed[used] = Change {
                 place: at,
                 byte: b' ',
                 before: 0,
                 after: spaces,
-            },
-        );
+            };
+            used += 1;
+        }
         at += spaces;
         place += part.length;
     }
-    list
+    Changes { listed, used }
 }

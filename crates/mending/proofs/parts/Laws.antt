@@ -182,7 +182,8 @@ module _ (edition : Edition) (behind : List Step) where
       by-change edition (λ c d. spaces d ≡ spaces (asked c)) (λ c same. rw (unchanged-asked edition c same)) (λ first. rw first) refl refl refl
       (λ s ends. rw ends)
 
-gap-asked : (edition : Edition) (c : Content) (q : List ℕ) → gap edition c (contents q) ≡ spacesBefore (stepNeed edition (stepOf Full (asked c))) (steps Full q)
+gap-asked : (edition : Edition) (c : Content) (q : List ℕ)
+    → gap edition c (contents q) ≡ spacesBefore (stepNeed edition (stepOf Full (asked c))) (steps Full q)
 unfolding gap steps
 gap-asked edition c q =
     let need = stepNeed edition (stepOf Full (mendPart edition c)) in

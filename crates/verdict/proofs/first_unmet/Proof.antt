@@ -21,11 +21,11 @@ use Rattle.verdict.proofs.first_unmet.Statement.{statement}
 use Rattle.verdict.proofs.first_unmet.Tie as tie
 
 abbrev Inv-loop : tie.InvT-loop
-Inv-loop edition pattern from to place₀ i₀ place i =
-    (firstUnmet edition (to - place) i (contents (drop place pattern)) ≡ firstUnmet edition (to - from) 0 (contents (drop from pattern))) × (i ≤ place)
+Inv-loop edition p from to place₀ i₀ place i =
+    (firstUnmet edition (to - place) i (contents (drop place p)) ≡ firstUnmet edition (to - from) 0 (contents (drop from p))) × (i ≤ place)
 
 abbrev μ-loop : tie.MeasureT-loop
-μ-loop edition pattern from to place₀ i₀ place i = to - place
+μ-loop edition p from to place₀ i₀ place i = to - place
 
 loop-holds : tie.Need-loop-holds Inv-loop μ-loop
 loop-holds c = (refl, omega arith)
