@@ -155,7 +155,7 @@ fn compared<T>(op: &'static str, table: &[T], by: &[By<T>], java: &[java::Told])
 pub fn table() -> Result<String, String> {
     let days = days();
     let dates = dates(&days);
-    let java = java::told(SEED, COUNT);
+    let java = java::told("Days", SEED, COUNT);
     let by = contenders();
     let of_days: Vec<By<i32>> = by.iter().map(|one| (one.name, one.days)).collect();
     let of_numbers: Vec<By<Ymd>> = by.iter().map(|one| (one.name, one.numbers)).collect();

@@ -5,22 +5,22 @@ use std::process::Command;
 
 pub const NAME: &str = "java.time";
 
-/// What it tells of one op: the least ns a call, and the sum over all days.
+/// What it tells of one op: the least ns a call, and the sum over all that is asked.
 pub struct Told {
     pub op: String,
     pub nanos: f64,
     pub sum: u64,
 }
 
-/// Runs the program that the folder JAVA_DAYS has.
-pub fn told(seed: u64, count: usize) -> Vec<Told> {
-    let Some(folder) = env::var_os("JAVA_DAYS").filter(|folder| !folder.is_empty()) else {
+/// Runs a program that the folder JAVA_CLASSES has.
+pub fn told(program: &str, seed: u64, count: usize) -> Vec<Told> {
+    let Some(folder) = env::var_os("JAVA_CLASSES").filter(|folder| !folder.is_empty()) else {
         return Vec::new();
     };
     let run = Command::new("java")
         .arg("-cp")
         .arg(folder)
-        .args(["Days", &seed.to_string(), &count.to_string()])
+        .args([program, &seed.to_string(), &count.to_string()])
         .output();
     let printed = run.map(|run| String::from_utf8_lossy(&run.stdout).into_owned());
     printed.unwrap_or_default().lines().filter_map(line).collect()

@@ -1,4 +1,4 @@
-//! The benchmark: ours beside the Rust, glibc, ICU and, for days, chrono, time and java.time, in one run on the machine that it was built on;
+//! The benchmark: ours beside the Rust, glibc, ICU and, for days and stamps, chrono, time and java.time, in one run on the machine that it was built on;
 //! ours with a name book beside ours without; and whole lists beside loops.
 #![cfg_attr(not(icu), allow(dead_code))]
 
@@ -21,6 +21,7 @@ mod records;
 mod rows;
 mod rust;
 mod stack;
+mod stamps;
 mod table;
 mod timing;
 
@@ -35,7 +36,7 @@ use std::fs;
 use std::process::ExitCode;
 
 const USAGE: &str =
-    "usage: bench PICTURE.svg\n       bench calls CONTENDER write|read|check ROW CALLS\n       bench days\n       bench books\n       bench lists\n       bench stack";
+    "usage: bench PICTURE.svg\n       bench calls CONTENDER write|read|check ROW CALLS\n       bench days\n       bench books\n       bench lists\n       bench stamps\n       bench stack";
 
 fn main() -> ExitCode {
     let words: Vec<String> = args().skip(1).collect();
@@ -48,6 +49,7 @@ fn main() -> ExitCode {
         ["days"] => days::table().map(|table| print!("{table}")),
         ["books"] => books::table(&records()).map(|table| print!("{table}")),
         ["lists"] => lists::table().map(|table| print!("{table}")),
+        ["stamps"] => stamps::table().map(|table| print!("{table}")),
         [picture] => run(picture),
         ["calls", contender, op, row, calls] => only_calls(contender, op, row, calls),
         _ => Err(USAGE.to_string()),
@@ -86,6 +88,7 @@ fn run(picture: &str) -> Result<(), String> {
     println!("{}", books::table(&records)?);
     println!("{}", lists::table()?);
     println!("{}", days::table()?);
+    println!("{}", stamps::table()?);
     fs::write(picture, plot::picture(&machine_and_day, &written, &read, &growths))
         .map_err(|why| format!("{picture}: {why}"))?;
     println!("picture: {picture}");

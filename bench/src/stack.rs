@@ -258,6 +258,21 @@ fn of_days() -> [(&'static str, usize); 2] {
     [("day", deepest(days)), ("day_number", deepest(numbers))]
 }
 
+/// Of the longest stamp that is written.
+fn of_stamps() -> [(&'static str, usize); 2] {
+    let mut out = [0; raw::LONGEST_STAMP];
+    let mut answer = [0; raw::RFC_READ_ANSWER];
+    let (bytes, row) = (out.as_mut_ptr(), answer.as_mut_ptr());
+    // SAFETY: each pointer goes with the length of the row that it comes from.
+    let write = depth(|| unsafe {
+        let (room, entries) = (raw::LONGEST_STAMP, raw::RFC_WRITE_ANSWER);
+        raw::sheet_rfc_write(9999, 12, 31, 86_399_999_999_999, -86_340, 0, bytes, room, row, entries)
+    });
+    // SAFETY: likewise.
+    let read = depth(|| unsafe { raw::sheet_rfc_read(bytes, raw::LONGEST_STAMP, row, raw::RFC_READ_ANSWER) });
+    [("rfc_read", read), ("rfc_write", write)]
+}
+
 /// The depths by one pattern, in the order of `FUNCTIONS`.
 fn depths(book: &[u8], pattern: &[u8], f: &Fields) -> Vec<usize> {
     let mut out = [0; ROOM];
@@ -312,7 +327,7 @@ pub fn table(rows: &[Row], records: &[Record]) -> String {
             .iter()
             .map(|pattern| depths(&book, pattern.as_bytes(), &fields))
             .collect::<Vec<_>>();
-        let others = of_days().into_iter().chain(of_books(&book));
+        let others = of_days().into_iter().chain(of_books(&book)).chain(of_stamps());
         (columns, of_parse_offset(b"+05:30"), others.collect::<Vec<_>>())
     });
     let mut table = String::from("Bytes of stack that a call takes, with its return address\n\n");

@@ -1,6 +1,7 @@
 /* Writes a record by a pattern, reads it back, underlines what was read, shows what the parts of a pattern are, checks a pattern,
  * reads strictly, reads and checks in the second edition, shows a refusal, places a bar of a chart, writes and reads with the
- * names of a book, which it finds where it is run at the root of the repository, reads a list, and mends a pattern. */
+ * names of a book, which it finds where it is run at the root of the repository, reads a list, mends a pattern, and reads and
+ * writes a stamp. */
 #include "sheet.h"
 
 #include <inttypes.h>
@@ -257,6 +258,21 @@ static void mend_a_pattern(const char *pattern) {
         printf("  undone, it is %.*s\n", (int)answer[0], (const char *)undone);
 }
 
+/* As a crane system may send it, and as it is written; or why it is none. */
+static void read_and_write_a_stamp(const char *text) {
+    int64_t stamp[SHEET_RFC_READ_ANSWER], answer[SHEET_RFC_WRITE_ANSWER];
+    uint8_t out[SHEET_LONGEST_STAMP];
+    uint32_t number = sheet_rfc_read(bytes(text), strlen(text), stamp, SHEET_RFC_READ_ANSWER);
+    if (number != SHEET_ACCEPTED) {
+        printf("%s is refused with %" PRIu32 ": %s\n", text, number, sheet_refusal_text(number));
+        return;
+    }
+    printf("%s has the offset %" PRId64 "%s\n", text, stamp[4], stamp[5] == 1 ? ", which is unknown" : "");
+    if (sheet_rfc_write((int32_t)stamp[0], (uint32_t)stamp[1], (uint32_t)stamp[2], (uint64_t)stamp[3], (int32_t)stamp[4],
+                        (uint32_t)stamp[5], out, sizeof out, answer, SHEET_RFC_WRITE_ANSWER) == SHEET_ACCEPTED)
+        printf("  %.*s\n", (int)answer[0], (const char *)out);
+}
+
 int main(void) {
     write_and_read_back("yyyy/MM/dd");
     underline_what_is_read("d MMMM y", "3 December -12");
@@ -275,5 +291,8 @@ int main(void) {
     show_a_bad_name("books/dutch.lnb");
     read_a_list("d/MM", "3/12\nsoon\n24/12");
     mend_a_pattern("d/M/yy Hmm");
+    read_and_write_a_stamp("2025-12-03t07:05:09.5+05:30");
+    read_and_write_a_stamp("2025-12-03T07:05:09-00:00");
+    read_and_write_a_stamp("2025-02-30T07:05:09Z");
     return 0;
 }

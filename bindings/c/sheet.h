@@ -1,4 +1,4 @@
-/* sheet.h: dates, times and zone offsets by patterns such as yyyy/MM/dd, and the numbers of days, for C and C++.
+/* sheet.h: dates, times and zone offsets by patterns such as yyyy/MM/dd, numbers of days, and stamps of RFC 3339, for C and C++.
  *
  * What is lent. A pattern or a text is bytes with their number and needs no zero byte at its end. Text goes to `out`, numbers
  * go to the rows `answer`, `parts`, `units` and `changes`, which are aligned as int64_t is, and those of a list to the rows `days`,
@@ -13,10 +13,10 @@
  * other thread uses meanwhile. A call takes no more than SHEET_MOST_STACK bytes of the stack; one of sheet_mend or of sheet_undo
  * takes no more than SHEET_MEND_STACK.
  *
- * What is returned. SHEET_ACCEPTED; or the number of a refusal, 1 to 24 or 30; or SHEET_ROW_TOO_SMALL where a row has fewer entries
- * than the function asks for, SHEET_NO_SUCH_CHOICE where a number stands for no choices, SHEET_NO_BOOK where bytes are lent as an
- * opened book that are none, SHEET_NO_LINE where a text has no line at a place, or SHEET_MISFIT where changes do not fit a pattern:
- * then nothing is altered.
+ * What is returned. SHEET_ACCEPTED; or the number of a refusal, 1 to 30; or SHEET_ROW_TOO_SMALL where a row has fewer entries than
+ * the function asks for, SHEET_NO_SUCH_CHOICE where a number stands for no choices or for no mark, SHEET_NO_BOOK where bytes are
+ * lent as an opened book that are none, SHEET_NO_LINE where a text has no line at a place, or SHEET_MISFIT where changes do not
+ * fit a pattern: then nothing is altered.
  *
  * What is altered. Accepted, the first entries of `answer`, as many as the function asks for, are what its comment says, and a
  * writer, sheet_mend and sheet_undo alter so many bytes of `out` as they answer, as sheet_book_read does of `book`, and
@@ -70,6 +70,9 @@ extern "C" {
 #define SHEET_MOST_CHANGES 128
 #define SHEET_CHANGE 4
 
+/* The longest stamp that is written, in bytes: so many are always enough for sheet_rfc_write. */
+#define SHEET_LONGEST_STAMP 35
+
 /* How many entries each function asks for in `answer`, sheet_split in `parts`, sheet_units in `units` and sheet_mend in
  * `changes`. */
 #define SHEET_WRITE_ANSWER 2
@@ -88,6 +91,8 @@ extern "C" {
 #define SHEET_MEND_ANSWER 2
 #define SHEET_CHANGES_ROW 512
 #define SHEET_UNDO_ANSWER 2
+#define SHEET_RFC_READ_ANSWER 6
+#define SHEET_RFC_WRITE_ANSWER 2
 
 /* What is returned. Behind a refusal stand its details, which are the first one or two entries of `answer`. */
 #define SHEET_ACCEPTED 0
@@ -115,9 +120,14 @@ extern "C" {
 #define SHEET_BOOK_LENGTH 22     /* a book that is cut short, or one of version 1 with bytes behind its names: 0 */
 #define SHEET_BOOK_NAME 23       /* a name of a book that breaks a rule: the number of the first, 1 to 64 in book order */
 #define SHEET_SHORT_ROW 24       /* a row for a list has fewer entries than the text has lines: 0 */
+#define SHEET_NOT_STAMP 25       /* no stamp of RFC 3339: place of the first byte that can't go on, or the length */
+#define SHEET_STAMP_RANGE 26     /* a stamp's month, day, hour, minute, second or offset is out of its range: 0 */
+#define SHEET_LEAP_SECOND 27     /* a stamp with second 60: 0 */
+#define SHEET_STAMP_YEAR 28      /* a stamp's year that is not 1 to 9999: 0 */
+#define SHEET_STAMP_OFFSET 29    /* a stamp's offset that is not of whole minutes, or not 0 though it is unknown: 0 */
 #define SHEET_MENDED_TOO_LONG 30 /* a mended pattern of over 256 bytes: 0 */
 #define SHEET_ROW_TOO_SMALL 100  /* a row is too small: nothing is altered, and there are no details */
-#define SHEET_NO_SUCH_CHOICE 101 /* a number that stands for no choices: likewise */
+#define SHEET_NO_SUCH_CHOICE 101 /* a number that stands for no choices, or for no mark: likewise */
 #define SHEET_NO_BOOK 102        /* bytes that are no opened book: likewise */
 #define SHEET_NO_LINE 103        /* a place at or behind the end of the text, where no line is left: likewise */
 #define SHEET_MISFIT 104         /* a row that holds no changes, or one that does not fit the pattern: likewise */
@@ -342,6 +352,22 @@ uint32_t sheet_day(int32_t number, int64_t *answer, size_t answer_len);
  * Refuses: 17 where there is no such day, with year 0 and the years outside -5,879,611 to 5,879,611 among them; then 18. */
 uint32_t sheet_day_number(int32_t year, uint32_t month, uint32_t day, int64_t *answer, size_t answer_len);
 
+/* Reads a stamp: a date-time of RFC 3339 such as 2025-12-03T07:05:09.5+05:30, and nothing behind it. A small t and a small z are
+ * taken. A fraction has one digit or more, of which those past nine are dropped.
+ * Answers: year, month, day, nanoseconds of the day, offset in seconds, and the mark: 1 for the offset -00:00, which is 0 and says
+ * that the offset is unknown, else 0.
+ * Refuses: 6, 7, 25 where the text is not of that grammar, 26, 27, 28 for year 0, 17, the first in this order. */
+uint32_t sheet_rfc_read(const uint8_t *text, size_t text_len, int64_t *answer, size_t answer_len);
+
+/* Writes a stamp: with capitals, with nine digits of fraction or, where it is zero, none, and with Z for the offset 0, or -00:00
+ * where `unknown` is 1. What is written reads as the same.
+ * For an `unknown` that is not 0 or 1 SHEET_NO_SUCH_CHOICE is returned, whatever the size of the row.
+ * Answers: the length of the text, and 0.
+ * Refuses: 4 for a field out of the range that it has in sheet_write, 1 to 3, 7 or 8 as there; 28, 17, 29, 5, the first in this
+ * order. */
+uint32_t sheet_rfc_write(int32_t year, uint32_t month, uint32_t day, uint64_t nanos, int32_t offset, uint32_t unknown,
+                         uint8_t *out, size_t out_len, int64_t *answer, size_t answer_len);
+
 /* What a number that was returned says, in words that need no details. */
 static inline const char *sheet_refusal_text(uint32_t number) {
     switch (number) {
@@ -370,6 +396,11 @@ static inline const char *sheet_refusal_text(uint32_t number) {
     case SHEET_BOOK_LENGTH: return "the book is cut short, or goes on behind its names";
     case SHEET_BOOK_NAME: return "the book has a bad name";
     case SHEET_SHORT_ROW: return "a row is shorter than the lines";
+    case SHEET_NOT_STAMP: return "the text is not a stamp of RFC 3339";
+    case SHEET_STAMP_RANGE: return "a number of the stamp is out of its range";
+    case SHEET_LEAP_SECOND: return "the stamp has the second 60";
+    case SHEET_STAMP_YEAR: return "the year of the stamp is not from 1 to 9999";
+    case SHEET_STAMP_OFFSET: return "the offset of the stamp is not of whole minutes, or not 0 though it is unknown";
     case SHEET_MENDED_TOO_LONG: return "the mended pattern has over 256 bytes";
     case SHEET_ROW_TOO_SMALL: return "a row for the answer is too small";
     case SHEET_NO_SUCH_CHOICE: return "there is no such choice";

@@ -50,6 +50,7 @@ fn accepted(request: &Request) -> Option<String> {
         }
         Request::Book { .. } | Request::BookWrite { .. } => None,
         Request::List { .. } | Request::Mend { .. } => None,
+        Request::RfcRead { .. } | Request::RfcWrite { .. } => None,
     }
 }
 

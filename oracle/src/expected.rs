@@ -8,7 +8,7 @@
 //! the place of those that are read otherwise. With a book it decides with the book's names for its own; a book that is refused
 //! decides before, and the specification decides alone what is read of a book or written as one. The lines of a list are each
 //! decided as a read of that line. How a pattern is mended the specification decides, and which parts a digit disturbs what the Rust
-//! writes and reads of them.
+//! writes and reads of them. A stamp is told by the specification as well, with days and digits by the Rust.
 
 use crate::answer::{self, as_pattern, as_text};
 use crate::below;
@@ -24,6 +24,7 @@ use crate::minus::with_plus;
 use crate::names;
 use crate::pluses::{plus_in, IN_AN_OFFSET};
 use crate::request::Request;
+use crate::stamps;
 use crate::strict;
 use crate::walk::{self, Cause, Kind, Reading, Stopped, Walked};
 
@@ -110,6 +111,8 @@ fn first_limit(request: &Request) -> Option<Expected> {
         } => limit(pattern_limit(pattern))
             .or_else(|| lone_quote(pattern).map(Expected::Refused))
             .or_else(|| limit(year_limit(*edition, *now))),
+        Request::RfcRead { text } => Some(stamps::read(text)),
+        Request::RfcWrite { stamp, room } => Some(stamps::write(stamp, *room)),
     }
 }
 
@@ -184,7 +187,10 @@ fn from_the_rust(request: &Request) -> Expected {
             Ok(number) => Expected::Accepted(answer::day_number(number)),
             Err(cause) => Expected::Refused(refused_day(&cause)),
         },
-        Request::Book { .. } | Request::BookWrite { .. } => {
+        Request::Book { .. }
+        | Request::BookWrite { .. }
+        | Request::RfcRead { .. }
+        | Request::RfcWrite { .. } => {
             unreachable!("the specification alone decides")
         }
         Request::List {

@@ -29,6 +29,7 @@ pub mod printing;
 pub mod request;
 pub mod running;
 mod second;
+pub mod stamps;
 mod strict;
 pub mod tally;
 pub mod walk;

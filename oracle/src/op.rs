@@ -27,10 +27,12 @@ pub enum Op {
     ListStrictSecond,
     Mend,
     MendSecond,
+    RfcRead,
+    RfcWrite,
 }
 
 impl Op {
-    pub const ALL: [Op; 22] = [
+    pub const ALL: [Op; 24] = [
         Op::Split,
         Op::Write,
         Op::WriteDate,
@@ -53,6 +55,8 @@ impl Op {
         Op::ListStrictSecond,
         Op::Mend,
         Op::MendSecond,
+        Op::RfcRead,
+        Op::RfcWrite,
     ];
 
     /// Those of lists, which have the full pair alone.
@@ -65,6 +69,9 @@ impl Op {
 
     /// Those of mending, one for each edition.
     pub const MENDS: [Op; 2] = [Op::Mend, Op::MendSecond];
+
+    /// Those of stamps.
+    pub const STAMPS: [Op; 2] = [Op::RfcRead, Op::RfcWrite];
 
     pub fn name(self) -> &'static str {
         match self {
@@ -90,6 +97,8 @@ impl Op {
             Op::ListStrictSecond => "list_strict_second",
             Op::Mend => "mend",
             Op::MendSecond => "mend_second",
+            Op::RfcRead => "rfc_read",
+            Op::RfcWrite => "rfc_write",
         }
     }
 
@@ -110,6 +119,7 @@ impl Op {
             Op::Book | Op::BookWrite => return None,
             Op::List | Op::ListStrict | Op::ListSecond | Op::ListStrictSecond => return None,
             Op::Mend | Op::MendSecond => return None,
+            Op::RfcRead | Op::RfcWrite => return None,
         })
     }
 
@@ -169,7 +179,7 @@ impl Op {
     }
 
     /// Those that are asked where none is named: without a book all but those of books, with English those that take one; those of
-    /// lists and of mending are always named.
+    /// lists, of mending and of stamps are always named.
     pub fn usual(books: Option<Books>) -> Vec<Op> {
         let is_usual = |op: &Op| match books {
             None => !op.is_of_a_book() && !op.is_named_alone(),
@@ -184,7 +194,7 @@ impl Op {
     }
 
     fn is_named_alone(self) -> bool {
-        self.list_choices().is_some() || self.mend_edition().is_some()
+        self.list_choices().is_some() || self.mend_edition().is_some() || Op::STAMPS.contains(&self)
     }
 
     fn is_of_a_book(self) -> bool {

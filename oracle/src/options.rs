@@ -21,6 +21,8 @@ pub struct Options {
     pub lists: bool,
     /// Patterns to mend in their place.
     pub mends: bool,
+    /// Stamps in their place.
+    pub stamps: bool,
     /// Which books the requests come with; none where none is named.
     pub books: Option<Books>,
     /// Of a check; both where none is named.
@@ -38,10 +40,10 @@ impl Options {
         match options.edition {
             Some(_) => Err("the edition is in the name of an op".to_string()),
             None if options.ways_to_name_ops() > 1 => {
-                Err("lists and patterns to mend are ops of their own".to_string())
+                Err("lists, patterns to mend and stamps are ops of their own".to_string())
             }
-            None if options.mends && options.books.is_some() => {
-                Err("a pattern is mended without a book".to_string())
+            None if (options.mends || options.stamps) && options.books.is_some() => {
+                Err("patterns to mend and stamps have no book".to_string())
             }
             None => Ok(options),
         }
@@ -52,16 +54,16 @@ impl Options {
         let options = Options::from_args(args)?;
         match options.ops {
             Some(_) => Err("there is one op".to_string()),
-            None if options.lists || options.mends => Err("that is no check".to_string()),
+            None if options.lists || options.mends || options.stamps => {
+                Err("that is no check".to_string())
+            }
             None => Ok(options),
         }
     }
 
     fn ways_to_name_ops(&self) -> usize {
-        [self.lists, self.mends, self.ops.is_some()]
-            .into_iter()
-            .filter(|named| *named)
-            .count()
+        let named = [self.lists, self.mends, self.stamps, self.ops.is_some()];
+        named.into_iter().filter(|named| *named).count()
     }
 
     fn from_args(mut args: impl Iterator<Item = String>) -> Result<Options, String> {
@@ -72,6 +74,7 @@ impl Options {
             ops: None,
             lists: false,
             mends: false,
+            stamps: false,
             books: None,
             edition: None,
             requests: None,
@@ -85,6 +88,7 @@ impl Options {
                 "--ops" => options.ops = Some(ops(&word(args.next())?)?),
                 "--lists" => options.lists = true,
                 "--mends" => options.mends = true,
+                "--stamps" => options.stamps = true,
                 "--books" => options.books = Some(books(&word(args.next())?)?),
                 "--edition" => options.edition = Some(edition(&word(args.next())?)?),
                 "--requests" => options.requests = Some(word(args.next())?),
@@ -100,6 +104,7 @@ impl Options {
             Some(named) => named.clone(),
             None if self.lists => Op::LISTS.to_vec(),
             None if self.mends => Op::MENDS.to_vec(),
+            None if self.stamps => Op::STAMPS.to_vec(),
             None => Op::usual(self.books),
         };
         Generator::with(self.books, self.seed, ops)

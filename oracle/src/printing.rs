@@ -32,7 +32,7 @@ fn options() -> Result<Options, String> {
 
 fn misused(program: &str, error: &str) -> ExitCode {
     eprintln!("{program}: {error}");
-    eprintln!("usage: {program} [--seed S] [--count N] [--every K] [--ops OP,OP.. | --lists | --mends] [--books english|random]");
+    eprintln!("usage: {program} [--seed S] [--count N] [--every K] [--ops OP,OP.. | --lists | --mends | --stamps] [--books english|random]");
     ExitCode::from(2)
 }
 

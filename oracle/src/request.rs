@@ -4,6 +4,7 @@ use crate::book::{LONGEST_NAME, NAMES};
 use crate::calendar::Fields;
 use crate::choices::{Choices, Edition};
 pub use crate::op::Op;
+use crate::stamps::Stamp;
 use crate::walk::Pair;
 use std::fmt;
 use std::iter::Peekable;
@@ -66,6 +67,13 @@ pub enum Request {
         now: i32,
         room: usize,
     },
+    RfcRead {
+        text: Vec<u8>,
+    },
+    RfcWrite {
+        stamp: Stamp,
+        room: usize,
+    },
 }
 
 impl Request {
@@ -104,6 +112,13 @@ impl Request {
                 room: room(&mut words)?,
                 edition: edition(&mut words),
             },
+            Op::RfcRead => Request::RfcRead {
+                text: bytes(&mut words)?,
+            },
+            Op::RfcWrite => Request::RfcWrite {
+                stamp: Stamp::from_words(&mut words)?,
+                room: room(&mut words)?,
+            },
             read => read_request(read.choices()?.pair, &mut words)?,
         };
         words.next().is_none().then_some(request)
@@ -124,6 +139,8 @@ impl Request {
             Request::BookWrite { .. } => Op::BookWrite,
             Request::List { choices, .. } => Op::of_list(*choices),
             Request::Mend { edition, .. } => Op::of_mend(*edition),
+            Request::RfcRead { .. } => Op::RfcRead,
+            Request::RfcWrite { .. } => Op::RfcWrite,
         }
     }
 
@@ -201,6 +218,8 @@ impl fmt::Display for Request {
                 let (pattern, edition) = (hex(pattern), edition_word(*edition));
                 write!(f, "{pattern} {now} {room}{edition}")
             }
+            Request::RfcRead { text } => f.write_str(&hex(text)),
+            Request::RfcWrite { stamp, room } => write!(f, "{} {room}", stamp.words()),
         }
     }
 }

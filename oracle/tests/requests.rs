@@ -88,6 +88,14 @@ fn other_lines_are_bad_requests() {
         "mend 79 2025 9 strict".to_string(),
         "mend 79 2025 9 second book:4c".to_string(),
         "mend_second 79 2025 9".to_string(),
+        "rfc_read".to_string(),
+        "rfc_read 5a 5a".to_string(),
+        "rfc_read 5a strict".to_string(),
+        "rfc_write 2025 12 3 0 0 0".to_string(),
+        "rfc_write 2025 12 3 0 0 2 35".to_string(),
+        "rfc_write 2025 12 3 0 0 0 4097".to_string(),
+        "rfc_write 2025 12 3 18446744073709551616 0 0 35".to_string(),
+        "rfc_write 2025 12 3 0 0 0 35 book:-".to_string(),
     ];
     for line in lines {
         assert_eq!(answer(&line), "bad request", "{line}");

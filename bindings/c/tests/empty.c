@@ -153,6 +153,14 @@ static void by_mending(void) {
     GIVES(sheet_undo(NULL, 0, NULL, 0, NULL, 0, NULL, 0), SHEET_ROW_TOO_SMALL, MARK, MARK);
 }
 
+static void by_stamps(void) {
+    GIVES(sheet_rfc_read(NULL, 0, answer, SHEET_RFC_READ_ANSWER), SHEET_NOT_STAMP, 0, 0);
+    GIVES(sheet_rfc_read(NULL, 0, NULL, 0), SHEET_ROW_TOO_SMALL, MARK, MARK);
+    GIVES(sheet_rfc_write(2025, 12, 3, 0, 0, 1, NULL, 0, answer, SHEET_RFC_WRITE_ANSWER), SHEET_NO_ROOM, 25, 0);
+    GIVES(sheet_rfc_write(2025, 12, 3, 0, 0, 1, NULL, 0, NULL, 0), SHEET_ROW_TOO_SMALL, MARK, MARK);
+    GIVES(sheet_rfc_write(2025, 12, 3, 0, 0, 2, NULL, 0, NULL, 0), SHEET_NO_SUCH_CHOICE, MARK, MARK);
+}
+
 static void by_others(void) {
     GIVES(sheet_parse_offset(NULL, 0, answer, 2), SHEET_OFFSET_LENGTH, 0, 0);
     GIVES(sheet_parse_offset(TEXT, 2, NULL, 0), SHEET_ROW_TOO_SMALL, MARK, MARK);
@@ -184,6 +192,7 @@ int main(void) {
     by_books();
     by_lists();
     by_mending();
+    by_stamps();
     by_others();
     return all ? 0 : 1;
 }

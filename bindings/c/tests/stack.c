@@ -160,6 +160,16 @@ static void days(size_t length) {
     sheet_day_number(5879611, 12, 31, answer, SHEET_DAY_NUMBER_ANSWER);
 }
 
+/* At the ends of what they take, and of bytes that are none. */
+static void stamps(size_t length) {
+    sheet_rfc_read(pattern, length, answer, SHEET_RFC_READ_ANSWER);
+    for (size_t room = 0; room <= SHEET_LONGEST_STAMP; room++)
+        sheet_rfc_write(9999, 12, 31, UINT64_C(86399999999999), -86340, 0, text, room, answer, SHEET_RFC_WRITE_ANSWER);
+    sheet_rfc_read(text, SHEET_LONGEST_STAMP, answer, SHEET_RFC_READ_ANSWER);
+    sheet_rfc_write(1, 1, 1, 0, 0, 1, text, sizeof text, answer, SHEET_RFC_WRITE_ANSWER);
+    sheet_rfc_write(2025, 2, 29, 0, 0, 0, text, sizeof text, answer, SHEET_RFC_WRITE_ANSWER);
+}
+
 static function *called;
 
 /* By every symbol at counts 1 to 12, alone and again and again with a slash between, and by the longest run of it. */
@@ -219,5 +229,6 @@ int main(void) {
     all &= holds("mend, undo", mend, SHEET_MEND_STACK);
     all &= holds("parse_offset, was_read", parse_offset, SHEET_MOST_STACK);
     all &= holds("day, day_number", days, SHEET_MOST_STACK);
+    all &= holds("rfc_read, rfc_write", stamps, SHEET_MOST_STACK);
     return all ? 0 : 1;
 }

@@ -12,6 +12,7 @@ mod names;
 mod reading;
 mod refusal;
 mod splitting;
+mod stamps;
 mod units;
 mod writing;
 
@@ -29,5 +30,6 @@ pub use names::Names;
 pub use reading::{parse_offset, read, read_by, read_date, read_with, ParseUnit, Reading};
 pub use refusal::Refusal;
 pub use splitting::{split, Kind, Part};
+pub use stamps::{explain_stamp, read_stamp, write_stamp, write_stamp_into, Stamp};
 pub use units::{units, PartUnit};
 pub use writing::{write, write_by, write_by_into, write_date, write_date_into, write_into};

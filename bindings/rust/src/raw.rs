@@ -21,6 +21,8 @@ pub const NAME_ROOM: usize = 1 + LONGEST_NAME;
 pub const LONGEST_NAME: usize = 20;
 /// The longest book of version 1, in bytes.
 pub const LONGEST_BOOK: usize = 743;
+/// The longest stamp that is written, in bytes.
+pub const LONGEST_STAMP: usize = 35;
 
 /// The most changes that a mended pattern has.
 pub const MOST_CHANGES: usize = 128;
@@ -67,6 +69,10 @@ pub const CHANGES_ROW: usize = MOST_CHANGES * CHANGE;
 pub const UNDO_ANSWER: usize = 2;
 /// Where in `answer` of [`sheet_read_line`] the reading starts.
 pub const LINE_READING: usize = 3;
+/// How many entries of `answer` [`sheet_rfc_read`] asks for.
+pub const RFC_READ_ANSWER: usize = 6;
+/// How many entries of `answer` [`sheet_rfc_write`] asks for.
+pub const RFC_WRITE_ANSWER: usize = 2;
 
 /// What is returned where an answer is accepted.
 pub const ACCEPTED: u32 = 0;
@@ -96,11 +102,16 @@ pub const BOOK_VERSION: u32 = 21;
 pub const BOOK_LENGTH: u32 = 22;
 pub const BOOK_NAME: u32 = 23;
 pub const SHORT_ROW: u32 = 24;
+pub const NOT_STAMP: u32 = 25;
+pub const STAMP_RANGE: u32 = 26;
+pub const LEAP_SECOND: u32 = 27;
+pub const STAMP_YEAR: u32 = 28;
+pub const STAMP_OFFSET: u32 = 29;
 pub const MENDED_TOO_LONG: u32 = 30;
 
 /// What is returned where a lent row is too small; then nothing is altered.
 pub const ROW_TOO_SMALL: u32 = 100;
-/// What is returned where a number stands for no choices; then nothing is altered.
+/// What is returned where a number stands for no choices, or for no mark; then nothing is altered.
 pub const NO_SUCH_CHOICE: u32 = 101;
 /// What is returned where bytes are lent as an opened book that are none; then nothing is altered.
 pub const NO_BOOK: u32 = 102;
@@ -343,6 +354,19 @@ extern "C" {
     ) -> u32;
     pub fn sheet_day(number: i32, answer: *mut i64, answer_len: usize) -> u32;
     pub fn sheet_day_number(year: i32, month: u32, day: u32, answer: *mut i64, answer_len: usize) -> u32;
+    pub fn sheet_rfc_read(text: *const u8, text_len: usize, answer: *mut i64, answer_len: usize) -> u32;
+    pub fn sheet_rfc_write(
+        year: i32,
+        month: u32,
+        day: u32,
+        nanos: u64,
+        offset: i32,
+        unknown: u32,
+        out: *mut u8,
+        out_len: usize,
+        answer: *mut i64,
+        answer_len: usize,
+    ) -> u32;
 }
 
 /// What a number that was returned says, in words that need no details.
@@ -373,6 +397,11 @@ pub fn refusal_text(number: u32) -> &'static str {
         BOOK_LENGTH => "the book is cut short, or goes on behind its names",
         BOOK_NAME => "the book has a bad name",
         SHORT_ROW => "a row is shorter than the lines",
+        NOT_STAMP => "the text is not a stamp of RFC 3339",
+        STAMP_RANGE => "a number of the stamp is out of its range",
+        LEAP_SECOND => "the stamp has the second 60",
+        STAMP_YEAR => "the year of the stamp is not from 1 to 9999",
+        STAMP_OFFSET => "the offset of the stamp is not of whole minutes, or not 0 though it is unknown",
         MENDED_TOO_LONG => "the mended pattern has over 256 bytes",
         ROW_TOO_SMALL => "a row for the answer is too small",
         NO_SUCH_CHOICE => "there is no such choice",

@@ -30,6 +30,11 @@ use std::fmt;
 /// | 22 | a book is cut short, or one of version 1 goes on behind its names | 0 |
 /// | 23 | a name of a book breaks a rule | the number of the first, 1 to 64 |
 /// | 24 | a row for a list is shorter than the lines | 0 |
+/// | 25 | a text is no stamp of RFC 3339 | place of the first byte that can't go on, or the length |
+/// | 26 | a stamp's month, day, hour, minute, second or offset is out of its range | 0 |
+/// | 27 | a stamp has the second 60 | 0 |
+/// | 28 | a stamp's year is not 1 to 9999 | 0 |
+/// | 29 | a stamp's offset is not of whole minutes, or not 0 though it is unknown | 0 |
 /// | 30 | the mended pattern has over 256 bytes | 0 |
 ///
 /// ```
@@ -79,7 +84,7 @@ pub(crate) fn current_years(edition: Edition) -> &'static str {
 }
 
 impl Refusal {
-    /// The number, 1 to 24 or 30.
+    /// The number, 1 to 30.
     pub fn number(&self) -> u32 {
         self.number
     }
@@ -115,7 +120,7 @@ impl Refusal {
         matches!(
             self.number,
             raw::NO_SUCH_DAY | raw::NO_DAY_NUMBER | raw::BOOK_MARK
-                ..=raw::BOOK_LENGTH | raw::SHORT_ROW | raw::MENDED_TOO_LONG
+                ..=raw::BOOK_LENGTH | raw::SHORT_ROW | raw::STAMP_RANGE..=raw::STAMP_OFFSET | raw::MENDED_TOO_LONG
         )
     }
 
@@ -163,7 +168,7 @@ impl fmt::Display for Refusal {
         let [detail, place] = self.details;
         let details = match self.number {
             raw::PATTERN_TOO_LONG | raw::TEXT_TOO_LONG | raw::OFFSET_LENGTH => format!("it has {detail} bytes"),
-            raw::PATTERN_BYTE | raw::LONE_QUOTE | raw::TEXT_BYTE | raw::TEXT_LEFT => {
+            raw::PATTERN_BYTE | raw::LONE_QUOTE | raw::TEXT_BYTE | raw::TEXT_LEFT | raw::NOT_STAMP => {
                 format!("at place {detail}, counted from 0")
             }
             raw::FIELD_RANGE => {

@@ -302,6 +302,27 @@ fn of_days() {
     gives(|row| day_number(0, row), raw::NO_SUCH_DAY, 0, 0);
 }
 
+fn rfc_read(text: &[u8], answer: &mut [i64]) -> u32 {
+    let ((text, length), (answer, entries)) = (lent(text), row(answer));
+    // SAFETY: as for a write.
+    unsafe { raw::sheet_rfc_read(text, length, answer, entries) }
+}
+
+/// Into an output that is none.
+fn rfc_write(offset: i32, answer: &mut [i64]) -> u32 {
+    let (answer, entries) = row(answer);
+    // SAFETY: as for a write.
+    unsafe { raw::sheet_rfc_write(YEAR, 12, 3, 0, offset, 0, null_mut(), 0, answer, entries) }
+}
+
+#[test]
+fn of_stamps() {
+    gives(|row| rfc_read(b"", row), raw::NOT_STAMP, 0, 0);
+    gives(|row| rfc_read(b"2025", row), raw::NOT_STAMP, 4, 0);
+    gives(|row| rfc_write(0, row), raw::NO_ROOM, 20, 0);
+    gives(|row| rfc_write(1, row), raw::STAMP_OFFSET, 0, 0);
+}
+
 #[test]
 fn of_the_others() {
     gives(|row| parse_offset(b"", row), raw::OFFSET_LENGTH, 0, 0);

@@ -87,7 +87,7 @@ fn of_the_rust() {
 
 #[test]
 fn at_the_boundaries_of_refusals() {
-    all_are_given(BOUNDARIES, 1368);
+    all_are_given(BOUNDARIES, 1667);
 }
 
 #[test]

@@ -1,8 +1,8 @@
 //! Each refusal, by a call that gives it: its number, its details and its sentence.
 
 use sheet::{
-    check, check_with, day_number, mend, mend_with, parse_offset, read, read_with, split, write, write_into, Book,
-    Choices, Edition, Fields, Refusal,
+    check, check_with, day_number, mend, mend_with, parse_offset, read, read_stamp, read_with, split, write,
+    write_into, write_stamp, Book, Choices, Edition, Fields, Refusal,
 };
 use std::error::Error;
 use std::fmt::Debug;
@@ -266,6 +266,38 @@ fn of_a_mended_pattern() {
         14,
         &[80],
         "the current year is not from 81 to 9999: it is 80",
+    );
+}
+
+/// The details of all but 25 are 0, and the sentences have none.
+#[test]
+fn of_a_stamp() {
+    refused(
+        read_stamp("2025-12-03 07:05:09Z"),
+        25,
+        &[10],
+        "the text is not a stamp of RFC 3339: at place 10, counted from 0",
+    );
+    refused(
+        read_stamp("2025-12-03T24:05:09Z"),
+        26,
+        &[0],
+        "a number of the stamp is out of its range",
+    );
+    refused(
+        read_stamp("2025-12-03T07:05:60Z"),
+        27,
+        &[0],
+        "the stamp has the second 60",
+    );
+    let year = "the year of the stamp is not from 1 to 9999";
+    refused(read_stamp("0000-12-03T07:05:09Z"), 28, &[0], year);
+    refused(write_stamp(&Fields { year: -1, ..R }.into()), 28, &[0], year);
+    refused(
+        write_stamp(&Fields { offset: 30, ..R }.into()),
+        29,
+        &[0],
+        "the offset of the stamp is not of whole minutes, or not 0 though it is unknown",
     );
 }
 

@@ -1,6 +1,6 @@
 //! The samples in the tables of docs/SPECIFICATION.md, each put to the library.
 
-use sheet::{Book, Choices, Columns, Day, Edition, Fields, ParseUnit, Reading, Refusal, Verdict};
+use sheet::{Book, Choices, Columns, Day, Edition, Fields, ParseUnit, Reading, Refusal, Stamp, Verdict};
 
 const SPECIFICATION: &str = include_str!("../../../docs/SPECIFICATION.md");
 
@@ -338,14 +338,20 @@ fn of_day(row: &[&str]) -> Vec<Sample> {
     row[1..].iter().map(|sample| sample.to_string()).zip(answers).collect()
 }
 
-/// A date, also one that is not there, and its number.
-fn of_day_number(row: &[&str]) -> Sample {
-    let words: Vec<&str> = row[0].rsplitn(3, '-').collect();
+/// Year, month and day, also of a date that is not there.
+fn date_in(cell: &str) -> (i32, u32, u32) {
+    let words: Vec<&str> = cell.rsplitn(3, '-').collect();
     let [day, month, year] = words[..] else {
-        panic!("{row:?}")
+        panic!("{cell}")
     };
     let unsigned = |word: &str| word.parse().expect("a number without a sign");
-    let answer = match sheet::day_number(number(year), unsigned(month), unsigned(day)) {
+    (number(year), unsigned(month), unsigned(day))
+}
+
+/// A date and its number.
+fn of_day_number(row: &[&str]) -> Sample {
+    let (year, month, day) = date_in(row[0]);
+    let answer = match sheet::day_number(year, month, day) {
         Ok(number) => number.to_string(),
         Err(refusal) => format!("refused {}", refusal.number()),
     };
@@ -402,6 +408,30 @@ fn of_mending(row: &[&str]) -> Vec<Sample> {
     editions.iter().flat_map(of_edition).collect()
 }
 
+/// What a stamp reads as: its day, its nanoseconds and its offset.
+fn stamp_read(text: &str) -> String {
+    sheet::read_stamp(text).map_or_else(refused, |stamp| {
+        let day = format!("{:04}-{:02}-{:02}", stamp.year, stamp.month, stamp.day);
+        let unknown = if stamp.unknown { ", unknown" } else { "" };
+        format!("{day}, {}, {}{unknown}", stamp.nanoseconds, stamp.offset)
+    })
+}
+
+/// What is written of such numbers.
+fn stamp_written(row: &[&str]) -> String {
+    let (year, month, day) = date_in(row[0]);
+    let offset = row[2].trim_end_matches(", unknown");
+    let stamp = Stamp {
+        year,
+        month,
+        day,
+        nanoseconds: row[1].parse().expect("a number without a sign"),
+        offset: number(offset),
+        unknown: offset != row[2],
+    };
+    sheet::write_stamp(&stamp).map_or_else(refused, |text| format!("`{text}`"))
+}
+
 /// Under its own heading a sample is of a strict reading.
 fn choices(heading: &str) -> Choices {
     match heading {
@@ -454,6 +484,8 @@ fn samples(table: &Table, row: &[&str]) -> Vec<Sample> {
             vec![sample(2, plain), sample(3, strict)]
         }
         (["Pattern", "Edition", "Mended", "Changes"], _) => of_mending(row),
+        (["Stamp", "Reads as"], _) => vec![sample(1, stamp_read(&quoted(row[0])))],
+        (["Day", "Nanoseconds", "Offset", "Stamp written"], _) => vec![sample(3, stamp_written(row))],
         _ => vec![],
     }
 }
@@ -555,6 +587,24 @@ fn mending_has_its_own_samples() {
     let [mended, changes] = [("`MM`", "`M`"), ("`M` became `MM`", "none")];
     let wrong = [mended, changes].map(|(sample, right)| (sample.to_string(), right.to_string()));
     assert_eq!((tried, differing), (4, wrong.to_vec()));
+}
+
+/// Stamps that are read, and numbers that are written as one.
+#[test]
+fn stamps_have_their_own_samples() {
+    let document = |read: &str, written: &str| {
+        let reads = format!("| Stamp | Reads as |\n|---|---|\n| `0001-01-01T00:00:00-00:00` | {read} |\n");
+        let writes = format!("| Day | Nanoseconds | Offset | Stamp written |\n|---|---|---|---|\n| 0001-01-01 | 0 | 0, unknown | {written} |\n");
+        format!("## Stamps\n\n{reads}\n{writes}")
+    };
+    let (read, written) = ("0001-01-01, 0, 0, unknown", "`0001-01-01T00:00:00-00:00`");
+    assert_eq!(held(&document(read, written)), (2, vec![]));
+    let (_, differing) = held(&document("0001-01-01, 0, 0", "`0001-01-01T00:00:00Z`"));
+    let wrong = [("0001-01-01, 0, 0", read), ("`0001-01-01T00:00:00Z`", written)];
+    assert_eq!(
+        differing,
+        wrong.map(|(sample, right)| (sample.to_string(), right.to_string()))
+    );
 }
 
 /// Of a unit that was not read both places are 0.

@@ -1,3 +1,4 @@
 pub mod Checks
+pub mod FourDigits
 pub mod Places
 pub mod Shorts

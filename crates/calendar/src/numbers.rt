@@ -1,14 +1,17 @@
-// The number of a date, with its checks 17 and 18.
+// The number of a date, with its checks 17 and 18; and 17 alone, of a date whose year has four digits.
 ghost use mathlib.Core.Path.{_≡_};
 ghost use Prim.Native.Nat.{_≤_, _<_};
 ghost use lib.Dec.{ltb};
+ghost use lib.IntN.{pos};
 ghost use Rattle.calendar.specs.Places.{placeOf, numberAt, shortAt};
 ghost use Rattle.meaning.specs.Calendar.{monthLength};
+ghost use Rattle.meaning.specs.Days.{dayCheck};
 use crate::cycle::is_leap;
 use crate::line::before_year;
 use crate::line::on_line;
 use crate::months::days_of;
 use crate::months::length_of;
+use meaning::Checked;
 use meaning::DayNumber;
 use meaning::Refusal;
 
@@ -82,4 +85,15 @@ pub fn number_at(place: u32, month: u32, day: u32) -> DayNumber
     }
     let past = days_of(leap, month - 1) + day - 1;
     short(before_year(place) + past as u64)
+}
+
+// 17 of a date of the years 1 to 9999, each of which has a number.
+pub fn day_check(year: u32, month: u32, day: u32) -> Checked
+    requires { ⌜ (1 ≤ year) × (year ≤ 9999) × (1 ≤ month) × (month ≤ 12) × (1 ≤ day) ⌝ }
+    ensures { λ r. ⌜ r ≡ dayCheck (pos year) month day ⌝ }
+{
+    if is_past(is_leap(year), month, day) {
+        return Checked::Refused(Refusal::NoSuchDay);
+    }
+    Checked::Fine
 }

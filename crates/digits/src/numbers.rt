@@ -41,6 +41,16 @@ fn put_four(n: u32, out: &mut [u8], at: usize) -> usize
     put_two(n % 100, out, next)
 }
 
+// Nine digits, those of a fraction of a second.
+pub fn put_nine(n: u32, out: &mut [u8], at: usize) -> usize
+    requires { ⌜ (n < 1000000000) × (at + 9 ≤ length (now out)) ⌝ }
+    ensures { λ r. ⌜ Laid (now (out .entry)) (now (out .exit)) at r (text.digits 9 n) ⌝ }
+{
+    let first = put_byte(48 + (n / 100000000) as u8, out, at);
+    let next = put_four(n / 10000 % 10000, out, first);
+    put_four(n % 10000, out, next)
+}
+
 // Whether the padded number has four digits.
 fn has_four(n: u32, k: usize) -> bool
     ensures { λ r. ⌜ r ≡ eqb (max k (text.width n)) 4 ⌝ }

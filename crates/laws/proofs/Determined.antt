@@ -9,7 +9,7 @@ use lib.IntN.{ℤ}
 use Rattle.meaning.specs.Answers.{Answer}
 use Rattle.meaning.specs.Lists.{Rows}
 use Rattle.meaning.specs.Names.{Book}
-use Rattle.meaning.specs.Promises.{SameAnswer, Splits, Writes, Reads, ParsesOffset, TellsRead, NumbersDay, OpensBook, WritesBook, ReadsList, ReadsLine, Undoes}
+use Rattle.meaning.specs.Promises.{SameAnswer, Splits, Writes, Reads, ParsesOffset, TellsRead, NumbersDay, OpensBook, WritesBook, ReadsList, ReadsLine, Undoes, ReadsStamp, WritesStamp}
 use Rattle.meaning.specs.declared.Change.{Change}
 use Rattle.meaning.specs.declared.Choices.{Choices}
 use Rattle.meaning.specs.declared.DayNumber.{DayNumber}
@@ -22,6 +22,8 @@ use Rattle.meaning.specs.declared.ParseUnit.{ParseUnit}
 use Rattle.meaning.specs.declared.Reading.{Reading}
 use Rattle.meaning.specs.declared.Split.{Split}
 use Rattle.meaning.specs.declared.Undone.{Undone}
+use Rattle.meaning.specs.declared.Stamp.{Stamp}
+use Rattle.meaning.specs.declared.Stamped.{Stamped}
 use Rattle.meaning.specs.declared.Wrote.{Wrote}
 
 pub determined : {A : Type 0} {d r s : A} → r ≡ d → s ≡ d → r ≡ s
@@ -74,3 +76,10 @@ lines-coincide choices book p s at current = determined
 -- mending::undo
 pub undoes-coincide : (p : List ℕ) (cs : List Change) (out : List ℕ) {r t : Undone} {after after′ : List ℕ} → Undoes p cs out r after → Undoes p cs out t after′ → (r ≡ t) × (after ≡ after′)
 undoes-coincide p cs out w v = (determined (w .0) (v .0), determined (w .1) (v .1))
+
+-- stamps::read_stamp and stamps::write_stamp
+pub stamps-coincide : (s : List ℕ) {r t : Stamped} → ReadsStamp s r → ReadsStamp s t → r ≡ t
+stamps-coincide s = same-determined
+
+pub stamp-writes-coincide : (stamp : Stamp) (out : List ℕ) {r t : Wrote} {after after′ : List ℕ} → WritesStamp stamp out r after → WritesStamp stamp out t after′ → (r ≡ t) × (after ≡ after′)
+stamp-writes-coincide stamp out w v = (same-determined (w .0) (v .0), determined (w .1) (v .1))

@@ -129,6 +129,11 @@ length-num k n = length-digits (max k (width n)) n
 pub num-fits : (k n : ℕ) → 0 < k → n < 10 ^ k → length (num k n) ≡ k
 num-fits k n p h = length-num k n ∙ omega (arith, width-at-most k n p h)
 
+-- a number that fits has just so many
+pub num-digits : (k n : ℕ) → 0 < k → n < 10 ^ k → num k n ≡ digits k n
+unfolding num
+num-digits k n p h = let e : max k (width n) ≡ k = omega (arith, width-at-most k n p h) in rw e
+
 pub num-some : (k n : ℕ) → 0 < length (num k n)
 num-some k n = rw length-num (omega (arith, width-at-least n))
 

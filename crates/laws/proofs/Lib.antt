@@ -42,6 +42,13 @@ pub mod Sizes
 pub mod SomeBytes
 pub mod Spans
 pub mod Splitting
+pub mod StampChecks
+pub mod StampGrammar
+pub mod StampPatterns
+pub mod StampPlaces
+pub mod StampTexts
+pub mod StampWrites
+pub mod Stamps
 pub mod Table
 pub mod Takes
 pub mod Tests

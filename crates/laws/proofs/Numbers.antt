@@ -4,15 +4,15 @@ use mathlib.Core.Bool.{Bool, true, false}
 use mathlib.Core.List.{List, [], _∷_, _++_}
 use mathlib.Core.Option.{some}
 use mathlib.Core.Path.{_≡_, refl, _∙_}
-use Prim.Native.Nat.{ℕ, _+_, _-_, _≤_, _<_}
+use Prim.Native.Nat.{ℕ, zero, suc, _+_, _-_, _≤_, _<_}
 use native.Mathlib.Nat.{add-zero}
 use native.Mathlib.Omega.{arith}
-use lib.IntN.{pos}
+use lib.IntN.{pos, natAbs}
 use lib.ListN.{length, take, length-append}
 use lib.Seq.{take-append-seam}
 use borrow.Author.Tests.{le-leb, ne-eqb}
 use Rattle.meaning.specs.Bytes.{isDigit, digitAt}
-use Rattle.meaning.specs.Numerals.{Signed, allDigits, decimal, signOf, sized, largest, numberOf}
+use Rattle.meaning.specs.Numerals.{Signed, integer, allDigits, decimal, signOf, sized, largest, numberOf}
 use Rattle.meaning.specs.Readers.{got, reach}
 use Rattle.meaning.specs.Reading.{zeroFor, passed, takenUnit}
 use Rattle.meaning.specs.declared.Carried.the-variants.{Nothing, Value}
@@ -23,6 +23,12 @@ use Rattle.meaning.specs.declared.Sign.the-variants.{Bare}
 use Rattle.laws.proofs.Digits.{digit-bounds, digit-in, digit-behind}
 use Rattle.laws.proofs.Readers.{skip-goes-on, take-goes-on, reach-exact}
 use Rattle.laws.proofs.Tests.{both-true}
+
+-- the size of a number that has one
+pub size-alone : (negative : Bool) (n : ℕ) → natAbs (integer (record { negative = negative; size = n })) ≡ n
+size-alone false n = refl
+size-alone true zero = refl
+size-alone true (suc n) = refl
 
 -- a digit is no sign
 pub digit-is-bare : (kind : Numeral) (b : ℕ) → isDigit b ≡ true → signOf kind b ≡ Bare

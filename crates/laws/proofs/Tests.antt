@@ -5,8 +5,9 @@ use mathlib.Core.List.{List, [], _∷_, _++_}
 use mathlib.Core.Path.{_≡_, refl, sym, ap, _∙_}
 use Prim.Native.Nat.{ℕ, zero, suc, _+_, _<_}
 use native.Mathlib.Omega.{arith}
-use borrow.Author.Tests.{eq-eqb, ne-eqb, le-leb, lt-leb, lt-ltb, le-ltb}
-use lib.ListN.{length, getD, take, replicate}
+use borrow.Author.Tests.{eq-eqb, ne-eqb, le-leb, lt-leb, lt-ltb, le-ltb, ltb-true, ltb-false}
+use lib.Dec.{ltb}
+use lib.ListN.{length, getD, take, replicate, List·getD-eq-default}
 use Rattle.meaning.specs.Bytes.{when, both}
 
 -- what a branch of the code knows, put into a definition's choices: `returns c = search chosen`
@@ -47,6 +48,12 @@ when-false a b e = rw e
 pub when-is : {A : Type 0} (P : A → Type 0) (t : Bool) {a b : A} → (t ≡ true → P a) → (t ≡ false → P b) → P (when t a b)
 when-is P true yes′ no′ = yes′ refl
 when-is P false yes′ no′ = no′ refl
+
+-- what passes a test that 0 does not pass is not behind the end of a list
+pub passes-there : (test : ℕ → Bool) (l : List ℕ) (i : ℕ) → test 0 ≡ false → test (getD l i 0) ≡ true → i < length l
+passes-there test l i no′ yes′ =
+    by-test (ltb i (length l)) (λ e. ltb-true i (length l) e)
+    (λ e. true-is-not-false (sym (rw (List·getD-eq-default l 0 (ltb-false i (length l) e)) at yes′) ∙ no′))
 
 unfoldable pub every : {A : Type 0} → (A → Bool) → List A → Bool
 every test [] = true

@@ -1,7 +1,7 @@
 -- The specification's numbers and values tell answers apart. Each answer is found again from its number and values, so two enums with
 -- the same ones are the same: a promise that equates the numbers and values says what one says that equates the enums. Then how
 -- a promise is met by an equation, and what the answer of the check is told by.
-use mathlib.Core.Bool.{false}
+use mathlib.Core.Bool.{Bool, true, false}
 use mathlib.Core.List.{List, [], _∷_}
 use mathlib.Core.Path.{_≡_, refl, ap, sym, _∙_}
 use Prim.Native.Nat.{ℕ}
@@ -9,7 +9,7 @@ use lib.Dec.{eqb}
 use lib.IntN.{ℤ, pos, natAbs}
 use lib.ListN.{getD}
 use Rattle.meaning.proofs.Books.{english-valid}
-use Rattle.meaning.specs.Answers.{number, details, Answer, refused, answerBy, wroteAnswer, listAnswer, offsetAnswer, dayNumberAnswer, verdictAnswer}
+use Rattle.meaning.specs.Answers.{number, details, Answer, refused, answerBy, wroteAnswer, listAnswer, offsetAnswer, dayNumberAnswer, verdictAnswer, stampAnswer}
 use Rattle.meaning.specs.Bytes.{when}
 use Rattle.meaning.specs.Names.{english}
 use Rattle.meaning.specs.Promises.{SameAnswer}
@@ -25,7 +25,10 @@ use Rattle.meaning.specs.declared.Listed.the-variants as listed
 use Rattle.meaning.specs.declared.Offset.{Offset}
 use Rattle.meaning.specs.declared.Offset.the-variants as offset
 use Rattle.meaning.specs.declared.Refusal.{Refusal}
-use Rattle.meaning.specs.declared.Refusal.the-variants.{PatternTooLong, PatternByte, LoneQuote, FieldRange, NoRoom, TextTooLong, TextByte, InPart, OffsetLength, OffsetRange, CurrentYear, TextLeft, NoSuchDay, NoDayNumber, BookMark, BookVersion, BookCut, BookName, ShortRow, MendedTooLong}
+use Rattle.meaning.specs.declared.Refusal.the-variants.{PatternTooLong, PatternByte, LoneQuote, FieldRange, NoRoom, TextTooLong, TextByte, InPart, OffsetLength, OffsetRange, CurrentYear, TextLeft, NoSuchDay, NoDayNumber, BookMark, BookVersion, BookCut, BookName, ShortRow, NotStamp, StampRange, LeapSecond, StampYear, StampOffset, MendedTooLong}
+use Rattle.meaning.specs.declared.Stamp.{Stamp}
+use Rattle.meaning.specs.declared.Stamped.{Stamped}
+use Rattle.meaning.specs.declared.Stamped.the-variants as stamped
 use Rattle.meaning.specs.declared.Trouble.{Trouble}
 use Rattle.meaning.specs.declared.Trouble.the-variants.{TooFew, NoNumber, NoName, NoSign, LiteralDiffers, PlusSign}
 use Rattle.meaning.specs.declared.Verdict.{Verdict}
@@ -76,11 +79,11 @@ table =
     ∷ (λ ds. BookCut)
     ∷ (λ ds. BookName (one ds))
     ∷ (λ ds. ShortRow)
-    ∷ unused
-    ∷ unused
-    ∷ unused
-    ∷ unused
-    ∷ unused
+    ∷ (λ ds. NotStamp (one ds))
+    ∷ (λ ds. StampRange)
+    ∷ (λ ds. LeapSecond)
+    ∷ (λ ds. StampYear)
+    ∷ (λ ds. StampOffset)
     ∷ (λ ds. MendedTooLong)
     ∷ []
 
@@ -122,6 +125,11 @@ found BookVersion = record { again = refl; not-0 = refl }
 found BookCut = record { again = refl; not-0 = refl }
 found (BookName which) = record { again = refl; not-0 = refl }
 found ShortRow = record { again = refl; not-0 = refl }
+found (NotStamp place) = record { again = refl; not-0 = refl }
+found StampRange = record { again = refl; not-0 = refl }
+found LeapSecond = record { again = refl; not-0 = refl }
+found StampYear = record { again = refl; not-0 = refl }
+found StampOffset = record { again = refl; not-0 = refl }
 found MendedTooLong = record { again = refl; not-0 = refl }
 
 pub refusal-number : (why : Refusal) → eqb (number why) 0 ≡ false
@@ -191,6 +199,33 @@ day-number-again (dayNumber.Refused why) =
 pub day-numbers-told-apart : (a b : DayNumber) → dayNumberAnswer a ≡ dayNumberAnswer b → a ≡ b
 day-numbers-told-apart = told-apart dayNumberAnswer dayNumberOf day-number-again
 
+abbrev stampOf : List ℤ → Stamp
+stampOf vs =
+    record {
+      year = getD vs 0 (pos 0);
+      month = natAbs (getD vs 1 (pos 0));
+      day = natAbs (getD vs 2 (pos 0));
+      nanos = natAbs (getD vs 3 (pos 0));
+      offset = getD vs 4 (pos 0);
+      unknown = eqb (natAbs (getD vs 5 (pos 0))) 1;
+    }
+
+abbrev stampedOf : Answer → Stamped
+stampedOf = answerOf (λ vs. stamped.Read (stampOf vs)) (λ why. stamped.Refused why)
+
+mark-again : (unknown : Bool) → eqb (when unknown 1 0) 1 ≡ unknown
+mark-again true = refl
+mark-again false = refl
+
+stamped-again : (r : Stamped) → stampedOf (stampAnswer r) ≡ r
+stamped-again (stamped.Read t) =
+    ap (λ (b : Bool). stamped.Read (record { year = t .year; month = t .month; day = t .day; nanos = t .nanos; offset = t .offset; unknown = b }))
+    (mark-again (t .unknown))
+stamped-again (stamped.Refused why) = refused-again (λ vs. stamped.Read (stampOf vs)) (λ w. stamped.Refused w) why
+
+pub stamps-told-apart : (a b : Stamped) → stampAnswer a ≡ stampAnswer b → a ≡ b
+stamps-told-apart = told-apart stampAnswer stampedOf stamped-again
+
 abbrev fieldsOf : List ℤ → Fields
 fieldsOf vs =
     record {
@@ -234,6 +269,9 @@ offset-by-told r d e = record { told = e; whole = offsets-told-apart r d e }
 
 pub day-number-by-told : (r d : DayNumber) → dayNumberAnswer r ≡ dayNumberAnswer d → SameAnswer dayNumberAnswer r d
 day-number-by-told r d e = record { told = e; whole = day-numbers-told-apart r d e }
+
+pub stamp-by-told : (r d : Stamped) → stampAnswer r ≡ stampAnswer d → SameAnswer stampAnswer r d
+stamp-by-told r d e = record { told = e; whole = stamps-told-apart r d e }
 
 -- the check: the first of its checks that refuses, or what its yes or no returns
 pub says-told : (edition : Edition) (p : List ℕ) (current : ℤ) (v : Verdict) → Says edition p current v

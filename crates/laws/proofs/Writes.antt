@@ -14,7 +14,7 @@ use Rattle.meaning.specs.declared.Pair.{Pair}
 use Rattle.meaning.specs.declared.Wrote.the-variants as wrote
 use Rattle.laws.proofs.Checks.{Writes, write-fine, fine-write}
 
-wrote-fine : (c : Checked) (t : List ℕ) {n : ℕ} → wroteBy c t ≡ wrote.Length n → (c ≡ Fine) × (n ≡ length t)
+pub wrote-fine : (c : Checked) (t : List ℕ) {n : ℕ} → wroteBy c t ≡ wrote.Length n → (c ≡ Fine) × (n ≡ length t)
 wrote-fine Fine t h = (refl, cc)
 wrote-fine (Refused why) t h = absurd (let z : _≡_ {A = ℕ} 0 1 = cc in omega arith)
 

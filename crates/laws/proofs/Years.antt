@@ -38,7 +38,7 @@ unfolding digitRun digitAt
 no-run [] h = refl
 no-run (b ∷ r) h = rw h
 
-run-of-digits : (s r : List ℕ) → allDigits s ≡ true → digitAt 0 r ≡ false → digitRun (s ++ r) ≡ length s
+pub run-of-digits : (s r : List ℕ) → allDigits s ≡ true → digitAt 0 r ≡ false → digitRun (s ++ r) ≡ length s
 unfolding digitRun allDigits
 run-of-digits [] r all h = no-run r h
 run-of-digits (b ∷ s) r all h =

@@ -7,6 +7,7 @@ pub mod Names
 pub mod Pluses
 pub mod Samples
 pub mod Spans
+pub mod Stamps
 pub mod Strict
 pub mod Tables
 pub mod Units

@@ -24,8 +24,11 @@ use Rattle.meaning.specs.declared.Offset.{Offset}
 use Rattle.meaning.specs.declared.Offset.the-variants as offset
 use Rattle.meaning.specs.declared.Reading.{Reading}
 use Rattle.meaning.specs.declared.Refusal.{Refusal}
-use Rattle.meaning.specs.declared.Refusal.the-variants.{PatternTooLong, PatternByte, LoneQuote, FieldRange, NoRoom, TextTooLong, TextByte, InPart, OffsetLength, OffsetRange, CurrentYear, TextLeft, NoSuchDay, NoDayNumber, BookMark, BookVersion, BookCut, BookName, ShortRow, MendedTooLong}
+use Rattle.meaning.specs.declared.Refusal.the-variants.{PatternTooLong, PatternByte, LoneQuote, FieldRange, NoRoom, TextTooLong, TextByte, InPart, OffsetLength, OffsetRange, CurrentYear, TextLeft, NoSuchDay, NoDayNumber, BookMark, BookVersion, BookCut, BookName, ShortRow, NotStamp, StampRange, LeapSecond, StampYear, StampOffset, MendedTooLong}
 use Rattle.meaning.specs.declared.Split.{Split}
+use Rattle.meaning.specs.declared.Stamp.{Stamp}
+use Rattle.meaning.specs.declared.Stamped.{Stamped}
+use Rattle.meaning.specs.declared.Stamped.the-variants as stamped
 use Rattle.meaning.specs.declared.Trouble.{Trouble}
 use Rattle.meaning.specs.declared.Trouble.the-variants.{TooFew, NoNumber, NoName, NoSign, LiteralDiffers, PlusSign}
 use Rattle.meaning.specs.declared.Verdict.{Verdict}
@@ -61,6 +64,11 @@ number BookVersion = 21
 number BookCut = 22
 number (BookName which) = 23
 number ShortRow = 24
+number (NotStamp place) = 25
+number StampRange = 26
+number LeapSecond = 27
+number StampYear = 28
+number StampOffset = 29
 number MendedTooLong = 30
 
 -- what is returned with the number, in the table's order
@@ -84,6 +92,11 @@ details BookVersion = pos 0 ∷ []
 details BookCut = pos 0 ∷ []
 details (BookName which) = pos which ∷ []
 details ShortRow = pos 0 ∷ []
+details (NotStamp place) = pos place ∷ []
+details StampRange = pos 0 ∷ []
+details LeapSecond = pos 0 ∷ []
+details StampYear = pos 0 ∷ []
+details StampOffset = pos 0 ∷ []
 details MendedTooLong = pos 0 ∷ []
 
 -- an answer's number, 0 where it is accepted, and what is returned with it
@@ -140,6 +153,14 @@ dayNumberAnswer (dayNumber.Refused why) = refused why
 abbrev pub dayAnswer : Day → Answer
 dayAnswer d =
     accepted (d .year ∷ pos (d .month) ∷ pos (d .day) ∷ pos (d .doy) ∷ pos (d .week) ∷ pos (d .wday) ∷ [])
+
+-- the fields of a stamp, and 1 where its offset is unknown
+abbrev pub stampNumbers : Stamp → List ℤ
+stampNumbers t = t .year ∷ pos (t .month) ∷ pos (t .day) ∷ pos (t .nanos) ∷ t .offset ∷ pos (when (t .unknown) 1 0) ∷ []
+
+abbrev pub stampAnswer : Stamped → Answer
+stampAnswer (stamped.Read t) = accepted (stampNumbers t)
+stampAnswer (stamped.Refused why) = refused why
 
 -- 1 for yes; 0 for no, with the part and a record for which it fails
 abbrev pub verdictAnswer : Verdict → Answer

@@ -19,4 +19,6 @@ pub mod Books
 pub mod OpenedBooks
 pub mod Lists
 pub mod Mending
+pub mod StampGrammar
+pub mod Stamps
 pub mod Promises

@@ -6,12 +6,13 @@ use mathlib.Core.List.{List}
 use mathlib.Core.Path.{_≡_}
 use Prim.Native.Nat.{ℕ}
 use lib.IntN.{ℤ}
-use Rattle.meaning.specs.Answers.{Answer, splitAnswer, wroteAnswer, readAnswer, listAnswer, offsetAnswer, dayNumberAnswer}
+use Rattle.meaning.specs.Answers.{Answer, splitAnswer, wroteAnswer, readAnswer, listAnswer, offsetAnswer, dayNumberAnswer, stampAnswer}
 use Rattle.meaning.specs.Days.{dayNumber}
 use Rattle.meaning.specs.Lists.{Rows, readList, listRows, readLine}
 use Rattle.meaning.specs.Mending.{undo, undoOutput}
 use Rattle.meaning.specs.Names.{Book}
 use Rattle.meaning.specs.OpenedBooks.{openBook, openOutput, writeBook, bookOutput}
+use Rattle.meaning.specs.Stamps.{readStamp, writeStamp, stampOutput}
 use Rattle.meaning.specs.Whole.{split, write, output, read, parseOffset, unitNumber, marked}
 use Rattle.meaning.specs.declared.Change.{Change}
 use Rattle.meaning.specs.declared.Choices.{Choices}
@@ -25,6 +26,8 @@ use Rattle.meaning.specs.declared.ParseUnit.{ParseUnit}
 use Rattle.meaning.specs.declared.Reading.{Reading}
 use Rattle.meaning.specs.declared.Split.{Split}
 use Rattle.meaning.specs.declared.Undone.{Undone}
+use Rattle.meaning.specs.declared.Stamp.{Stamp}
+use Rattle.meaning.specs.declared.Stamped.{Stamped}
 use Rattle.meaning.specs.declared.Wrote.{Wrote}
 
 -- r is the answer d: by the specification's number and values, and in all that it holds. Where the answer is an enum either says the
@@ -69,3 +72,9 @@ ReadsLine choices book p s at current r = r ≡ readLine choices book p s at cur
 -- listed changes of a pattern undone
 abbrev pub Undoes : List ℕ → List Change → List ℕ → Undone → List ℕ → Type 0
 Undoes p cs out r after = (r ≡ undo p cs out) × (after ≡ undoOutput p cs out)
+
+abbrev pub ReadsStamp : List ℕ → Stamped → Type 0
+ReadsStamp s r = SameAnswer stampAnswer r (readStamp s)
+
+abbrev pub WritesStamp : Stamp → List ℕ → Wrote → List ℕ → Type 0
+WritesStamp stamp out r after = SameAnswer wroteAnswer r (writeStamp stamp out) × (after ≡ stampOutput stamp out)

@@ -226,6 +226,11 @@ pub enum Refusal {
     BookCut,
     BookName(u32),
     ShortRow,
+    NotStamp(usize),
+    StampRange,
+    LeapSecond,
+    StampYear,
+    StampOffset,
     MendedTooLong,
 }
 
@@ -323,5 +328,21 @@ pub struct Mended {
 pub enum Undone {
     Length(usize),
     Misfit,
+    Refused(Refusal),
+}
+
+// A date-time of RFC 3339: the day, the nanoseconds of the day, the offset in seconds, and whether that one is unknown.
+pub struct Stamp {
+    pub year: i32,
+    pub month: u32,
+    pub day: u32,
+    pub nanos: u64,
+    pub offset: i32,
+    pub unknown: bool,
+}
+
+// The answer of read_stamp.
+pub enum Stamped {
+    Read(Stamp),
     Refused(Refusal),
 }

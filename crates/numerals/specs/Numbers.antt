@@ -1,5 +1,8 @@
 -- The answers of the number reader, from what the definitions' readers give.
+use mathlib.Core.List.{List}
 use mathlib.Core.Option.{Option, none, some}
+use Prim.Native.Nat.{ℕ, _+_, _*_, _-_}
+use lib.ListN.{getD}
 use Rattle.meaning.specs.Numerals.{Signed}
 use Rattle.meaning.specs.Readers.{Got, got, stopped}
 use Rattle.meaning.specs.declared.Trouble.{Trouble}
@@ -23,3 +26,7 @@ numberStopped PlusSign = number.PlusSign
 abbrev pub gotNumber : Got Signed → Number
 gotNumber (got k n) = number.Value (n .negative) (n .size)
 gotNumber (stopped why i) = numberStopped why
+
+-- two digits at a place, as a number
+abbrev pub pairAt : ℕ → List ℕ → ℕ
+pairAt at s = (getD s at 0 - 48) * 10 + (getD s (at + 1) 0 - 48)

@@ -1,5 +1,6 @@
-// Numbers in: the test of a digit, the one number reader, how far a greedy number goes.
+// Numbers in: the test of a digit, the one number reader, how far a greedy number goes, digits at known places.
 pub mod extents;
+pub mod pairs;
 
 ghost use mathlib.Core.Path.{_≡_};
 ghost use Prim.Native.Nat.{_^_, _<_};

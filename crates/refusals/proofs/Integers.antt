@@ -7,7 +7,7 @@ use Rattle.meaning.specs.Bytes.{when}
 use Rattle.meaning.specs.Numerals.{integer}
 use Rattle.meaning.specs.Writing.{isNegative}
 use Rattle.meaning.specs.declared.Refusal.{Refusal}
-use Rattle.meaning.specs.declared.Refusal.the-variants.{PatternTooLong, PatternByte, LoneQuote, FieldRange, NoRoom, TextTooLong, TextByte, InPart, OffsetLength, OffsetRange, CurrentYear, TextLeft, NoSuchDay, NoDayNumber, BookMark, BookVersion, BookCut, BookName, ShortRow, MendedTooLong}
+use Rattle.meaning.specs.declared.Refusal.the-variants.{PatternTooLong, PatternByte, LoneQuote, FieldRange, NoRoom, TextTooLong, TextByte, InPart, OffsetLength, OffsetRange, CurrentYear, TextLeft, NoSuchDay, NoDayNumber, BookMark, BookVersion, BookCut, BookName, ShortRow, NotStamp, StampRange, LeapSecond, StampYear, StampOffset, MendedTooLong}
 use Rattle.refusals.specs.Told.{told, detailOf}
 use Rattle.refusals.specs.declared.Told.{Told}
 
@@ -40,6 +40,11 @@ told-details BookVersion = refl
 told-details BookCut = refl
 told-details (BookName which) = refl
 told-details ShortRow = refl
+told-details (NotStamp place) = refl
+told-details StampRange = refl
+told-details LeapSecond = refl
+told-details StampYear = refl
+told-details StampOffset = refl
 told-details MendedTooLong = refl
 
 -- for a caller that gives the details on

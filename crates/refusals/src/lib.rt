@@ -93,6 +93,11 @@ pub fn tell(why: Refusal) -> Told
         Refusal::BookCut => with_one(22, 0),
         Refusal::BookName(which) => with_one(23, which as usize),
         Refusal::ShortRow => with_one(24, 0),
+        Refusal::NotStamp(place) => with_one(25, place),
+        Refusal::StampRange => with_one(26, 0),
+        Refusal::LeapSecond => with_one(27, 0),
+        Refusal::StampYear => with_one(28, 0),
+        Refusal::StampOffset => with_one(29, 0),
         Refusal::MendedTooLong => with_one(30, 0),
     }
 }

@@ -15,6 +15,8 @@ use Rattle.meaning.specs.declared.Offset.{Offset}
 use Rattle.meaning.specs.declared.Offset.the-variants as offset
 use Rattle.meaning.specs.declared.Reading.{Reading}
 use Rattle.meaning.specs.declared.Refusal.{Refusal}
+use Rattle.meaning.specs.declared.Stamped.{Stamped}
+use Rattle.meaning.specs.declared.Stamped.the-variants as stamped
 use Rattle.meaning.specs.declared.Undone.{Undone}
 use Rattle.meaning.specs.declared.Undone.the-variants as undone
 use Rattle.meaning.specs.declared.Verdict.{Verdict}
@@ -69,6 +71,10 @@ OffsetFits (offset.Refused why) = WhyFits why
 abbrev pub DayNumberFits : DayNumber → Type 0
 DayNumberFits (day.Number z) = Unit
 DayNumberFits (day.Refused why) = WhyFits why
+
+abbrev pub StampedFits : Stamped → Type 0
+StampedFits (stamped.Read t) = NumberFits (t .nanos)
+StampedFits (stamped.Refused why) = WhyFits why
 
 abbrev pub VerdictFits : Verdict → Type 0
 VerdictFits verdict.Yes = Unit

@@ -5,5 +5,6 @@ pub mod days;
 pub mod entries;
 pub mod readings;
 pub mod splits;
+pub mod stamps;
 pub mod units;
 pub mod verdicts;

@@ -20,11 +20,12 @@ use Rattle.meaning.specs.declared.Choices.{Choices}
 use Rattle.meaning.specs.declared.Edition.{Edition}
 use Rattle.meaning.specs.declared.Fields.{Fields}
 use Rattle.meaning.specs.declared.Pair.{Pair}
+use Rattle.meaning.specs.declared.Stamp.{Stamp}
 use Rattle.meaning.specs.declared.Verdict.{Verdict}
 use Rattle.meaning.specs.declared.Verdict.the-variants.{Yes, No, Refused}
 use Rattle.rows.specs.Rows.{inRow, Given}
 use Rattle.sheet.specs.Numbers.{editionOf, ofCheck}
-use Rattle.sheet.specs.Sheet.{has, ifRoom, ifChoices, verdictIn, SheetWrites, SheetReads, SheetReadsWith, SheetWritesBy, SheetReadsBy, SheetReadsList, SheetReadsLine, SheetOpensBook, SheetWritesBook, SheetTellsRead, SheetParsesOffset, SheetSplits, SheetUnits, SheetChecks, SheetChecksWith, SheetMends, SheetUndoes, SheetDay, SheetDayNumber}
+use Rattle.sheet.specs.Sheet.{has, ifRoom, ifChoices, verdictIn, SheetWrites, SheetReads, SheetReadsWith, SheetWritesBy, SheetReadsBy, SheetReadsList, SheetReadsLine, SheetOpensBook, SheetWritesBook, SheetTellsRead, SheetParsesOffset, SheetSplits, SheetUnits, SheetChecks, SheetChecksWith, SheetMends, SheetUndoes, SheetDay, SheetDayNumber, SheetReadsStamp, SheetWritesStamp}
 use Rattle.trust.proofs.Agreement.{SameButRecord, answers-coincide}
 
 given-coincide : {answer : Answer} {old new new′ : List ℤ} {r r′ : ℕ} → Given answer old new r → Given answer old new′ r′ → (r ≡ r′) × (new ≡ new′)
@@ -114,6 +115,15 @@ day-rows-coincide z row short a b =
 pub day-number-rows-coincide : (year : ℤ) (month day : ℕ) (row : List ℤ) {r r′ : ℕ} {rowAfter rowAfter′ : List ℤ}
     → SheetDayNumber year month day row r rowAfter → SheetDayNumber year month day row r′ rowAfter′ → (r ≡ r′) × (rowAfter ≡ rowAfter′)
 day-number-rows-coincide year month day row = given-coincide
+
+pub stamps-coincide : (s : List ℕ) (row : List ℤ) {r r′ : ℕ} {rowAfter rowAfter′ : List ℤ}
+    → SheetReadsStamp s row r rowAfter → SheetReadsStamp s row r′ rowAfter′ → (r ≡ r′) × (rowAfter ≡ rowAfter′)
+stamps-coincide s row = given-coincide
+
+pub stamp-writes-coincide : (mark : ℕ) (stamp : Stamp) (out : List ℕ) (row : List ℤ) {r r′ : ℕ} {outAfter outAfter′ : List ℕ} {rowAfter rowAfter′ : List ℤ}
+    → SheetWritesStamp mark stamp out row r outAfter rowAfter → SheetWritesStamp mark stamp out row r′ outAfter′ rowAfter′
+    → (r ≡ r′) × (rowAfter ≡ rowAfter′) × (outAfter ≡ outAfter′)
+stamp-writes-coincide mark stamp out row = both-coincide
 
 -- the check
 

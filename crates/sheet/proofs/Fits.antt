@@ -69,7 +69,7 @@ fitting-fields f =
     (field-fits (within 0 6 (f .wday)) 6 _ (omega arith)
     (field-fits (within 0 86399999999999 (f .nanos)) 7 _ (omega arith) (last-fits (within 0 86399 (natAbs (f .offset))) 8 (omega arith))))))))
 
-fields-fit : (f : Fields) → CheckedFits (fieldsCheck f)
+pub fields-fit : (f : Fields) → CheckedFits (fieldsCheck f)
 fields-fit f = fitting-fields f .fits
 
 write-check-fits : (pair : Pair) (book p : List ℕ) (f : Fields) (room : ℕ) → NumberFits (length p) → CheckedFits (writeCheck pair (bookIn book) p f room)
@@ -132,12 +132,15 @@ day-by-fits : (checked : Checked) (z : ℤ) → CheckedFits checked → DayNumbe
 day-by-fits Fine z h = tt
 day-by-fits (Refused why) z h = h
 
+pub day-fits : (y : ℤ) (m d : ℕ) → CheckedFits (dayCheck y m d)
+unfolding dayCheck details
+day-fits y m d =
+    else-fits (refuseUnless (isDate y m d) NoSuchDay) (refuseUnless (isShort (dateNumber y m d)) NoDayNumber) (unless-fits (isDate y m d) NoSuchDay (omega arith, tt))
+    (λ _. unless-fits (isShort (dateNumber y m d)) NoDayNumber (omega arith, tt))
+
 pub day-number-fits : (y : ℤ) (m d : ℕ) → DayNumberFits (dayNumber y m d)
-unfolding dayNumber details
-day-number-fits y m d =
-    day-by-fits (dayCheck y m d) (dateNumber y m d)
-    (else-fits (refuseUnless (isDate y m d) NoSuchDay) (refuseUnless (isShort (dateNumber y m d)) NoDayNumber) (unless-fits (isDate y m d) NoSuchDay (omega arith, tt))
-    (λ _. unless-fits (isShort (dateNumber y m d)) NoDayNumber (omega arith, tt)))
+unfolding dayNumber
+day-number-fits y m d = day-by-fits (dayCheck y m d) (dateNumber y m d) (day-fits y m d)
 
 -- the check
 

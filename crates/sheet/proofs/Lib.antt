@@ -5,4 +5,5 @@ mod Halves
 mod ListFits
 mod MendFits
 pub mod Rooms
+mod StampFits
 mod Untrusted

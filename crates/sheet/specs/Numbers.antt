@@ -1,4 +1,4 @@
--- What the numbers and rows that a caller lends stand for: the choices of a reading, a book, the mask of a reading.
+-- What the numbers and rows that a caller lends stand for: the choices of a reading, a book, the mark of a stamp, the mask of a reading.
 use mathlib.Core.Bool.{Bool, true, false}
 use mathlib.Core.List.{List}
 use Prim.Native.Nat.{ℕ, _/_, _%_}
@@ -34,6 +34,13 @@ ofCheck n = both (ofReading n) (eqb (n % 2) 0)
 -- whether a lent row is a book: an opened one, or an empty row, which stands for English
 abbrev pub isBook : List ℕ → Bool
 isBook book = when (eqb (length book) 0) true (eqb (length book) openedSize)
+
+-- whether a number is the mark of a stamp, and whether that says that the offset is unknown
+abbrev pub isMark : ℕ → Bool
+isMark n = leb n 1
+
+abbrev pub marksUnknown : ℕ → Bool
+marksUnknown n = eqb n 1
 
 -- whether a mask has the bit of a unit, of which there are fifteen; a number below 0 is no mask and has none
 abbrev pub isMarked : ℤ → ℕ → Bool

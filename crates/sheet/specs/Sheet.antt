@@ -1,5 +1,5 @@
 -- What each function for C and Rust promises of the number r that it returns and of the lent rows afterwards. Where a lent row
--- is too small for the answer, r is 100, where a number stands for no choices, 101, where a row is no book, 102, where no line is left,
+-- is too small for the answer, r is 100, where a number stands for no choices or for no mark, 101, where a row is no book, 102, where no line is left,
 -- 103, where changes do not fit, 104, and nothing is altered.
 use mathlib.Core.Bool.{Bool}
 use mathlib.Core.List.{List, []}
@@ -8,7 +8,7 @@ use Prim.Native.Nat.{ℕ}
 use lib.Dec.{leb}
 use lib.IntN.{ℤ}
 use lib.ListN.{length}
-use Rattle.meaning.specs.Answers.{Answer, splitAnswer, wroteAnswer, readAnswer, listAnswer, offsetAnswer, dayNumberAnswer, dayAnswer, verdictAnswer}
+use Rattle.meaning.specs.Answers.{Answer, splitAnswer, wroteAnswer, readAnswer, listAnswer, offsetAnswer, dayNumberAnswer, dayAnswer, stampAnswer, verdictAnswer}
 use Rattle.meaning.specs.Bytes.{when, both}
 use Rattle.meaning.specs.Days.{DayOf, dayNumber}
 use Rattle.meaning.specs.Lists as lists
@@ -16,6 +16,7 @@ use Rattle.meaning.specs.Lists.{readList, listRows, readLine}
 use Rattle.meaning.specs.Mending.{undoOutput}
 use Rattle.meaning.specs.Names.{Book, english}
 use Rattle.meaning.specs.OpenedBooks.{bookIn, openBook, openOutput, writeBook, bookOutput}
+use Rattle.meaning.specs.Stamps.{readStamp, writeStamp, stampOutput}
 use Rattle.meaning.specs.Trust.{Says}
 use Rattle.meaning.specs.Whole.{split, write, output, read, parseOffset}
 use Rattle.meaning.specs.declared.Choices.{Choices}
@@ -23,10 +24,11 @@ use Rattle.meaning.specs.declared.Day.{Day}
 use Rattle.meaning.specs.declared.Edition.{Edition}
 use Rattle.meaning.specs.declared.Fields.{Fields}
 use Rattle.meaning.specs.declared.Pair.{Pair}
+use Rattle.meaning.specs.declared.Stamp.{Stamp}
 use Rattle.meaning.specs.declared.Verdict.{Verdict}
 use Rattle.rows.specs.Changes.{mendedCounts, mendNumbers, holdsChanges, changesHeld, undoneBy, inUndone}
 use Rattle.rows.specs.Rows.{inRow, Given, laid, inLine, splitNumbers, unitEntries}
-use Rattle.sheet.specs.Numbers.{pairOf, editionOf, choicesOf, ofReading, ofCheck, isBook, isMarked}
+use Rattle.sheet.specs.Numbers.{pairOf, editionOf, choicesOf, ofReading, ofCheck, isBook, isMark, isMarked}
 use Rattle.trust.specs.Mending.{mend, mendOutput}
 
 -- whether a row has so many entries
@@ -152,3 +154,13 @@ pub record SheetDay (z : ℤ) (row : List ℤ) (r : ℕ) (rowAfter : List ℤ) :
 abbrev pub SheetDayNumber : ℤ → ℕ → ℕ → List ℤ → ℕ → List ℤ → Type 0
 SheetDayNumber year month day row r rowAfter =
     Given (ifRoom (has 2 row) (inRow 2 (dayNumberAnswer (dayNumber year month day)))) row rowAfter r
+
+-- a stamp read; and one written, where a number is its mark
+
+abbrev pub SheetReadsStamp : List ℕ → List ℤ → ℕ → List ℤ → Type 0
+SheetReadsStamp s row r rowAfter = Given (ifRoom (has 6 row) (inRow 6 (stampAnswer (readStamp s)))) row rowAfter r
+
+abbrev pub SheetWritesStamp : ℕ → Stamp → List ℕ → List ℤ → ℕ → List ℕ → List ℤ → Type 0
+SheetWritesStamp mark stamp out row r outAfter rowAfter =
+    Given (ifChoices (isMark mark) (ifRoom (has 2 row) (inRow 2 (wroteAnswer (writeStamp stamp out))))) row rowAfter r
+    × (outAfter ≡ when (both (isMark mark) (has 2 row)) (stampOutput stamp out) out)

@@ -7,7 +7,8 @@ use std::process::ExitCode;
 
 const COMPARE: Comparer = Comparer {
     name: "compare",
-    usage: "usage: compare [--seed S] [--count N] [--every K] [--ops OP,OP.. | --lists | --mends] \
+    usage:
+        "usage: compare [--seed S] [--count N] [--every K] [--ops OP,OP.. | --lists | --mends | --stamps] \
         [--books english|random] [--requests FILE] -- PROGRAM [ARGS..]",
 };
 

@@ -11,6 +11,7 @@ mod mends;
 mod offsets;
 mod patterns;
 mod random;
+mod stamps;
 mod texts;
 
 use crate::answer::text_of;
@@ -80,6 +81,10 @@ fn request(op: Op, turn: usize, random: &mut Random) -> Request {
             bytes: books::bytes(turn, random),
         },
         Op::BookWrite => book_write_request(turn, random),
+        Op::RfcRead => Request::RfcRead {
+            text: stamps::text_to_read(turn, random),
+        },
+        Op::RfcWrite => stamps::record_to_write(turn, random),
         other => match (other.list_choices(), other.mend_edition()) {
             (Some(choices), _) => lists::list(choices, turn, random),
             (_, Some(edition)) => mends::mend(edition, turn, random),

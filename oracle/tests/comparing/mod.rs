@@ -20,7 +20,7 @@ pub struct Comparer {
     path: &'static str,
     books: Option<Books>,
     /// The option that names its ops, where they are not the usual ones.
-    ops: &'static str,
+    ops: Option<&'static str>,
     pub requests: Vec<String>,
     pub answers: Vec<String>,
 }
@@ -31,22 +31,27 @@ pub struct Outcome {
 }
 
 pub fn compare_with(books: Option<Books>, count: usize) -> Comparer {
-    compare_on(books, "", requests(books, count))
+    compare_on(books, None, requests(books, count))
 }
 
 /// Of lists alone.
 pub fn compare_lists(books: Option<Books>, count: usize) -> Comparer {
-    compare_on(books, "--lists", lists(books, count))
+    compare_on(books, Some("--lists"), lists(books, count))
 }
 
 /// Of patterns to mend alone.
 pub fn compare_mends(count: usize) -> Comparer {
-    compare_on(None, "--mends", mends(count))
+    compare_on(None, Some("--mends"), mends(count))
+}
+
+/// Of stamps alone.
+pub fn compare_stamps(count: usize) -> Comparer {
+    compare_on(None, Some("--stamps"), stamps(count))
 }
 
 fn compare_on(
     books: Option<Books>,
-    ops: &'static str,
+    ops: Option<&'static str>,
     requests: impl Iterator<Item = Request>,
 ) -> Comparer {
     let of_both = requests.map(|request| (request.to_string(), right(&request)));
@@ -72,6 +77,10 @@ pub fn mends(count: usize) -> impl Iterator<Item = Request> {
     Generator::new(1, Op::MENDS.to_vec()).take(count)
 }
 
+pub fn stamps(count: usize) -> impl Iterator<Item = Request> {
+    Generator::new(1, Op::STAMPS.to_vec()).take(count)
+}
+
 pub fn right(request: &Request) -> String {
     expected(request).line().to_string()
 }
@@ -80,7 +89,7 @@ pub fn compare_check_with(books: Option<Books>) -> Comparer {
     Comparer {
         path: env!("CARGO_BIN_EXE_compare_check"),
         books,
-        ops: "",
+        ops: None,
         requests: checks(books).map(|request| request.to_string()).collect(),
         answers: verdicts(checks(books)),
     }
@@ -109,7 +118,7 @@ impl Comparer {
         let run = Command::new(self.path)
             .args(["--seed", "1", "--count", &self.requests.len().to_string()])
             .args(books)
-            .args(Some(self.ops).filter(|ops| !ops.is_empty()))
+            .args(self.ops)
             .args(["--", "sh", "-c"])
             .args(words)
             .output()
@@ -126,10 +135,10 @@ impl Comparer {
             .file_name()
             .expect("a program has a name");
         let file = Path::new(env!("CARGO_TARGET_TMPDIR")).join(format!(
-            "{}-{name}-{:?}-{}",
+            "{}-{name}-{:?}{}",
             comparer.to_string_lossy(),
             self.books,
-            self.ops
+            self.ops.unwrap_or_default()
         ));
         let lines: String = answers.iter().map(|answer| format!("{answer}\n")).collect();
         fs::write(&file, lines).expect("the file can be written");

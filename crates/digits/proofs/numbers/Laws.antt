@@ -1,7 +1,7 @@
--- Four digits are two and two; and how many digits thousands have.
+-- Four digits are two and two, nine are one, four and four; and how many digits thousands have.
 use mathlib.Core.Bool.{true}
-use mathlib.Core.List.{_++_}
-use mathlib.Core.Path.{_≡_, sym}
+use mathlib.Core.List.{[], _∷_, _++_}
+use mathlib.Core.Path.{_≡_, refl, sym}
 use Prim.Native.Nat.{ℕ, _+_, _/_, _%_, _≤_, _<_, max}
 use native.Mathlib.Omega.{arith}
 use lib.Dec.{eqb, leb}
@@ -18,6 +18,25 @@ digits-four n h =
     let c : n % 100 / 10 % 10 ≡ n / 10 % 10 = omega arith in
     let d : n % 100 % 10 ≡ n % 10 = omega arith in
     rw (c, d, a, b)
+
+last-four : (n : ℕ) → digits 4 (n % 10000) ≡ digits 4 n
+unfolding digits
+last-four n =
+    let a : n % 10000 / 10 / 10 / 10 % 10 ≡ n / 10 / 10 / 10 % 10 = omega arith in
+    let b : n % 10000 / 10 / 10 % 10 ≡ n / 10 / 10 % 10 = omega arith in
+    let c : n % 10000 / 10 % 10 ≡ n / 10 % 10 = omega arith in
+    let d : n % 10000 % 10 ≡ n % 10 = omega arith in
+    rw (a, b, c, d)
+
+nine-at : (n : ℕ) → (48 + n / 10 / 10 / 10 / 10 / 10 / 10 / 10 / 10 % 10) ∷ [] ++ digits 4 (n / 10 / 10 / 10 / 10) ++ digits 4 n ≡ digits 9 n
+unfolding digits
+nine-at n = refl
+
+pub digits-nine : (n : ℕ) → n < 1000000000 → (48 + n / 100000000) ∷ [] ++ digits 4 (n / 10000 % 10000) ++ digits 4 (n % 10000) ≡ digits 9 n
+digits-nine n h =
+    let first : n / 100000000 ≡ n / 10 / 10 / 10 / 10 / 10 / 10 / 10 / 10 % 10 = omega arith in
+    let four : n / 10000 ≡ n / 10 / 10 / 10 / 10 = omega arith in
+    rw (last-four n, last-four (n / 10000), first, four) (nine-at n)
 
 pub four-at-least : (n : ℕ) → 1000 ≤ n → 4 ≤ width n
 four-at-least n h =

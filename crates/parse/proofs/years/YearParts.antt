@@ -6,7 +6,7 @@ use Prim.Native.Nat.{ℕ, zero, suc, _^_, _<_}
 use native.Mathlib.Nat.{add-zero}
 use native.Mathlib.Omega.{arith}
 use lib.Dec.{ltb}
-use lib.IntN.{ℤ, pos, natAbs, _+ℤ_, +ℤ-idr}
+use lib.IntN.{ℤ, pos, _+ℤ_, +ℤ-idr}
 use lib.ListN.{length}
 use mir.Syntax.{w64}
 use mir.Val.{SFits}
@@ -54,11 +54,6 @@ two-digits Second current s = refl
 
 pub year-few : (k at : ℕ) (s : List ℕ) → length s < k → partAt at (takenYear k s) ≡ part.Stopped TooFew at
 year-few k at s h = rw (take-stops Year k s h, add-zero)
-
-pub size-alone : (negative : Bool) (n : ℕ) → natAbs (integer (record { negative = negative; size = n })) ≡ n
-size-alone false n = refl
-size-alone true zero = refl
-size-alone true (suc n) = refl
 
 pub sum-fits : (negative : Bool) (n since : ℕ) → n < 2 ^ 32 → since < 2 ^ 32
     → SFits w64 (integer (record { negative = negative; size = n }) +ℤ pos since)

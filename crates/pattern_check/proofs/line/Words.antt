@@ -16,7 +16,7 @@ use Rattle.meaning.specs.declared.Edition.the-variants.{First}
 use Rattle.meaning.specs.declared.Fields.{Fields}
 use Rattle.meaning.specs.declared.Pair.the-variants.{Full}
 use Rattle.meaning.specs.declared.Refusal.{Refusal}
-use Rattle.meaning.specs.declared.Refusal.the-variants.{PatternTooLong, PatternByte, LoneQuote, FieldRange, NoRoom, TextTooLong, TextByte, InPart, OffsetLength, OffsetRange, CurrentYear, TextLeft, NoSuchDay, NoDayNumber, BookMark, BookVersion, BookCut, BookName, ShortRow, MendedTooLong}
+use Rattle.meaning.specs.declared.Refusal.the-variants.{PatternTooLong, PatternByte, LoneQuote, FieldRange, NoRoom, TextTooLong, TextByte, InPart, OffsetLength, OffsetRange, CurrentYear, TextLeft, NoSuchDay, NoDayNumber, BookMark, BookVersion, BookCut, BookName, ShortRow, NotStamp, StampRange, LeapSecond, StampYear, StampOffset, MendedTooLong}
 use Rattle.meaning.specs.declared.Trouble.{Trouble}
 use Rattle.meaning.specs.declared.Trouble.the-variants.{TooFew, NoNumber, NoName, NoSign, LiteralDiffers, PlusSign}
 use Rattle.meaning.specs.declared.Verdict.{Verdict}
@@ -59,6 +59,11 @@ small-number BookVersion = omega arith
 small-number BookCut = omega arith
 small-number (BookName which) = omega arith
 small-number ShortRow = omega arith
+small-number (NotStamp place) = omega arith
+small-number StampRange = omega arith
+small-number LeapSecond = omega arith
+small-number StampYear = omega arith
+small-number StampOffset = omega arith
 small-number MendedTooLong = omega arith
 
 pub few-words : (v : Verdict) → PartFits v → length (verdictText v) ≤ 10

@@ -87,8 +87,8 @@ is-negative-requires c κs = search needs
 size-requires : tie.Need-size-requires
 size-requires c κs = search needs
 
-cast-t25 : tie.Need-cast-t25
-cast-t25 c = search needs
+cast-t26 : tie.Need-cast-t26
+cast-t26 c = search needs
 
 detail-of-requires-3 : tie.Need-detail-of-requires-3
 detail-of-requires-3 c κs = search needs
@@ -144,11 +144,41 @@ enum-told-6 c = search needs
 with-one-requires-17 : tie.Need-with-one-requires-17
 with-one-requires-17 c κs = search needs
 
-enum-told-7 : tie.Need-enum-told-7
-enum-told-7 c = search needs
+enum-known-why-14 : tie.Need-enum-known-why-14
+enum-known-why-14 c = search needs
 
 with-one-requires-18 : tie.Need-with-one-requires-18
 with-one-requires-18 c κs = search needs
+
+enum-told-7 : tie.Need-enum-told-7
+enum-told-7 c = search needs
+
+with-one-requires-19 : tie.Need-with-one-requires-19
+with-one-requires-19 c κs = search needs
+
+enum-told-8 : tie.Need-enum-told-8
+enum-told-8 c = search needs
+
+with-one-requires-20 : tie.Need-with-one-requires-20
+with-one-requires-20 c κs = search needs
+
+enum-told-9 : tie.Need-enum-told-9
+enum-told-9 c = search needs
+
+with-one-requires-21 : tie.Need-with-one-requires-21
+with-one-requires-21 c κs = search needs
+
+enum-told-10 : tie.Need-enum-told-10
+enum-told-10 c = search needs
+
+with-one-requires-22 : tie.Need-with-one-requires-22
+with-one-requires-22 c κs = search needs
+
+enum-told-11 : tie.Need-enum-told-11
+enum-told-11 c = search needs
+
+with-one-requires-23 : tie.Need-with-one-requires-23
+with-one-requires-23 c κs = search needs
 
 returns : tie.Need-returns
 unfolding number details
@@ -232,7 +262,27 @@ returns-19 c = rw (c .with-one17 .ensures, c .before .enum-told6 .given .1)
 
 returns-20 : tie.Need-returns-20
 unfolding number details
-returns-20 c = rw (c .with-one18 .ensures, c .before .enum-told7 .given .1)
+returns-20 c = rw (c .with-one18 .ensures, c .before .before .why14 .given .1)
+
+returns-21 : tie.Need-returns-21
+unfolding number details
+returns-21 c = rw (c .with-one19 .ensures, c .before .enum-told7 .given .1)
+
+returns-22 : tie.Need-returns-22
+unfolding number details
+returns-22 c = rw (c .with-one20 .ensures, c .before .enum-told8 .given .1)
+
+returns-23 : tie.Need-returns-23
+unfolding number details
+returns-23 c = rw (c .with-one21 .ensures, c .before .enum-told9 .given .1)
+
+returns-24 : tie.Need-returns-24
+unfolding number details
+returns-24 c = rw (c .with-one22 .ensures, c .before .enum-told10 .given .1)
+
+returns-25 : tie.Need-returns-25
+unfolding number details
+returns-25 c = rw (c .with-one23 .ensures, c .before .enum-told11 .given .1)
 
 pub tell-spec : {M : Type 1} → statement M
 tell-spec =
@@ -265,7 +315,7 @@ tell-spec =
     enum-known-why-11
     is-negative-requires
     size-requires
-    cast-t25
+    cast-t26
     detail-of-requires-3
     enum-known-why-12
     with-one-requires-10
@@ -284,8 +334,18 @@ tell-spec =
     with-one-requires-16
     enum-told-6
     with-one-requires-17
-    enum-told-7
+    enum-known-why-14
     with-one-requires-18
+    enum-told-7
+    with-one-requires-19
+    enum-told-8
+    with-one-requires-20
+    enum-told-9
+    with-one-requires-21
+    enum-told-10
+    with-one-requires-22
+    enum-told-11
+    with-one-requires-23
     returns
     returns-2
     returns-3
@@ -305,4 +365,9 @@ tell-spec =
     returns-17
     returns-18
     returns-19
-    returns-20)
+    returns-20
+    returns-21
+    returns-22
+    returns-23
+    returns-24
+    returns-25)

@@ -1,7 +1,7 @@
 -- What a call gave, as it is stored; and the details of a refusal, their sizes and how they are laid.
-use mathlib.Core.Bool.{Bool, true, false}
+use mathlib.Core.Bool.{true, false}
 use mathlib.Core.List.{List, [], _∷_}
-use mathlib.Core.Path.{_≡_, refl}
+use mathlib.Core.Path.{_≡_}
 use Prim.Native.Nat.{ℕ, zero, suc, _-_, _<_, _^_}
 use native.Mathlib.Omega.{arith}
 use lib.IntN.{ℤ, pos, negℤ, natAbs}
@@ -12,7 +12,6 @@ use mir.Syntax.{w64}
 use mir.Val.{SFits, toZ, ofZ}
 use mir.ValLaws.{toZ-ofZ}
 use Rattle.meaning.specs.Answers.{details, refused}
-use Rattle.meaning.specs.Numerals.{integer}
 use Rattle.meaning.specs.declared.Kind.{Kind}
 use Rattle.meaning.specs.declared.Kind.the-variants.{Run, Quotes, Quoted, Open}
 use Rattle.meaning.specs.declared.Refusal.{Refusal}
@@ -25,11 +24,6 @@ use Rattle.rows.specs.Rows.{inRow, laid, kindNumber}
 -- what a call gave, as it is stored
 pub stored : (z : ℤ) → mag z < 2 ^ 63 → toZ w64 (ofZ w64 z) ≡ z
 stored z small = toZ-ofZ w64 z (record { sfits = small })
-
-pub size-of : (negative : Bool) (n : ℕ) → natAbs (integer (record { negative = negative; size = n })) ≡ n
-size-of true zero = refl
-size-of true (suc n) = refl
-size-of false n = refl
 
 pub negated-fits : (n : ℕ) → NumberFits n → SFits w64 (negℤ (pos n))
 negated-fits zero h = record { sfits = omega arith }

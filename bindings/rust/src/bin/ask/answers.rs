@@ -3,7 +3,7 @@
 use crate::lines::LONGEST;
 use crate::pair::Pair;
 use crate::words::Words;
-use crate::{books, checking, days, lists, mending, reading, splitting, writing};
+use crate::{books, checking, days, lists, mending, reading, splitting, stamps, writing};
 use sheet::Refusal;
 
 const BAD_REQUEST: &str = "bad request";
@@ -30,6 +30,8 @@ fn answer_to(line: &[u8]) -> Option<String> {
         b"book_write" => books::answer_write(words),
         b"list" => lists::answer(words),
         b"mend" => mending::answer(words),
+        b"rfc_read" => stamps::answer_read(words),
+        b"rfc_write" => stamps::answer_write(words),
         _ => None,
     }
 }
@@ -109,6 +111,10 @@ mod tests {
             "mend 64 2025",
             "Mend 64 2025 9",
             "mend 64 2025 9 9",
+            "rfc_read",
+            "rfc_read 5a book:-",
+            "rfc_write 2025 12 3 0 0 0",
+            "rfc_write 2025 12 3 0 0 0 35 strict",
         ];
         for line in lines {
             assert_eq!(answer(line.as_bytes()), "bad request", "{line}");

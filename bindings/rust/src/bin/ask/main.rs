@@ -14,6 +14,7 @@ mod pair;
 mod reader;
 mod reading;
 mod splitting;
+mod stamps;
 mod words;
 mod writer;
 mod writing;

@@ -27,7 +27,7 @@ pub fn answer(pair: Pair, mut words: Words) -> Option<String> {
 }
 
 /// What the writer did that is lent an output; where the one that makes its own did not do the same, the answers of both.
-fn answer_of_both(wrote: &Result<usize, Refusal>, out: &[u8], made: &Result<String, Refusal>) -> String {
+pub fn answer_of_both(wrote: &Result<usize, Refusal>, out: &[u8], made: &Result<String, Refusal>) -> String {
     let lent = written(wrote, out);
     if agree(wrote, out, made) {
         return lent;

@@ -4,7 +4,8 @@ use mir.Syntax.{w64}
 use mir.ValLaws.{toZ-ofZ}
 use native.Mathlib.Omega.{arith}
 use Rattle.numerals.proofs.Integers.{widened}
-use Rattle.parse.proofs.years.YearParts.{size-alone, sum-fits}
+use Rattle.laws.proofs.Numbers.{size-alone}
+use Rattle.parse.proofs.years.YearParts.{sum-fits}
 use Rattle.parse.proofs.years.counted.Statement.{statement}
 use Rattle.parse.proofs.years.counted.Tie as tie
 

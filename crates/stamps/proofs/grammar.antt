@@ -1,0 +1,3 @@
+pub mod Prefixes
+pub mod Fractions
+pub mod DateTimes

@@ -1,0 +1,3 @@
+pub mod Shape
+pub mod Fractions
+pub mod Found
