@@ -1,0 +1,5 @@
+pub mod Coding
+pub mod Fields
+pub mod Pieces
+pub mod Prepared
+pub mod Rows

@@ -1,0 +1,37 @@
+-- Request [11]: what a prepared pattern does: what its steps do, behind what its pattern was refused for. "Every answer, refusal, place and
+-- count equals the direct engine's": with a pattern's own check and steps these are `write`, `output` and `read` of Whole.
+use mathlib.Core.List.{List, []}
+use Prim.Native.Nat.{ℕ}
+use lib.IntN.{ℤ, natAbs}
+use lib.ListN.{length}
+use Rattle.meaning.specs.Answers.{_else_, fieldsCheck, roomCheck, currentYearCheck, textCheck}
+use Rattle.meaning.specs.Names.{Book}
+use Rattle.meaning.specs.Whole.{wroteBy, outputBy, walk, readBy, lastOf, bits, howMany}
+use Rattle.meaning.specs.Writing.{Step, texts}
+use Rattle.meaning.specs.declared.Checked.{Checked}
+use Rattle.meaning.specs.declared.Choices.{Choices}
+use Rattle.meaning.specs.declared.Fields.{Fields}
+use Rattle.meaning.specs.declared.Reading.{Reading}
+use Rattle.meaning.specs.declared.Wrote.{Wrote}
+
+-- Writing: what the pattern was refused for, then 4, 5.
+
+unfoldable pub writeStepsCheck : Checked → Book → List Step → Fields → ℕ → Checked
+unfolding fieldsCheck texts
+writeStepsCheck ofPattern book ss f room = ofPattern else fieldsCheck f else roomCheck room (length (texts book f ss))
+
+-- the answer, and the lent output afterwards
+unfoldable pub writeSteps : Checked → Book → List Step → Fields → List ℕ → Wrote
+unfolding writeStepsCheck
+writeSteps ofPattern book ss f out = wroteBy (writeStepsCheck ofPattern book ss f (length out)) (texts book f ss)
+
+unfoldable pub outputSteps : Checked → Book → List Step → Fields → List ℕ → List ℕ
+unfolding writeStepsCheck
+outputSteps ofPattern book ss f out = outputBy (writeStepsCheck ofPattern book ss f (length out)) (texts book f ss) out
+
+-- Reading: what the pattern was refused for, then 14, 6, 7, then the steps in order. Of the choices strict and edition count: the pair was
+-- chosen when the steps were.
+unfoldable pub readSteps : Checked → Choices → Book → List Step → List ℕ → ℤ → Reading
+unfolding currentYearCheck textCheck walk lastOf bits howMany
+readSteps ofPattern choices book ss s current =
+    readBy (ofPattern else currentYearCheck (choices .edition) current else textCheck s) (walk choices book (natAbs current) 0 0 ss s [])

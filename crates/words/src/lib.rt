@@ -1,0 +1,4 @@
+// The words of a prepared pattern: each stands for the steps of a part or of some parts that follow one another, with their rules chosen.
+pub mod coding;
+pub mod fields;
+pub mod pieces;
