@@ -4,7 +4,7 @@ use mathlib.Core.Bool.{Bool, true, false}
 use mathlib.Core.List.{List, [], _∷_}
 use Prim.Native.Nat.{ℕ, _+_, _-_, _*_, _/_, _%_}
 use lib.Bits.{bitXor}
-use lib.Dec.{eqb, leb}
+use lib.Dec.{eqb, leb, ltb}
 use lib.ListN.{length, getD, take, drop}
 use Rattle.meaning.specs.Bytes.{when, both}
 use Rattle.meaning.specs.Writing.{Step}
@@ -60,15 +60,20 @@ isAccepted row =
     (both (leb (used row) 256)
     (both (leb (heldFrom row) 256) (eqb (xorFrom (xorFrom (found row) (stepWords row)) (heldWords row)) (checkWord row)))))
 
--- the refusal that a row of a refused pattern gives
-abbrev pub refusalIn : List ℕ → Refusal
-refusalIn row =
-    when (eqb (used row) 1025) (PatternTooLong (found row)) (when (eqb (used row) 1026) (PatternByte (found row)) (LoneQuote (found row)))
+-- the refusal of a pattern that was refused, by what its mark adds and the detail
+abbrev pub refusalOf : ℕ → ℕ → Refusal
+refusalOf n detail = when (eqb n 1025) (PatternTooLong detail) (when (eqb n 1026) (PatternByte detail) (LoneQuote detail))
 
+abbrev pub refusalIn : List ℕ → Refusal
+refusalIn row = refusalOf (used row) (found row)
+
+-- whether a row is that of a refused pattern; a detail is the length of what memory can hold, or a place in it
 abbrev pub isRefused : List ℕ → Bool
 isRefused row =
     both (leb rowLength (length row))
-    (both (leb tag (mark row)) (both (leb 1025 (used row)) (both (leb (used row) 1027) (eqb (xorFrom (found row) []) (checkWord row)))))
+    (both (leb tag (mark row))
+    (both (leb 1025 (used row))
+    (both (leb (used row) 1027) (both (ltb (found row) 9223372036854775808) (eqb (found row) (checkWord row))))))
 
 -- what its pattern was refused for, and its steps
 abbrev pub checkedIn : List ℕ → Checked
