@@ -2,5 +2,6 @@
 pub mod checking;
 pub mod coding;
 pub mod fields;
+pub mod pending;
 pub mod pieces;
 pub mod rule_words;
