@@ -1,4 +1,15 @@
+-- The two parts of the row that are handed on are those of the definition.
+use mathlib.Core.List.{List}
+use mathlib.Core.Path.{_≡_, _∙_, sym, ap}
+use Prim.Native.Nat.{ℕ, _+_, _-_, _*_, _%_, _≤_}
+use native.Mathlib.Omega.{arith}
 use borrow.Author.Needs.{needs}
+use borrow.Author.Tests.{le-leb, lt-leb, eq-eqb, ne-eqb}
+use denote.Ref.{now}
+use lib.ListN.{length, getD, take, drop}
+use Rattle.words.specs.Pieces.{mostOf}
+use Rattle.words.specs.Rows.{xorFrom}
+use Rattle.prepared.proofs.opening.Parts.{steps-there, all-words}
 use Rattle.prepared.proofs.opening.accepted.Statement.{statement}
 use Rattle.prepared.proofs.opening.accepted.Tie as tie
 
@@ -6,7 +17,7 @@ shared-slice-read-found : tie.Need-shared-slice-read-found
 shared-slice-read-found c = search needs
 
 returns : tie.Need-returns
-returns c = ?
+returns c = rw (lt-leb _ _ (c .if1 .taken))
 
 add-end : tie.Need-add-end
 add-end c = search needs
@@ -45,10 +56,21 @@ shared-slice-read-if2 : tie.Need-shared-slice-read-if2
 shared-slice-read-if2 c = search needs
 
 returns-2 : tie.Need-returns-2
-returns-2 c = ?
+returns-2 c =
+    let a = c .before .before .before .before .before .before .before .before .before .args in
+    let row = now (a .row) in
+    let few : getD row 2 0 % 512 ≤ 256 = omega arith in
+    let whole = all-words (a .used) row few (omega arith) (omega arith) (c .before .before .before .before .totals .ensures .1) (c .before .before .check-word .ensures) in
+    rw (le-leb _ _ few, ← whole, ne-eqb _ _ (c .if2 .taken))
 
 returns-3 : tie.Need-returns-3
-returns-3 c = ?
+returns-3 c =
+    let a = c .before .before .before .before .before .before .before .before .before .args in
+    let row = now (a .row) in
+    let few : getD row 2 0 % 512 ≤ 256 = omega arith in
+    let whole = all-words (a .used) row few (omega arith) (omega arith) (c .before .before .before .before .totals .ensures .1) (c .before .before .check-word .ensures) in
+    let most = c .before .before .before .before .totals .ensures .0 in
+    rw (le-leb _ _ few, ← whole, eq-eqb _ _ (c .if2 .left), most, steps-there (a .used) row (omega arith))
 
 pub accepted-spec : {M : Type 1} → statement M
 accepted-spec =
@@ -70,4 +92,3 @@ accepted-spec =
     shared-slice-read-if2
     returns-2
     returns-3)
-

@@ -34,4 +34,3 @@ returns-2 c =
 
 pub most-bytes-spec : {M : Type 1} → statement M
 most-bytes-spec = tie.close (tie.spec code-requires count-requires add-result returns returns-2)
-

@@ -14,4 +14,3 @@ returns-3 c = rw (ne-eqb _ _ (c .before .if1 .left), ne-eqb _ _ (c .if2 .left))
 
 pub refusal-in-spec : {M : Type 1} → statement M
 refusal-in-spec = tie.close (tie.spec returns returns-2 returns-3)
-

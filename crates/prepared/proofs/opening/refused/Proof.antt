@@ -45,4 +45,3 @@ refused-spec =
     returns-4
     refusal-in-requires
     returns-5)
-
