@@ -1,0 +1,2 @@
+pub mod WordFields
+pub mod Joining
