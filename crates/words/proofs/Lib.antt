@@ -1,2 +1,3 @@
 pub mod WordFields
 pub mod Joining
+pub mod TableWords
