@@ -1,3 +1,4 @@
 pub mod WordFields
 pub mod Joining
 pub mod TableWords
+pub mod PartWords
