@@ -89,17 +89,34 @@ byte-alone : (n : ℕ) → code n ≡ 1 → piecesIn n ≡ once (lastByte n) ∷
 unfolding piecesIn piecesOfCode
 byte-alone n e = rw e
 
-pub pieces-byte : (w byte : ℕ) → joinsByte w byte ≡ true → piecesIn (withByte w byte) ≡ piecesIn w ++ piecesIn byte
-pieces-byte w byte h =
+-- where a byte joins a word
+pub record Joins (w byte : ℕ) : Type 0 where
+  pub small : w < 72057594037927936
+  pub number : isNumber (code w) ≡ true
+  pub alone : byte % 72057594037927936 ≡ 1
+  pub some : 0 < lastByte byte
+
+pub byte-joins : (w byte : ℕ) → joinsByte w byte ≡ true → Joins w byte
+byte-joins w byte h =
     let t = both-true (both (ltb w 72057594037927936) (isNumber (code w))) _ h in
     let u = both-true (ltb w 72057594037927936) (isNumber (code w)) (t .0) in
     let v = both-true (eqb (byte % 72057594037927936) 1) (ltb 0 (lastByte byte)) (t .1) in
-    let small = ltb-true w 72057594037927936 (u .0) in
-    let one = eqb-true (byte % 72057594037927936) 1 (v .0) in
-    let some = ltb-true 0 (lastByte byte) (v .1) in
+    record {
+      small = ltb-true w 72057594037927936 (u .0);
+      number = u .1;
+      alone = eqb-true (byte % 72057594037927936) 1 (v .0);
+      some = ltb-true 0 (lastByte byte) (v .1);
+    }
+
+pub joined-byte-fits : (w byte : ℕ) → joinsByte w byte ≡ true → byte < 18446744073709551616 → withByte w byte < 18446744073709551616
+joined-byte-fits w byte h fits = let j = byte-joins w byte h in omega arith
+
+pub pieces-byte : (w byte : ℕ) → joinsByte w byte ≡ true → piecesIn (withByte w byte) ≡ piecesIn w ++ piecesIn byte
+pieces-byte w byte h =
+    let j = byte-joins w byte h in
     let last : lastByte (withByte w byte) ≡ lastByte byte = omega arith in
     let c : code byte ≡ 1 = omega arith in
-    number-byte w (withByte w byte) small (u .1) (omega arith) (omega arith) ∙ rw (last, byte-alone byte c)
+    number-byte w (withByte w byte) (j .small) (j .number) (omega arith) (omega arith) ∙ rw (last, byte-alone byte c)
 
 -- Three numbers with bytes between them: what a word of that code stands for is what the three do.
 module _ (k x y z : ℕ) (coded : k < 32) (first : isNumber (code x) ≡ true) (second : isNumber (code y) ≡ true) (small : x < 72057594037927936) (little : y < 72057594037927936)

@@ -52,7 +52,7 @@ lost-is : (lost : Bool) → eqb (bit lost) 1 ≡ lost
 lost-is true = refl
 lost-is false = refl
 
-lost-few : (lost : Bool) → bit lost < 2
+pub lost-few : (lost : Bool) → bit lost < 2
 lost-few true = omega arith
 lost-few false = omega arith
 
@@ -75,7 +75,7 @@ bytes-same (b ∷ s) h =
     let small : b % 256 ≡ b = omega (arith, within-is 0 127 b (t .0) .1) in
     rw (small, bytes-same s (t .1))
 
-first-small : (s : List ℕ) → Ascii s → firstOf s < 256
+pub first-small : (s : List ℕ) → Ascii s → firstOf s < 256
 unfolding every
 first-small [] h = omega arith
 first-small (b ∷ s) h = omega (arith, within-is 0 127 b (both-true (isAscii b) (every isAscii s) h .0) .1)
