@@ -11,7 +11,7 @@ use words::fields::code;
 use words::fields::count;
 
 // What the mark adds to: "Sheet" and three zero bytes, read as one number.
-const TAG: u64 = 6010165189138186240;
+pub const TAG: u64 = 6010165189138186240;
 
 // The words of steps, and the bytes that they write at most.
 pub enum Opened {

@@ -1,17 +1,21 @@
 -- Request [11]: what a prepared pattern does: what its steps do, behind what its pattern was refused for. "Every answer, refusal, place and
 -- count equals the direct engine's": with a pattern's own check and steps these are `write`, `output` and `read` of Whole.
-use mathlib.Core.List.{List, []}
+use mathlib.Core.List.{List, [], map}
 use Prim.Native.Nat.{ℕ}
 use lib.IntN.{ℤ, natAbs}
 use lib.ListN.{length}
-use Rattle.meaning.specs.Answers.{_else_, fieldsCheck, roomCheck, currentYearCheck, textCheck}
+use Rattle.meaning.specs.Answers.{_else_, refuseUnless, fieldsCheck, roomCheck, currentYearCheck, textCheck}
+use Rattle.meaning.specs.Lists.{Rows, lines, hold, listedBy, rowsBy}
 use Rattle.meaning.specs.Names.{Book}
 use Rattle.meaning.specs.Whole.{wroteBy, outputBy, walk, readBy, lastOf, bits, howMany}
 use Rattle.meaning.specs.Writing.{Step, texts}
 use Rattle.meaning.specs.declared.Checked.{Checked}
 use Rattle.meaning.specs.declared.Choices.{Choices}
+use Rattle.meaning.specs.declared.Edition.{Edition}
 use Rattle.meaning.specs.declared.Fields.{Fields}
+use Rattle.meaning.specs.declared.Listed.{Listed}
 use Rattle.meaning.specs.declared.Reading.{Reading}
+use Rattle.meaning.specs.declared.Refusal.the-variants.{ShortRow}
 use Rattle.meaning.specs.declared.Wrote.{Wrote}
 
 -- Writing: what the pattern was refused for, then 4, 5.
@@ -35,3 +39,27 @@ unfoldable pub readSteps : Checked → Choices → Book → List Step → List �
 unfolding currentYearCheck textCheck walk lastOf bits howMany
 readSteps ofPattern choices book ss s current =
     readBy (ofPattern else currentYearCheck (choices .edition) current else textCheck s) (walk choices book (natAbs current) 0 0 ss s [])
+
+-- A list: what the pattern was refused for, then 14, 24, then each line by itself.
+
+unfoldable pub listStepsCheck : Checked → Edition → List ℕ → ℤ → Rows → Checked
+unfolding currentYearCheck lines
+listStepsCheck ofPattern edition s current rows =
+    ofPattern else
+    currentYearCheck edition current else
+    refuseUnless (hold (length (lines s)) rows) ShortRow
+
+unfoldable pub readLinesSteps : Checked → Choices → Book → List Step → List ℕ → ℤ → List Reading
+unfolding lines readSteps
+readLinesSteps ofPattern choices book ss s current = map (λ line. readSteps ofPattern choices book ss line current) (lines s)
+
+-- the answer, and the lent rows afterwards
+unfoldable pub readListSteps : Checked → Choices → List ℕ → ℤ → Rows → Listed
+unfolding listStepsCheck
+readListSteps ofPattern choices s current rows =
+    listedBy (listStepsCheck ofPattern (choices .edition) s current rows) (length (lines s))
+
+unfoldable pub listRowsSteps : Checked → Choices → Book → List Step → List ℕ → ℤ → Rows → Rows
+unfolding listStepsCheck readLinesSteps
+listRowsSteps ofPattern choices book ss s current rows =
+    rowsBy (listStepsCheck ofPattern (choices .edition) s current rows) (readLinesSteps ofPattern choices book ss s current) rows
