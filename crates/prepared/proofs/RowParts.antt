@@ -80,6 +80,9 @@ pub record Headed (row new : List ℕ) (m c f : ℕ) : Type 0 where
   pub finds : found new ≡ f
   pub rest : tail new ≡ tail row
 
+pub headed-length : (row : List ℕ) (m c f : ℕ) → length (headed row m c f) ≡ length row
+headed-length row m c f = length-sets row 0 (m ∷ c ∷ f ∷ [])
+
 pub headed-so : (row : List ℕ) (m c f : ℕ) → 3 ≤ length row → Headed row (headed row m c f) m c f
 headed-so [] m c f long = absurd (omega arith)
 headed-so (x ∷ []) m c f long = absurd (omega arith)

@@ -1,3 +1,4 @@
 pub mod Opened
 pub mod PreparedRows
+pub mod Stands
 pub mod Verdicts

@@ -48,10 +48,10 @@ unmet-back (At part need) =
     let at : (n - 1) / 8 ≡ part = omega arith in
     rw (ne-eqb n 0 (omega arith), which, at, need-back need)
 
-pub answer-back : (edition : Edition) (held : ℕ) (first second : Unmet) → held < 512 → unmetNumber first < 2048 → unmetNumber second < 2048
-    → answerNumber edition (foundWith held first second) ≡ elim edition as (λ _. ℕ) [ First ↦ unmetNumber first | Second ↦ unmetNumber second ]
-answer-back First held first second h a b = omega arith
-answer-back Second held first second h a b = omega arith
+pub answer-back : (edition : Edition) (held : ℕ) (of : Edition → Unmet) → held < 512 → ((e : Edition) → unmetNumber (of e) < 2048)
+    → answerNumber edition (foundWith held (of First) (of Second)) ≡ unmetNumber (of edition)
+answer-back First held of h small = omega (arith, small First)
+answer-back Second held of h small = omega (arith, small First, small Second)
 
 -- the part's place is below the number of parts
 unmet-below : (edition : Edition) (n i : ℕ) (cs : List Content) → i + length cs ≤ 256 → unmetNumber (firstUnmet edition n i cs) < 2048
