@@ -86,3 +86,8 @@ stepsOf row (w ∷ ws) = stepsIn row w ++ stepsOf row ws
 -- at most so many bytes are written by a word: its code, and behind 28 its count besides
 unfoldable pub mostBytes : ℕ → ℕ
 mostBytes w = code w + when (leb 29 (code w)) (count w) 0
+
+unfoldable pub mostOf : List ℕ → ℕ
+unfolding mostBytes
+mostOf [] = 0
+mostOf (w ∷ ws) = mostBytes w + mostOf ws

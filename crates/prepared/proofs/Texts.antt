@@ -1,0 +1,120 @@
+-- The text of a word, by its code, and of words, one after the other.
+use mathlib.Core.List.{List, [], _∷_, _++_, map, append-nil}
+use mathlib.Core.Path.{_≡_, refl, ap, _∙_}
+use Prim.Native.Nat.{ℕ, zero, suc, _+_, _≤_, _<_}
+use native.Mathlib.Numerals.{add-one}
+use native.Mathlib.Omega.{arith}
+use lib.Dec.{eqb}
+use lib.IntN.{ℤ, pos, negsuc, natAbs}
+use lib.ListN.{length, getD, take, drop, replicate, drop-of-length-le}
+use lib.Seq.{drop-cons}
+use borrow.Author.Tests.{ne-eqb}
+use Rattle.format.proofs.step.Texts.{year-text}
+use Rattle.laws.proofs.Digits.{num-digits}
+use Rattle.laws.proofs.Tests.{by-test}
+use Rattle.laws.proofs.Texts.{texts-join}
+use Rattle.meaning.specs.Bytes.{when, digits, num}
+use Rattle.meaning.specs.Names.{Book}
+use Rattle.meaning.specs.Writing.{isNegative, quantityOf, signedText, ruleText, stepText, texts}
+use Rattle.meaning.specs.declared.Fields.{Fields}
+use Rattle.meaning.specs.declared.Quantity.the-variants.{Month, Day, Hour0To23, Minute, Second}
+use Rattle.prepared.specs.Written.{behindText, twoMore, heldText, numbersOf}
+use Rattle.rules.specs.ShortRules.{shortQuantity}
+use Rattle.words.specs.Coding.{ruleIn}
+use Rattle.words.specs.Fields.{code, slot, count, from, isLost, lastByte}
+use Rattle.words.specs.Pieces.{pieceStep, behind, shortIn, piecesOfCode, piecesIn, stepsIn, stepsOf, heldBytes}
+
+module _ (book : Book) (tail : List ℕ) (f : Fields) where
+  behind-text : (w : ℕ) → texts book f (map (pieceStep tail) (behind w)) ≡ behindText w
+  unfolding texts stepText pieceStep
+  behind-text w = by-test (eqb (lastByte w) 0) (λ e. rw e) (λ e. rw e)
+
+  pub byte-text : (w : ℕ) → code w ≡ 1 → texts book f (stepsIn tail w) ≡ lastByte w ∷ []
+  unfolding texts stepText stepsIn pieceStep piecesIn piecesOfCode
+  byte-text w e = rw e
+
+  pub full-text : (w : ℕ) → code w ≡ 3 → texts book f (stepsIn tail w) ≡ num 2 (quantityOf (shortQuantity (shortIn (slot w))) f) ++ behindText w
+  unfolding texts stepText ruleText stepsIn pieceStep piecesIn piecesOfCode
+  full-text w e = rw (e, behind-text w)
+
+  pub few-text : (w : ℕ) → code w ≡ 4 → texts book f (stepsIn tail w) ≡ num 1 (quantityOf (shortQuantity (shortIn (slot w))) f) ++ behindText w
+  unfolding texts stepText ruleText stepsIn pieceStep piecesIn piecesOfCode
+  few-text w e = rw (e, behind-text w)
+
+  pub year-word-text : (w : ℕ) → code w ≡ 9 → texts book f (stepsIn tail w) ≡ signedText (slot w) (f .year) ++ behindText w
+  unfolding texts stepText stepsIn pieceStep piecesIn piecesOfCode
+  year-word-text w e = rw (e, behind-text w, year-text book (slot w) f)
+
+  pub time-text : (w : ℕ) → code w ≡ 10
+      → texts book f (stepsIn tail w) ≡ num 2 (quantityOf Hour0To23 f) ++ twoMore (num 2 (quantityOf Minute f)) (num 2 (quantityOf Second f)) w
+  unfolding texts stepText ruleText stepsIn pieceStep piecesIn piecesOfCode
+  time-text w e = rw (e, behind-text w)
+
+  pub date-text : (w : ℕ) → code w ≡ 15
+      → texts book f (stepsIn tail w) ≡ signedText 4 (f .year) ++ twoMore (num 2 (quantityOf Month f)) (num 2 (quantityOf Day f)) w
+  unfolding texts stepText ruleText stepsIn pieceStep piecesIn piecesOfCode
+  date-text w e = rw (e, behind-text w)
+
+  pub rule-word-text : (w : ℕ) → code w ≡ 22 → texts book f (stepsIn tail w) ≡ ruleText book (ruleIn w) f ++ behindText w
+  unfolding texts stepText stepsIn pieceStep piecesIn piecesOfCode
+  rule-word-text w e = rw (e, behind-text w)
+
+  pub long-year-text : (w : ℕ) → code w ≡ 29 → texts book f (stepsIn tail w) ≡ signedText (count w) (f .year)
+  unfolding texts stepText stepsIn pieceStep piecesIn piecesOfCode
+  long-year-text w e = rw (e, year-text book (count w) f, append-nil)
+
+  pub times-text : (w : ℕ) → code w ≡ 30 → texts book f (stepsIn tail w) ≡ replicate (count w) (lastByte w)
+  unfolding texts stepText stepsIn pieceStep piecesIn piecesOfCode
+  times-text w e = rw (e, append-nil)
+
+  pub held-text : (w : ℕ) → code w ≡ 31 → texts book f (stepsIn tail w) ≡ heldText tail w
+  unfolding texts stepText stepsIn pieceStep piecesIn piecesOfCode
+  held-text w e = rw (e, append-nil) (by-test (isLost w) (λ t. rw t) (λ t. rw t))
+
+  -- a word with any other code writes nothing
+  pub none-text : (w : ℕ) → (code w ≡ 1 → ⊥) → (code w ≡ 3 → ⊥) → (code w ≡ 4 → ⊥) → (code w ≡ 9 → ⊥) → (code w ≡ 10 → ⊥) → (code w ≡ 15 → ⊥)
+      → (code w ≡ 22 → ⊥) → (code w ≡ 29 → ⊥) → (code w ≡ 30 → ⊥) → (code w ≡ 31 → ⊥) → texts book f (stepsIn tail w) ≡ []
+  unfolding texts stepsIn piecesIn piecesOfCode
+  none-text w byte full few year time date rule long times held =
+      simp (
+        ne-eqb _ _ byte,
+        ne-eqb _ _ full,
+        ne-eqb _ _ few,
+        ne-eqb _ _ year,
+        ne-eqb _ _ time,
+        ne-eqb _ _ date,
+        ne-eqb _ _ rule,
+        ne-eqb _ _ long,
+        ne-eqb _ _ times,
+        ne-eqb _ _ held,
+      )
+
+  -- words one after the other: the first of those that are left, and the others
+  pub word-then : (ws : List ℕ) (i : ℕ) → i < length ws
+      → texts book f (stepsOf tail (drop i ws)) ≡ texts book f (stepsIn tail (getD ws i 0)) ++ texts book f (stepsOf tail (drop (i + 1) ws))
+  unfolding stepsOf
+  word-then ws i h = rw (add-one i, drop-cons ws i 0 h, texts-join book f)
+
+  pub words-done : (ws : List ℕ) (i : ℕ) → length ws ≤ i → texts book f (stepsOf tail (drop i ws)) ≡ []
+  unfolding stepsOf texts
+  words-done ws i h = rw (drop-of-length-le ws h)
+
+-- the numbers of a record by their places
+
+pub slot-number : (f : Fields) (n : ℕ) → n < 8 → getD (numbersOf f) n 0 ≡ quantityOf (shortQuantity (shortIn n)) f
+unfolding numbersOf shortIn
+slot-number f zero h = refl
+slot-number f (suc zero) h = refl
+slot-number f (suc (suc zero)) h = refl
+slot-number f (suc (suc (suc zero))) h = refl
+slot-number f (suc (suc (suc (suc zero)))) h = refl
+slot-number f (suc (suc (suc (suc (suc zero))))) h = refl
+slot-number f (suc (suc (suc (suc (suc (suc zero)))))) h = refl
+slot-number f (suc (suc (suc (suc (suc (suc (suc zero))))))) h = refl
+slot-number f (suc (suc (suc (suc (suc (suc (suc (suc n)))))))) h = absurd (omega arith)
+
+-- a year of four digits
+pub plain-year : (z : ℤ) (n : ℕ) → n ≡ when (isNegative z) 10000 (natAbs z) → n < 10000 → signedText 4 z ≡ digits 4 n
+unfolding signedText
+plain-year (pos m) n e h = rw e (num-digits 4 m (omega arith) (omega arith))
+plain-year (negsuc m) n e h = absurd (omega arith)
