@@ -8,7 +8,7 @@ use lib.Dec.{eqb, leb}
 use lib.ListN.{length, length-append, length-take, length-replicate}
 use borrow.Author.Tests.{le-leb, eqb-true, eqb-false}
 use Rattle.format.proofs.step.Texts.{short-small}
-use Rattle.laws.proofs.Digits.{length-num, width-at-most}
+use Rattle.laws.proofs.Digits.{length-num, num-fits, width-at-most}
 use Rattle.laws.proofs.Fields.{allowed}
 use Rattle.laws.proofs.OpenedBooks.{opened-short}
 use Rattle.laws.proofs.Sizes.{rule-length}
@@ -115,13 +115,12 @@ rule-fits row f h w = omega (arith, rule-length (bookIn row) (opened-short row) 
 pub behind-short : (w : ℕ) → length (behindText w) ≤ 1
 behind-short w = when-is (λ (s : List ℕ). length s ≤ 1) (eqb (lastByte w) 0) (λ _. omega arith) (λ _. omega arith)
 
-two-digits : (k n : ℕ) → k ≤ 2 → n < 100 → length (num k n) ≤ 2
+pub two-digits : (k n : ℕ) → k ≤ 2 → n < 100 → length (num k n) ≤ 2
 two-digits k n few small = rw length-num (omega (arith, width-at-most 2 n (omega arith) (omega arith)))
 
-two-more-short : (b c w : ℕ) → b < 100 → c < 100 → length (twoMore (num 2 b) (num 2 c) w) ≤ 7
-two-more-short b c w hb hc =
-    rw (length-append, length-append)
-    (omega (arith, two-digits 2 b (omega arith) hb, two-digits 2 c (omega arith) hc, behind-short w))
+pub two-more-length : (b c w : ℕ) → b < 100 → c < 100 → length (twoMore (num 2 b) (num 2 c) w) ≡ 6 + length (behindText w)
+two-more-length b c w hb hc =
+    rw (length-append, length-append) (omega (arith, num-fits 2 b (omega arith) hb, num-fits 2 c (omega arith) hc))
 
 held-short : (tail : List ℕ) (w : ℕ) → length (heldText tail w) ≤ count w
 held-short tail w =
@@ -156,12 +155,12 @@ module _ (row tail : List ℕ) (f : Fields) (fine : fieldsCheck f ≡ Fine) wher
       (λ t.
       let e = eqb-true (code w) 10 t in
       rw (time-text book tail f w e, length-append)
-      (omega (arith, two-digits 2 (quantityOf Hour0To23 f) (omega arith) (short-small short.Hour f ok), two-more-short (quantityOf Minute f) (quantityOf Second f) w (short-small short.Minute f ok) (short-small short.Second f ok)))) (λ time.
+      (omega (arith, two-digits 2 (quantityOf Hour0To23 f) (omega arith) (short-small short.Hour f ok), two-more-length (quantityOf Minute f) (quantityOf Second f) w (short-small short.Minute f ok) (short-small short.Second f ok)))) (λ time.
       by-test (eqb (code w) 15)
       (λ t.
       let e = eqb-true (code w) 15 t in
       rw (date-text book tail f w e, length-append)
-      (omega (arith, year-length 4 f fine, two-more-short (quantityOf Month f) (quantityOf Day f) w (short-small short.Month f ok) (short-small short.Day f ok)))) (λ date.
+      (omega (arith, year-length 4 f fine, two-more-length (quantityOf Month f) (quantityOf Day f) w (short-small short.Month f ok) (short-small short.Day f ok)))) (λ date.
       by-test (eqb (code w) 22)
       (λ t. let e = eqb-true (code w) 22 t in rw (rule-word-text book tail f w e, length-append) (omega (arith, rule-fits row f fine w))) (λ rule.
       by-test (eqb (code w) 29)

@@ -1,13 +1,13 @@
 -- The text of a word, by its code, and of words, one after the other.
 use mathlib.Core.List.{List, [], _∷_, _++_, map, append-nil}
 use mathlib.Core.Path.{_≡_, refl, ap, _∙_}
-use Prim.Native.Nat.{ℕ, zero, suc, _+_, _≤_, _<_}
+use Prim.Native.Nat.{ℕ, zero, suc, _+_, _/_, _%_, _≤_, _<_}
 use native.Mathlib.Numerals.{add-one}
 use native.Mathlib.Omega.{arith}
 use lib.Dec.{eqb}
 use lib.IntN.{ℤ, pos, negsuc, natAbs}
 use lib.ListN.{length, getD, take, drop, replicate, drop-of-length-le}
-use lib.Seq.{drop-cons}
+use lib.Seq.{drop-cons, getD-take, length-take-le}
 use borrow.Author.Tests.{ne-eqb}
 use Rattle.format.proofs.step.Texts.{year-text}
 use Rattle.laws.proofs.Digits.{num-digits}
@@ -18,7 +18,7 @@ use Rattle.meaning.specs.Names.{Book}
 use Rattle.meaning.specs.Writing.{isNegative, quantityOf, signedText, ruleText, stepText, texts}
 use Rattle.meaning.specs.declared.Fields.{Fields}
 use Rattle.meaning.specs.declared.Quantity.the-variants.{Month, Day, Hour0To23, Minute, Second}
-use Rattle.prepared.specs.Written.{behindText, twoMore, heldText, numbersOf}
+use Rattle.prepared.specs.Written.{behindText, twoMore, heldText, plainYear, numbersOf}
 use Rattle.rules.specs.ShortRules.{shortQuantity}
 use Rattle.words.specs.Coding.{ruleIn}
 use Rattle.words.specs.Fields.{code, slot, count, from, isLost, lastByte}
@@ -89,15 +89,23 @@ module _ (book : Book) (tail : List ℕ) (f : Fields) where
         ne-eqb _ _ held,
       )
 
-  -- words one after the other: the first of those that are left, and the others
-  pub word-then : (ws : List ℕ) (i : ℕ) → i < length ws
-      → texts book f (stepsOf tail (drop i ws)) ≡ texts book f (stepsIn tail (getD ws i 0)) ++ texts book f (stepsOf tail (drop (i + 1) ws))
-  unfolding stepsOf
-  word-then ws i h = rw (add-one i, drop-cons ws i 0 h, texts-join book f)
+  -- the first so many words of a row: the next of those that are left, and the others
+  module _ (used : ℕ) (there : used ≤ length tail) where
+    abbrev words : List ℕ
+    words = take used tail
 
-  pub words-done : (ws : List ℕ) (i : ℕ) → length ws ≤ i → texts book f (stepsOf tail (drop i ws)) ≡ []
-  unfolding stepsOf texts
-  words-done ws i h = rw (drop-of-length-le ws h)
+    pub next-word : (i : ℕ) → i < used
+        → texts book f (stepsOf tail (drop i words)) ≡ texts book f (stepsIn tail (getD tail i 0)) ++ texts book f (stepsOf tail (drop (i + 1) words))
+    unfolding stepsOf
+    next-word i h =
+        let within : i < length words = omega (arith, length-take-le used tail there) in
+        rw (add-one i, drop-cons words i 0 within, texts-join book f, getD-take used tail i 0 h)
+
+    pub no-word : (i : ℕ) → used ≤ i → texts book f (stepsOf tail (drop i words)) ≡ []
+    unfolding stepsOf texts
+    no-word i h =
+        let past : length words ≤ i = omega (arith, length-take-le used tail there) in
+        rw (drop-of-length-le words past)
 
 -- the numbers of a record by their places
 
@@ -112,6 +120,25 @@ slot-number f (suc (suc (suc (suc (suc zero))))) h = refl
 slot-number f (suc (suc (suc (suc (suc (suc zero)))))) h = refl
 slot-number f (suc (suc (suc (suc (suc (suc (suc zero))))))) h = refl
 slot-number f (suc (suc (suc (suc (suc (suc (suc (suc n)))))))) h = absurd (omega arith)
+
+-- those that the code alone says
+pub time-numbers : (f : Fields) (w : ℕ) → code w ≡ 10
+    → (getD (numbersOf f) (w % 8) 0 ≡ quantityOf Hour0To23 f) × (getD (numbersOf f) (w % 8 + 1) 0 ≡ quantityOf Minute f) × (getD (numbersOf f) (w % 8 + 2) 0 ≡ quantityOf Second f)
+unfolding numbersOf
+time-numbers f w e =
+    let at : w % 8 ≡ 2 = omega arith in
+    rw at (refl, refl, refl)
+
+pub date-numbers : (f : Fields) (w : ℕ) → code w ≡ 15
+    → (getD (numbersOf f) (w % 8 + 1) 0 ≡ quantityOf Month f) × (getD (numbersOf f) (w % 8 + 2) 0 ≡ quantityOf Day f)
+unfolding numbersOf
+date-numbers f w e =
+    let at : w % 8 ≡ 7 = omega arith in
+    rw at (refl, refl)
+
+pub year-number : (f : Fields) (w : ℕ) → w / 8 % 2 ≡ 1 → getD (numbersOf f) (w / 8 % 2 + 9) 0 ≡ plainYear f
+unfolding numbersOf
+year-number f w e = rw e
 
 -- a year of four digits
 pub plain-year : (z : ℤ) (n : ℕ) → n ≡ when (isNegative z) 10000 (natAbs z) → n < 10000 → signedText 4 z ≡ digits 4 n
