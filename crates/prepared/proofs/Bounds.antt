@@ -1,10 +1,10 @@
 -- A word writes at most as many bytes as its code and count say, with any lent book, for a record that is allowed.
 use mathlib.Core.Bool.{Bool, true, false}
-use mathlib.Core.List.{List, [], _∷_, _++_, map}
-use mathlib.Core.Path.{_≡_, refl}
-use Prim.Native.Nat.{ℕ, _+_, _%_, _≤_, _<_, max}
+use mathlib.Core.List.{List, [], _∷_}
+use mathlib.Core.Path.{_≡_}
+use Prim.Native.Nat.{ℕ, _+_, _≤_, _<_, max}
 use native.Mathlib.Omega.{arith}
-use lib.Dec.{eqb, leb}
+use lib.Dec.{eqb}
 use lib.ListN.{length, length-append, length-take, length-replicate}
 use borrow.Author.Tests.{le-leb, eqb-true, eqb-false}
 use Rattle.format.proofs.step.Texts.{short-small}
@@ -36,7 +36,7 @@ use Rattle.prepared.proofs.Texts.{byte-text, full-text, few-text, year-
 use Rattle.prepared.specs.Written.{behindText, twoMore, heldText}
 use Rattle.rules.specs.ShortRules.{shortQuantity}
 use Rattle.rules.specs.declared.short.Short.the-variants as short
-use Rattle.words.specs.Coding.{quantityIn, listIn, unitIn, groupIn, ruleOfKind, ruleIn}
+use Rattle.words.specs.Coding.{quantityIn, listIn, groupIn, ruleOfKind, ruleIn}
 use Rattle.words.specs.Fields.{code, slot, count, from, isLost, lastByte, kind, item, least, colon, minutes, seconds}
 use Rattle.words.specs.Pieces.{shortIn, stepsIn, stepsOf, mostBytes, mostOf}
 

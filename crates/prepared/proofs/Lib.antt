@@ -1,3 +1,4 @@
+mod Answers
 pub mod Bounds
 pub mod Held
 pub mod Texts

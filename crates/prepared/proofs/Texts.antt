@@ -1,6 +1,6 @@
 -- The text of a word, by its code, and of words, one after the other.
 use mathlib.Core.List.{List, [], _∷_, _++_, map, append-nil}
-use mathlib.Core.Path.{_≡_, refl, ap, _∙_}
+use mathlib.Core.Path.{_≡_, refl}
 use Prim.Native.Nat.{ℕ, zero, suc, _+_, _/_, _%_, _≤_, _<_}
 use native.Mathlib.Numerals.{add-one}
 use native.Mathlib.Omega.{arith}
@@ -21,8 +21,8 @@ use Rattle.meaning.specs.declared.Quantity.the-variants.{Month, Day, Hour0To23,
 use Rattle.prepared.specs.Written.{behindText, twoMore, heldText, plainYear, numbersOf}
 use Rattle.rules.specs.ShortRules.{shortQuantity}
 use Rattle.words.specs.Coding.{ruleIn}
-use Rattle.words.specs.Fields.{code, slot, count, from, isLost, lastByte}
-use Rattle.words.specs.Pieces.{pieceStep, behind, shortIn, piecesOfCode, piecesIn, stepsIn, stepsOf, heldBytes}
+use Rattle.words.specs.Fields.{code, slot, count, isLost, lastByte}
+use Rattle.words.specs.Pieces.{pieceStep, behind, shortIn, piecesOfCode, piecesIn, stepsIn, stepsOf}
 
 module _ (book : Book) (tail : List ℕ) (f : Fields) where
   behind-text : (w : ℕ) → texts book f (map (pieceStep tail) (behind w)) ≡ behindText w

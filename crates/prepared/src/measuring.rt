@@ -35,7 +35,11 @@ fn at_most(count: usize, from: usize, end: usize) -> usize
     if end <= from {
         return 0;
     }
-    if end - from < count { end - from } else { count }
+    if end - from < count {
+        end - from
+    } else {
+        count
+    }
 }
 
 // How many of the bytes that a word holds in the row are written.

@@ -8,9 +8,7 @@ use lib.ListN.{length}
 use Rattle.prepared.proofs.Held.{held-lost, held-kept}
 use Rattle.prepared.proofs.measuring.held_length.Statement.{statement}
 use Rattle.prepared.proofs.measuring.held_length.Tie as tie
-use Rattle.prepared.proofs.measuring.held_length.Reads as reads
-use Rattle.prepared.proofs.measuring.held_length.Lts as lts
-use Rattle.words.specs.Fields.{count, from, isLost}
+use Rattle.words.specs.Fields.{count, from}
 
 count-requires : tie.Need-count-requires
 count-requires c κs = search needs

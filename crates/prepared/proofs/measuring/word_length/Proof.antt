@@ -3,7 +3,7 @@ use borrow.Author.Needs.{needs}
 use denote.Ref.{now}
 use lib.ListN.{length, length-append, length-replicate}
 use mathlib.Core.Path.{_≡_, sym, _∙_}
-use Prim.Native.Nat.{ℕ, _<_, _≤_}
+use Prim.Native.Nat.{_<_, _≤_}
 use native.Mathlib.Omega.{arith}
 use Rattle.format.proofs.step.Texts.{short-small}
 use Rattle.laws.proofs.Digits.{num-fits}
@@ -22,19 +22,6 @@ use Rattle.words.specs.Fields.{slot, count, from}
 use Rattle.words.specs.Pieces.{shortIn}
 use Rattle.prepared.proofs.measuring.word_length.Statement.{statement}
 use Rattle.prepared.proofs.measuring.word_length.Tie as tie
-use Rattle.prepared.proofs.measuring.word_length.Reads as reads
-use Rattle.prepared.proofs.measuring.word_length.Lts as lts
-use Rattle.digits.proofs.padded.padded_length.Reads as padded-length-reads
-use Rattle.format.proofs.lengths.rule_length.Reads as rule-length-reads
-use Rattle.format.proofs.step.short_number.Reads as short-number-reads
-use Rattle.prepared.proofs.measuring.behind_length.Reads as behind-length-reads
-use Rattle.prepared.proofs.measuring.held_length.Reads as held-length-reads
-use Rattle.prepared.proofs.measuring.years_length.Reads as years-length-reads
-use Rattle.words.proofs.coding.rule_in.Reads as rule-in-reads
-use Rattle.words.proofs.fields.code.Reads as code-reads
-use Rattle.words.proofs.fields.count.Reads as count-reads
-use Rattle.words.proofs.fields.slot.Reads as slot-reads
-use Rattle.words.proofs.pieces.short_in.Reads as short-in-reads
 
 -- how many digits a short number has
 few : (c : tie.After-padded-length) → c .padded-length .result ≤ 2

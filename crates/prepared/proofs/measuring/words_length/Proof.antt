@@ -1,5 +1,5 @@
 -- What is counted and the text of the words that are left are as long as the whole text, which is no longer than its most.
-use Prim.Native.Nat.{_+_, _-_, _≤_}
+use Prim.Native.Nat.{_+_, _-_}
 use denote.Ref.{now}
 use lib.ListN.{length, take, drop, getD, length-append}
 use mathlib.Core.Path.{_≡_}

@@ -1,9 +1,7 @@
 -- A year has at most seven digits and a sign, or as many digits as are asked for.
-use mathlib.Core.Path.{_≡_}
 use mir.Syntax.{w32}
 use mir.ValLaws.{toZ-ofZ}
 use native.Mathlib.Omega.{arith}
-use Rattle.laws.proofs.Fields.{allowed}
 use Rattle.prepared.proofs.Bounds.{year-length}
 use Rattle.prepared.proofs.measuring.years_length.Statement.{statement}
 use Rattle.prepared.proofs.measuring.years_length.Tie as tie

@@ -4,8 +4,7 @@ use lib.ListN.{length-append}
 use native.Mathlib.Omega.{arith}
 use Rattle.laws.proofs.Digits.{num-digits, length-digits}
 use Rattle.laws.proofs.Laid.{laid-then}
-use Rattle.prepared.specs.Written.{behindText}
-use Rattle.meaning.specs.Bytes.{num, digits}
+use Rattle.meaning.specs.Bytes.{digits}
 use Rattle.prepared.proofs.writing.put_full.Statement.{statement}
 use Rattle.prepared.proofs.writing.put_full.Tie as tie
 

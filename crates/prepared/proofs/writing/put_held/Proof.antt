@@ -54,7 +54,7 @@ loop-again c =
     let held = heldBytes (now (a .tail)) (a .from) (a .n) in
     let size = held-count (now (a .tail)) (a .from) (a .n) in (
       rw (← held-at (now (a .tail)) (a .from) (a .n) (L .j) (c .before .loop-test .taken))
-      (lay-next (L .out) (a .at) held (L .j) 0 (omega (arith, size, c .before .loop-test .taken, start .pre .0)) ∙ L .inv .0),
+          (lay-next (L .out) (a .at) held (L .j) 0 (omega (arith, size, c .before .loop-test .taken, start .pre .0)) ∙ L .inv .0),
       omega arith,
       simp length-set (L .inv .2),
     )

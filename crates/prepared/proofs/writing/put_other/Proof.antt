@@ -1,8 +1,8 @@
 -- Each code by itself.
 use borrow.Author.Needs.{needs}
 use denote.Ref.{now}
-use lib.ListN.{length, length-append, replicate, length-replicate}
-use mathlib.Core.List.{[], _++_}
+use lib.ListN.{length-append, replicate, length-replicate}
+use mathlib.Core.List.{_++_}
 use mathlib.Core.Path.{_≡_, sym, _∙_, refl}
 use mir.Syntax.{w32}
 use mir.ValLaws.{toZ-ofZ}
@@ -11,26 +11,13 @@ use Rattle.laws.proofs.Laid.{laid-then}
 use Rattle.meaning.specs.OpenedBooks.{bookIn}
 use Rattle.prepared.proofs.Held.{held-count}
 use Rattle.prepared.proofs.Texts.{rule-word-text, long-year-text, times-text, held-text, none-text}
-use Rattle.prepared.specs.Written.{wordText, behindText, heldText}
+use Rattle.prepared.specs.Written.{wordText, behindText}
 use Rattle.words.specs.Fields.{code, from}
 use Rattle.meaning.specs.Writing.{ruleText, signedText}
 use Rattle.words.specs.Pieces.{heldBytes}
 use Rattle.words.specs.Coding.{ruleIn}
 use Rattle.prepared.proofs.writing.put_other.Statement.{statement}
 use Rattle.prepared.proofs.writing.put_other.Tie as tie
-use Rattle.prepared.proofs.writing.put_other.Reads as reads
-use Rattle.prepared.proofs.writing.put_other.Lts as lts
-use Rattle.digits.proofs.laying.put_times.Reads as put-times-reads
-use Rattle.format.proofs.rule.format_rule.Reads as format-rule-reads
-use Rattle.format.proofs.years.zero_padded_i.Reads as zero-padded-i-reads
-use Rattle.prepared.proofs.measuring.held_length.Reads as held-length-reads
-use Rattle.prepared.proofs.writing.put_behind.Reads as put-behind-reads
-use Rattle.prepared.proofs.writing.put_held.Reads as put-held-reads
-use Rattle.words.proofs.coding.rule_in.Reads as rule-in-reads
-use Rattle.words.proofs.fields.code.Reads as code-reads
-use Rattle.words.proofs.fields.count.Reads as count-reads
-use Rattle.words.proofs.fields.from.Reads as from-reads
-use Rattle.words.proofs.fields.last_byte.Reads as last-byte-reads
 
 -- the text of each code
 rule-text : (c : tie.At-match-keys1) →

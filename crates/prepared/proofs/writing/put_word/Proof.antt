@@ -1,7 +1,7 @@
 -- Each code by itself, with its numbers in their places.
 use borrow.Author.Needs.{needs}
 use denote.Ref.{now}
-use lib.ListN.{length, getD, length-append}
+use lib.ListN.{getD, length-append}
 use mathlib.Core.List.{[], _∷_, _++_}
 use mathlib.Core.Path.{_≡_, sym, _∙_}
 use Prim.Native.Nat.{_+_, _/_, _%_, _<_}
@@ -21,19 +21,6 @@ use Rattle.words.specs.Fields.{code, slot, lastByte}
 use Rattle.words.specs.Pieces.{shortIn}
 use Rattle.prepared.proofs.writing.put_word.Statement.{statement}
 use Rattle.prepared.proofs.writing.put_word.Tie as tie
-use Rattle.prepared.proofs.writing.put_word.Reads as reads
-use Rattle.prepared.proofs.writing.put_word.Lts as lts
-use Rattle.digits.proofs.laying.put_byte.Reads as put-byte-reads
-use Rattle.digits.proofs.numbers.put_two.Reads as put-two-reads
-use Rattle.prepared.proofs.writing.put_behind.Reads as put-behind-reads
-use Rattle.prepared.proofs.writing.put_few.Reads as put-few-reads
-use Rattle.prepared.proofs.writing.put_full.Reads as put-full-reads
-use Rattle.prepared.proofs.writing.put_other.Reads as put-other-reads
-use Rattle.prepared.proofs.writing.put_two_more.Reads as put-two-more-reads
-use Rattle.prepared.proofs.writing.put_year.Reads as put-year-reads
-use Rattle.words.proofs.fields.code.Reads as code-reads
-use Rattle.words.proofs.fields.last_byte.Reads as last-byte-reads
-use Rattle.words.proofs.fields.slot.Reads as slot-reads
 
 -- what each code writes, by the numbers that the word says
 
@@ -87,9 +74,9 @@ pub record Time (m : tie.At-match-keys5) : Type 0 where
   pub minute : getD (now (m .before .before .before .before .before .before .args .numbers)) (m .before .before .before .before .before .before .args .w % 8 + 1) 0 < 100
   pub second : getD (now (m .before .before .before .before .before .before .args .numbers)) (m .before .before .before .before .before .before .args .w % 8 + 2) 0 < 100
   pub text :
-    let a = m .before .before .before .before .before .before .args in
-    wordText (now (a .book)) (now (a .tail)) (a .f) (a .w)
-    ≡ num 2 (getD (now (a .numbers)) (a .w % 8) 0) ++ twoMore (num 2 (getD (now (a .numbers)) (a .w % 8 + 1) 0)) (num 2 (getD (now (a .numbers)) (a .w % 8 + 2) 0)) (a .w)
+      let a = m .before .before .before .before .before .before .args in
+      wordText (now (a .book)) (now (a .tail)) (a .f) (a .w)
+      ≡ num 2 (getD (now (a .numbers)) (a .w % 8) 0) ++ twoMore (num 2 (getD (now (a .numbers)) (a .w % 8 + 1) 0)) (num 2 (getD (now (a .numbers)) (a .w % 8 + 2) 0)) (a .w)
 
 time : (m : tie.At-match-keys5) → Time m
 time m =
@@ -110,9 +97,9 @@ pub record Date (m : tie.At-match-keys6) : Type 0 where
   pub month : getD (now (m .before .before .before .before .before .before .args .numbers)) (m .before .before .before .before .before .before .args .w % 8 + 1) 0 < 100
   pub day : getD (now (m .before .before .before .before .before .before .args .numbers)) (m .before .before .before .before .before .before .args .w % 8 + 2) 0 < 100
   pub text :
-    let a = m .before .before .before .before .before .before .args in
-    wordText (now (a .book)) (now (a .tail)) (a .f) (a .w)
-    ≡ signedText 4 (a .f .year) ++ twoMore (num 2 (getD (now (a .numbers)) (a .w % 8 + 1) 0)) (num 2 (getD (now (a .numbers)) (a .w % 8 + 2) 0)) (a .w)
+      let a = m .before .before .before .before .before .before .args in
+      wordText (now (a .book)) (now (a .tail)) (a .f) (a .w)
+      ≡ signedText 4 (a .f .year) ++ twoMore (num 2 (getD (now (a .numbers)) (a .w % 8 + 1) 0)) (num 2 (getD (now (a .numbers)) (a .w % 8 + 2) 0)) (a .w)
 
 date : (m : tie.At-match-keys6) → Date m
 date m =
@@ -220,9 +207,11 @@ put-two-more-requires c κs =
     let m = c .before .before .before .before .before .before .before .before in
     let a = m .before .before .before .before .before .before .args in
     let hour = getD (now (a .numbers)) (a .w % 8) 0 in
-    let wrote = c .before .before .before .before .before .put-two in
-    (time m .minute, time m .second,
-    omega (arith, num-fits 2 hour (omega arith) (time m .hour), rw (time m .text, length-append) at (m .before .before .before .before .before .before .pre .1 .1), wrote .ensures .end, length-digits 2 hour, wrote .kept .1 .0))
+    let wrote = c .before .before .before .before .before .put-two in (
+      time m .minute,
+      time m .second,
+      omega (arith, num-fits 2 hour (omega arith) (time m .hour), rw (time m .text, length-append) at (m .before .before .before .before .before .before .pre .1 .1), wrote .ensures .end, length-digits 2 hour, wrote .kept .1 .0),
+    )
 
 mul-put-year-2 : tie.Need-mul-put-year-2
 mul-put-year-2 c = search needs
@@ -267,15 +256,20 @@ put-other-requires-2 c κs =
     let m = c .before in
     let start = m .before .before .before .before .before .before in
     let told = m .before .code .ensures in
-    let not = m .match .rest in
-    (start .pre .0, ((
-    λ e. not .0 .0 .0 .0 .0 .0 .1 (told ∙ e),
-    λ e. not .0 .0 .0 .0 .0 .1 (told ∙ e),
-    λ e. not .0 .0 .0 .0 .1 (told ∙ e),
-    λ e. not .0 .0 .0 .1 (told ∙ e),
-    λ e. not .0 .0 .1 (told ∙ e),
-    λ e. not .0 .1 (told ∙ e)),
-    start .pre .1 .1))
+    let not = m .match .rest in (
+      start .pre .0,
+      (
+        (
+          λ e. not .0 .0 .0 .0 .0 .0 .1 (told ∙ e),
+          λ e. not .0 .0 .0 .0 .0 .1 (told ∙ e),
+          λ e. not .0 .0 .0 .0 .1 (told ∙ e),
+          λ e. not .0 .0 .0 .1 (told ∙ e),
+          λ e. not .0 .0 .1 (told ∙ e),
+          λ e. not .0 .1 (told ∙ e),
+        ),
+        start .pre .1 .1,
+      ),
+    )
 
 same-length : tie.Need-same-length
 same-length c = search needs

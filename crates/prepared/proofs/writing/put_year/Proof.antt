@@ -2,7 +2,6 @@
 use borrow.Author.Needs.{needs}
 use mir.Syntax.{w32}
 use mir.ValLaws.{toZ-ofZ}
-use native.Mathlib.Omega.{arith}
 use Rattle.laws.proofs.Digits.{length-digits}
 use Rattle.prepared.proofs.Texts.{plain-year}
 use Rattle.prepared.proofs.writing.put_year.Statement.{statement}
