@@ -1,15 +1,15 @@
 // Writing by words: each lays the text of its steps behind that of the words before it.
-ghost use mathlib.Core.List.{_∷_, [], _++_};
+ghost use mathlib.Core.List.{_++_};
 ghost use mathlib.Core.Path.{_≡_};
 ghost use Prim.Native.Nat.{_+_, _-_, _≤_, _<_};
-ghost use lib.ListN.{length, take, getD};
+ghost use lib.ListN.{length, take};
 ghost use Rattle.laws.specs.Laid.{Laid};
 ghost use Rattle.meaning.specs.Answers.{fieldsCheck};
 ghost use Rattle.meaning.specs.Bytes.{num};
 ghost use Rattle.meaning.specs.OpenedBooks.{bookIn};
 ghost use Rattle.meaning.specs.Writing.{signedText};
 ghost use Rattle.meaning.specs.declared.Checked.the-variants.{Fine};
-ghost use Rattle.prepared.specs.Written.{wordText, wordsText, behindText, twoMore, heldText, plainYear, numbersOf};
+ghost use Rattle.prepared.specs.Written.{wordText, wordsText, behindText, twoMore, plainYear, numbersOf};
 ghost use Rattle.words.specs.Fields as field;
 ghost use Rattle.words.specs.Pieces.{heldBytes, mostOf, stepsOf};
 ghost use Rattle.words.specs.Prepared.{writeSteps, outputSteps};
