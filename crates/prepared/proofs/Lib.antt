@@ -1,5 +1,9 @@
-pub mod RowParts
-pub mod RowKinds
+pub mod Answers
+pub mod AsThePattern
+pub mod Bounds
+pub mod Held
 pub mod PatternRefusals
 pub mod PreparedStands
-pub mod AsThePattern
+pub mod RowKinds
+pub mod RowParts
+pub mod Texts

@@ -2,3 +2,4 @@ pub mod Opened
 pub mod PreparedRows
 pub mod Stands
 pub mod Verdicts
+pub mod Written
