@@ -1,6 +1,6 @@
 // The pieces of a word: what each step of it is.
 ghost use mathlib.Core.Path.{_≡_};
-ghost use Prim.Native.Nat.{_<_};
+ghost use Prim.Native.Nat.{_≤_, _<_};
 ghost use lib.ListN.{length, getD};
 ghost use Rattle.words.specs.Pieces as pieces;
 use crate::coding::rule_in;
@@ -18,9 +18,16 @@ use rules::short::short_rule;
 
 pub enum Piece {
     // A byte that stands for itself, so many times.
-    Times { byte: u8, count: usize },
+    Times {
+        byte: u8,
+        count: usize,
+    },
     // Bytes that the row holds from a place on; a write may lose the last of them.
-    Held { from: usize, count: usize, lost: bool },
+    Held {
+        from: usize,
+        count: usize,
+        lost: bool,
+    },
     // A symbol with its rule.
     Symbol(Rule),
 }
@@ -39,11 +46,21 @@ pub fn short_in(n: usize) -> Short
     }
 }
 
+// 1 where a byte stands behind all else.
+fn behind_count(w: u64) -> usize
+    ensures { λ r. ⌜ (r ≡ length (pieces.behind w)) × (r ≤ 1) ⌝ }
+{
+    if last_byte(w) == 0 {
+        return 0;
+    }
+    1
+}
+
 // How many pieces a word has.
 pub fn piece_count(w: u64) -> usize
-    ensures { λ r. ⌜ r ≡ length (pieces.piecesIn w) ⌝ }
+    ensures { λ r. ⌜ (r ≡ length (pieces.piecesIn w)) × (r ≤ 6) ⌝ }
 {
-    let behind = if last_byte(w) == 0 { 0usize } else { 1usize };
+    let behind = behind_count(w);
     match code(w) {
         1 => 1,
         3 => 1 + behind,
@@ -82,7 +99,7 @@ fn yearly(digits: usize) -> Piece
 }
 
 // The first piece of a word that has one.
-fn first_piece(w: u64) -> Piece
+pub fn first_piece(w: u64) -> Piece
     ensures { λ r. ⌜ r ≡ getD (pieces.piecesIn w) 0 (pieces.once 0) ⌝ }
 {
     match code(w) {
@@ -104,5 +121,34 @@ fn first_piece(w: u64) -> Piece
             lost: is_lost(w),
         },
         _ => once(0),
+    }
+}
+
+// Behind the first of three numbers: the other two, and the bytes.
+fn of_three(second: Short, third: Short, w: u64, k: usize) -> Piece
+    ensures { λ r. ⌜ r ≡ getD (pieces.three (pieces.once 0) (pieces.shortly second 2) (pieces.shortly third 2) w) k (pieces.once 0) ⌝ }
+{
+    match k {
+        1 => once(first_byte(w)),
+        2 => shortly(second, 2),
+        3 => once(second_byte(w)),
+        4 => shortly(third, 2),
+        5 => once(last_byte(w)),
+        _ => once(0),
+    }
+}
+
+// The k-th piece of a word.
+pub fn piece_in(w: u64, k: usize) -> Piece
+    requires { ⌜ k < length (pieces.piecesIn w) ⌝ }
+    ensures { λ r. ⌜ r ≡ getD (pieces.piecesIn w) k (pieces.once 0) ⌝ }
+{
+    if k == 0 {
+        return first_piece(w);
+    }
+    match code(w) {
+        10 => of_three(Short::Minute, Short::Second, w, k),
+        15 => of_three(Short::Month, Short::Day, w, k),
+        _ => once(last_byte(w)),
     }
 }
