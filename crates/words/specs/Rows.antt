@@ -3,7 +3,7 @@
 use mathlib.Core.Bool.{Bool, true, false}
 use mathlib.Core.List.{List, [], _∷_}
 use Prim.Native.Nat.{ℕ, _+_, _-_, _*_, _/_, _%_}
-use lib.Bits.{xor}
+use lib.Bits.{bitXor}
 use lib.Dec.{eqb, leb}
 use lib.ListN.{length, getD, take, drop}
 use Rattle.meaning.specs.Bytes.{when, both}
@@ -50,7 +50,7 @@ heldWords row = drop (heldFrom row) (tail row)
 -- all of some words, by exclusive or, from one on
 unfoldable pub xorFrom : ℕ → List ℕ → ℕ
 xorFrom n [] = n
-xorFrom n (w ∷ ws) = xorFrom (xor n w) ws
+xorFrom n (w ∷ ws) = xorFrom (bitXor n w) ws
 
 -- whether a row is that of an accepted pattern: so it says, and its words are those that were laid
 abbrev pub isAccepted : List ℕ → Bool
