@@ -1,0 +1,2 @@
+// What a prepared pattern does: its words are read one after the other.
+pub mod exact;
