@@ -111,6 +111,7 @@ pub fn read_piece(
     ensures { λ r. ⌜ r ≡ partAt (cursor .at) (readStep choices (bookIn (now (book .entry))) «current_year» (pieceStep (now (tail .entry)) piece) (drop (cursor .at) (now (text .entry)))) ⌝ }
 {
     let strict = choices.strict;
+    let edition = choices.edition;
     match piece {
         Piece::Times { byte, count } => read_times(strict, byte, count, text, cursor),
         Piece::Held {
@@ -122,9 +123,7 @@ pub fn read_piece(
             let end = start + smaller(count, tail.len() - start);
             read_held(strict, &tail[start..end], text, cursor)
         }
-        Piece::Symbol(rule) => {
-            parse_rule(choices.edition, book, rule, current_year, text, cursor)
-        }
+        Piece::Symbol(rule) => { parse_rule(edition, book, rule, current_year, text, cursor) }
     }
 }
 

@@ -1,7 +1,7 @@
 -- The pieces of a word whose code is known, and those behind the first.
 use mathlib.Core.List.{List, [], _∷_}
 use mathlib.Core.Path.{_≡_, refl, ap, sym, _∙_}
-use Prim.Native.Nat.{ℕ, zero, suc, _<_}
+use Prim.Native.Nat.{ℕ, zero, suc, _≤_, _<_}
 use native.Mathlib.Omega.{arith}
 use lib.Dec.{eqb}
 use lib.ListN.{length, getD}
@@ -69,3 +69,25 @@ none-of-three p q w (suc (suc (suc (suc (suc (suc k)))))) n1 n2 n3 n4 n5 =
 pub first-apart : (a p q : Piece) (w k : ℕ) → (k ≡ 0 → ⊥) → getD (three (once 0) p q w) k (once 0) ≡ getD (three a p q w) k (once 0)
 first-apart a p q w zero n = absurd (n refl)
 first-apart a p q w (suc k) n = refl
+
+-- at most three numbers and a byte behind each
+behind-small : (w : ℕ) → length (behind w) ≤ 1
+behind-small w = by-test (eqb (lastByte w) 0) (λ e. rw e (omega arith)) (λ e. rw e (omega arith))
+
+abbrev Few : List Piece → Type 0
+Few l = length l ≤ 6
+
+pub few-pieces : (w : ℕ) → length (piecesIn w) ≤ 6
+unfolding piecesIn piecesOfCode
+few-pieces w =
+    let c = code w in
+    let one = behind-small w in
+    when-is Few (eqb c 1) (λ _. omega arith)
+    (λ _. when-is Few (eqb c 3) (λ _. omega arith)
+    (λ _. when-is Few (eqb c 4) (λ _. omega arith)
+    (λ _. when-is Few (eqb c 9) (λ _. omega arith)
+    (λ _. when-is Few (eqb c 10) (λ _. omega arith)
+    (λ _. when-is Few (eqb c 15) (λ _. omega arith)
+    (λ _. when-is Few (eqb c 22) (λ _. omega arith)
+    (λ _. when-is Few (eqb c 29) (λ _. omega arith)
+    (λ _. when-is Few (eqb c 30) (λ _. omega arith) (λ _. when-is Few (eqb c 31) (λ _. omega arith) (λ _. omega arith))))))))))
