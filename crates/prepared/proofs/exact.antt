@@ -1,0 +1,2 @@
+pub mod Literals
+pub mod Pieces
