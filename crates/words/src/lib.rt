@@ -2,6 +2,7 @@
 pub mod checking;
 pub mod coding;
 pub mod fields;
+pub mod parts;
 pub mod pending;
 pub mod pieces;
 pub mod rule_words;
