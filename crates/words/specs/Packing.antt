@@ -1,5 +1,5 @@
 -- Request [11]: the words that a pattern is prepared into: one for each part, then joined where a byte follows a number or three numbers follow
--- one another. That they stand for the pattern's steps is the law `packed-stands` of proofs/Packing.
+-- one another. That they stand for the pattern's steps is the law `packed-stands` of proofs/PackedWords.
 use mathlib.Core.Bool.{Bool, true, false}
 use mathlib.Core.List.{List, [], _∷_, _++_}
 use Prim.Native.Nat.{ℕ, _+_, _-_, _*_, _%_}

@@ -2,6 +2,7 @@
 pub mod checking;
 pub mod coding;
 pub mod fields;
+pub mod packing;
 pub mod parts;
 pub mod pending;
 pub mod pieces;

@@ -2,25 +2,31 @@
 use mathlib.Core.Bool.{Bool, true, false, not}
 use mathlib.Core.List.{List, [], _∷_}
 use mathlib.Core.Path.{_≡_, refl, sym}
-use Prim.Native.Nat.{ℕ, _+_, _*_, _≤_, _<_}
+use Prim.Native.Nat.{ℕ, _+_, _-_, _*_, _/_, _≤_, _<_}
 use native.Mathlib.Omega.{arith}
 use borrow.Author.Tests.{eq-eqb, ne-eqb}
 use lib.Dec.{eqb}
-use lib.ListN.{length, getD}
+use lib.ListN.{length, getD, take, drop}
 use Rattle.laws.proofs.Tests.{both-no, true-is-not-false}
 use Rattle.meaning.specs.Rules.{roleOf}
+use Rattle.meaning.specs.Bytes.{quote}
+use Rattle.meaning.specs.Splitting.{run, quotes, quoted, unclosed}
 use Rattle.meaning.specs.Writing as meaning
-use Rattle.meaning.specs.declared.Kind.the-variants.{Run}
+use Rattle.meaning.specs.Writing.{endsInQuote}
+use Rattle.meaning.specs.declared.Kind.the-variants.{Run, Quotes, Quoted, Open}
 use Rattle.meaning.specs.declared.Pair.{Pair}
 use Rattle.meaning.specs.declared.Part.{Part}
 use Rattle.meaning.specs.declared.Role.{Role}
 use Rattle.meaning.specs.declared.Role.the-variants.{Literal, Symbol}
 use Rattle.meaning.specs.declared.Rule.{Rule}
 use Rattle.pattern.proofs.parts.Inside.{unescaped-turn}
-use Rattle.pattern.specs.First.{unescaped}
+use Rattle.pattern.proofs.parts.Walks.{rest-all}
+use Rattle.pattern.specs.First.{unescaped, contentOf}
+use Rattle.pattern.specs.Next.{Next}
 use Rattle.rules.specs.Steps.{means, Chosen}
 use Rattle.rules.specs.declared.step.Step.{Step}
 use Rattle.rules.specs.declared.step.Step.the-variants as step
+use Rattle.words.proofs.TableWords.{role-stands}
 use Rattle.words.specs.Laying.{roleMeant}
 use Rattle.words.specs.Packing.{bit, ruleWord, timesWord, isOne, heldWord, heldInside}
 
@@ -54,7 +60,7 @@ role-meant {pair} {p} {part} {s} h e =
 
 -- the word of a rule of the table has room for a byte behind it
 pub rule-small : (rule : Rule) (pair : Pair) (b n : ℕ) → 0 < n → n ≤ 256 → roleOf pair b n ≡ Symbol rule → ruleWord rule < 72057594037927936
-rule-small rule pair b n some few e = ?
+rule-small rule pair b n some few e = (rw e at (role-stands n pair b some few)) .small
 
 pub is-not : (b : Bool) → not b ≡ true → b ≡ false
 is-not true h = true-is-not-false (sym h)
@@ -91,3 +97,30 @@ held-inside s lost e = rw e
 pub held-word : (s : List ℕ) (lost : Bool) (at : ℕ) → isOne s lost ≡ false
     → heldWord at s lost ≡ 31 + 32 * length s + 16384 * at + 8388608 * bit lost
 held-word s lost at e = rw e
+
+-- what a part of each kind holds, as the code has it
+
+module _ (p : List ℕ) (part : Part) where
+  pub run-content : part .kind ≡ Run → contentOf p part ≡ run (getD p (part .start) 0) (part .length)
+  run-content e = rw e
+
+  pub quotes-content : part .kind ≡ Quotes → contentOf p part ≡ quotes (part .length / 2)
+  quotes-content e = rw e
+
+  abbrev pub insideQuoted : List ℕ
+  insideQuoted = take (part .start + part .length - 1 - (part .start + 1)) (drop (part .start + 1) p)
+
+  pub quoted-content : part .kind ≡ Quoted → contentOf p part ≡ quoted (unescaped insideQuoted)
+  quoted-content e =
+      let k : part .start + part .length - 1 - (part .start + 1) ≡ part .length - 2 = omega arith in
+      rw (e, k)
+
+  abbrev pub insideOpen : List ℕ
+  insideOpen = take (length p - (part .start + 1)) (drop (part .start + 1) p)
+
+  pub open-content : part .kind ≡ Open → contentOf p part ≡ unclosed (unescaped insideOpen)
+  open-content e = rw (e, rest-all (part .start + 1) p)
+
+  pub open-lost : Next p (part .start) part → part .kind ≡ Open
+      → eqb (getD insideOpen (length insideOpen - 1) 0) quote ≡ endsInQuote (unescaped insideOpen)
+  open-lost n e = rw (rest-all (part .start + 1) p) (sym (n .lost e .told))

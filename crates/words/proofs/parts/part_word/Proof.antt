@@ -1,3 +1,9 @@
+-- Each kind of part, by what it holds.
+use mathlib.Core.Path.{refl, _∙_}
+use denote.Ref.{now}
+use Rattle.words.proofs.parts.Words.{run-content, quotes-content, quoted-content, open-content, open-lost}
+use Rattle.words.specs.Packing.{partWord, heldIn}
+use native.Mathlib.Omega.{arith}
 use borrow.Author.Needs.{needs}
 use Rattle.words.proofs.parts.part_word.Statement.{statement}
 use Rattle.words.proofs.parts.part_word.Tie as tie
@@ -42,11 +48,11 @@ sub-hold c = search needs
 
 -- src/parts.rt:151:30
 sub-hold-2 : tie.Need-sub-hold-2
-sub-hold-2 c = ?
+sub-hold-2 c = omega (arith, c .before .before .before .before .pre .0 .two (c .enum-told3 .given .1))
 
 -- src/parts.rt:151:30
 part-hold-start : tie.Need-part-hold-start
-part-hold-start c = ?
+part-hold-start c = omega (arith, c .before .before .before .before .pre .0 .two (c .enum-told3 .given .1))
 
 -- src/parts.rt:151:30
 part-hold-end : tie.Need-part-hold-end
@@ -54,7 +60,10 @@ part-hold-end c = search needs
 
 -- src/parts.rt:151:25
 hold-requires : tie.Need-hold-requires
-hold-requires c κs = ?
+unfolding heldIn
+hold-requires c κs =
+    let s = c .before .before .before .before .before .before in
+    (rw (quoted-content (now (c .before .before .before .before .before .before .args .pattern)) (c .before .before .before .before .before .before .args .part) (c .before .before .enum-told3 .given .1)) at (s .pre .1 .1), s .pre .1 .2, s .pre .1 .3)
 
 -- src/parts.rt:152:37
 enum-told-4 : tie.Need-enum-told-4
@@ -98,15 +107,22 @@ ends-in-quote-requires c κs = search needs
 
 -- src/parts.rt:152:23
 hold-requires-2 : tie.Need-hold-requires-2
-hold-requires-2 c κs = ?
+unfolding heldIn
+hold-requires-2 c κs =
+    let s = c .before .before .before .before .before .before .before .before in
+    let unclosed = c .before .before .before .before .enum-told4 .given .1 in
+    let lost = c .before .ends-in-quote .ensures ∙ open-lost (now (c .before .before .before .before .before .before .before .before .args .pattern)) (c .before .before .before .before .before .before .before .before .args .part) (s .pre .0) unclosed in
+    (rw lost (rw (open-content (now (c .before .before .before .before .before .before .before .before .args .pattern)) (c .before .before .before .before .before .before .before .before .args .part) unclosed) at (s .pre .1 .1)), s .pre .1 .2, s .pre .1 .3)
 
 -- src/parts.rt:134:1
 returns : tie.Need-returns
-returns c = ?
+unfolding partWord heldIn
+returns c = rw (run-content (now (c .before .before .before .before .before .args .pattern)) (c .before .before .before .before .before .args .part) (c .before .enum-told .given .1)) (c .run-word .ensures, record { start = omega arith; laid = refl })
 
 -- src/parts.rt:134:1
 returns-2 : tie.Need-returns-2
-returns-2 c = ?
+unfolding partWord heldIn
+returns-2 c = rw (quotes-content (now (c .before .before .before .before .before .args .pattern)) (c .before .before .before .before .before .args .part) (c .before .enum-told2 .given .1)) (c .times-word .ensures, record { start = omega arith; laid = refl })
 
 -- src/parts.rt:134:1
 same-length : tie.Need-same-length
@@ -114,7 +130,8 @@ same-length c = search needs
 
 -- src/parts.rt:134:1
 returns-3 : tie.Need-returns-3
-returns-3 c = ?
+unfolding partWord heldIn
+returns-3 c = rw (quoted-content (now (c .before .before .before .before .before .before .before .before .before .args .pattern)) (c .before .before .before .before .before .before .before .before .before .args .part) (c .before .before .before .before .before .enum-told3 .given .1)) (c .before .before .hold .ensures)
 
 -- src/parts.rt:134:1
 same-length-2 : tie.Need-same-length-2
@@ -122,7 +139,11 @@ same-length-2 c = search needs
 
 -- src/parts.rt:134:1
 returns-4 : tie.Need-returns-4
-returns-4 c = ?
+unfolding partWord heldIn
+returns-4 c =
+    let unclosed = c .before .before .before .before .before .before .before .enum-told4 .given .1 in
+    let lost = c .before .before .before .before .ends-in-quote .ensures ∙ open-lost (now (c .before .before .before .before .before .before .before .before .before .before .before .args .pattern)) (c .before .before .before .before .before .before .before .before .before .before .before .args .part) (c .before .before .before .before .before .before .before .before .before .before .before .pre .0) unclosed in
+    rw (open-content (now (c .before .before .before .before .before .before .before .before .before .before .before .args .pattern)) (c .before .before .before .before .before .before .before .before .before .before .before .args .part) unclosed, ← lost) (c .before .before .hold2 .ensures)
 
 pub part-word-spec : {M : Type 1} → statement M
 part-word-spec =
