@@ -36,7 +36,11 @@ fn times_word(b: u8, n: usize) -> u64
     ensures { λ r. ⌜ r ≡ timesWord b n ⌝ }
 {
     let byte = 72057594037927936 * b as u64;
-    if n == 1 { 1 + byte } else { 30 + 32 * n as u64 + byte }
+    if n == 1 {
+        1 + byte
+    } else {
+        30 + 32 * n as u64 + byte
+    }
 }
 
 // y, more than twice.
@@ -149,6 +153,11 @@ pub fn part_word(pair: Pair, pattern: &[u8], part: Part, tail: &mut [u64], befor
             at: before,
         },
         Kind::Quoted => hold(&pattern[start + 1..start + n - 1], false, tail, before),
-        Kind::Open => hold(&pattern[start + 1..], ends_in_quote(&pattern[start + 1..]), tail, before),
+        Kind::Open => hold(
+            &pattern[start + 1..],
+            ends_in_quote(&pattern[start + 1..]),
+            tail,
+            before,
+        ),
     }
 }

@@ -12,12 +12,6 @@ use Rattle.words.specs.Packing.{isOne}
 use borrow.Author.Needs.{needs}
 use Rattle.words.proofs.parts.hold.Statement.{statement}
 use Rattle.words.proofs.parts.hold.Tie as tie
-use Rattle.words.proofs.parts.hold.Reads as reads
-use Rattle.words.proofs.parts.hold.Lts as lts
-use Rattle.pattern.proofs.quoted.unescaped_length.Reads as unescaped-length-reads
-use Rattle.words.proofs.parts.held_word.Reads as held-word-reads
-use Rattle.words.proofs.parts.lay_held.Reads as lay-held-reads
-use Rattle.words.proofs.parts.times_word.Reads as times-word-reads
 
 one : (c : tie.After-shared-slice-known2) → length (unescaped (now (c .before .before .before .before .before .before .args .src))) ≡ 1
 one c = sym (c .before .before .before .unescaped-length .ensures) ∙ c .before .before .if1 .taken
@@ -34,41 +28,32 @@ few c =
     let s = c .before .before .before .before in
     omega (arith, c .before .unescaped-length .ensures, rw (held-inside (unescaped (now (s .args .src))) (s .args .lost) (whole c)) at (s .pre .0))
 
--- src/parts.rt:116:9
 unescaped-length-requires : tie.Need-unescaped-length-requires
 unescaped-length-requires c κs = search needs
 
--- src/parts.rt:120:34
 shared-slice-read-times-word : tie.Need-shared-slice-read-times-word
 shared-slice-read-times-word c = some-inside (now (c .before .before .before .before .before .before .args .src)) (one c)
 
--- src/parts.rt:120:23
 times-word-requires : tie.Need-times-word-requires
 times-word-requires c κs = search needs
 
--- src/parts.rt:119:13
 returns : tie.Need-returns
 returns c =
     let src = now (c .before .before .before .before .before .before .before .args .src) in
     rw (lost-not (c .before)) (c .times-word .ensures ∙ one-word src (c .before .before .before .before .before .before .before .args .before) (one (c .before)), rw (one-held (unescaped src) (one (c .before))) (record { start = omega arith; laid = refl }))
 
--- src/parts.rt:125:14
 sub-at : tie.Need-sub-at
 sub-at c = omega (arith, few c)
 
--- src/parts.rt:126:5
 lay-held-requires : tie.Need-lay-held-requires
 lay-held-requires c κs = omega (arith, few (c .before), c .before .before .unescaped-length .ensures, c .before .before .before .before .before .pre)
 
--- src/parts.rt:128:15
 held-word-requires : tie.Need-held-word-requires
 held-word-requires c κs = (omega (arith, c .before .before .before .before .before .before .before .before .pre), omega (arith, few (c .before .before .before .before), c .before .before .before .before .before .before .before .before .pre))
 
--- src/parts.rt:112:1
 same-length : tie.Need-same-length
 same-length c = search needs
 
--- src/parts.rt:112:1
 returns-2 : tie.Need-returns-2
 returns-2 c =
     let s = c .before .before .before .before .before .before .before .before .before in
@@ -92,4 +77,3 @@ hold-spec =
     held-word-requires
     same-length
     returns-2)
-

@@ -11,9 +11,6 @@ use Rattle.pattern.proofs.parts.Inside.{unescaped-turn, one-or-two}
 use Rattle.pattern.specs.First.{unescaped}
 use Rattle.words.proofs.parts.lay_held.Statement.{statement}
 use Rattle.words.proofs.parts.lay_held.Tie as tie
-use Rattle.words.proofs.parts.lay_held.Reads as reads
-use Rattle.words.proofs.parts.lay_held.Lts as lts
-use Rattle.pattern.proofs.quoted.bytes_of.Reads as bytes-of-reads
 
 abbrev Inv-loop : tie.InvT-loop
 Inv-loop src tail₀ at next₀ i₀ tail next i =
@@ -24,58 +21,48 @@ Inv-loop src tail₀ at next₀ i₀ tail next i =
 abbrev μ-loop : tie.MeasureT-loop
 μ-loop src tail₀ at next₀ i₀ tail next i = length src - i
 
--- src/parts.rt:87:5
 loop-holds : tie.Need-loop-holds Inv-loop μ-loop
 loop-holds c = (refl, refl, refl)
 
--- src/parts.rt:88:17
 shared-slice-read-b : tie.Need-shared-slice-read-b Inv-loop μ-loop
 shared-slice-read-b c = omega arith
 
--- src/parts.rt:89:22
 cast-tail : tie.Need-cast-tail Inv-loop μ-loop
 cast-tail c = omega (arith, c .shared-slice-known2 .given (c .before .before .loop .i))
 
--- src/parts.rt:89:9
 mul-tail : tie.Need-mul-tail Inv-loop μ-loop
 mul-tail c =
     let L = c .before .before .loop in
     let src = now (c .before .before .before .before .before .args .src) in
     omega (arith, ap length (unescaped-turn src (L .i) (c .before .loop-test .taken)), L .inv .1, c .before .before .before .before .before .good)
 
--- src/parts.rt:89:9
 slice-write-tail : tie.Need-slice-write-tail Inv-loop μ-loop
 slice-write-tail c =
     let L = c .before .before .loop in
     let src = now (c .before .before .before .before .before .args .src) in
     omega (arith, ap length (unescaped-turn src (L .i) (c .before .loop-test .taken)), L .inv .1, L .inv .2)
 
--- src/parts.rt:90:9
 add-next : tie.Need-add-next Inv-loop μ-loop
 add-next c =
     let L = c .before .before .loop in
     let src = now (c .before .before .before .before .before .args .src) in
     omega (arith, ap length (unescaped-turn src (L .i) (c .before .loop-test .taken)), L .inv .1, L .inv .2)
 
--- src/parts.rt:91:14
 bytes-of-requires : tie.Need-bytes-of-requires Inv-loop μ-loop
 bytes-of-requires c κs = search needs
 
--- src/parts.rt:91:9
 add-i : tie.Need-add-i Inv-loop μ-loop
 add-i c =
     let L = c .before .before .before .loop in
     let src = now (c .before .before .before .before .before .before .args .src) in
     omega (arith, one-or-two (getD src (L .i) 0) (c .bytes-of .ensures))
 
--- src/parts.rt:87:5
 loop-less : tie.Need-loop-less Inv-loop μ-loop
 loop-less c =
     let L = c .before .before .before .loop in
     let src = now (c .before .before .before .before .before .before .args .src) in
     omega (arith, one-or-two (getD src (L .i) 0) (c .bytes-of .ensures))
 
--- src/parts.rt:87:5
 loop-again : tie.Need-loop-again Inv-loop μ-loop
 loop-again c =
     let L = c .before .before .before .loop in
@@ -83,11 +70,9 @@ loop-again c =
     let turn = rw (← c .bytes-of .ensures) at (unescaped-turn src (L .i) (c .before .before .loop-test .taken)) in
     (rw add-one (rw turn at (L .inv .0)), omega (arith, ap length turn, L .inv .1), simp length-set (L .inv .2))
 
--- src/parts.rt:81:1
 same-length : tie.Need-same-length Inv-loop μ-loop
 same-length c = c .before .loop .inv .2
 
--- src/parts.rt:81:1
 returns : tie.Need-returns Inv-loop μ-loop
 unfolding unescaped
 returns c = rw (drop-of-length-le (now (c .before .before .before .before .args .src)) (c .loop-test .left)) at (c .before .loop .inv .0)
@@ -110,4 +95,3 @@ lay-held-spec =
     loop-again
     same-length
     returns)
-

@@ -7,105 +7,76 @@ use native.Mathlib.Omega.{arith}
 use borrow.Author.Needs.{needs}
 use Rattle.words.proofs.parts.part_word.Statement.{statement}
 use Rattle.words.proofs.parts.part_word.Tie as tie
-use Rattle.words.proofs.parts.part_word.Reads as reads
-use Rattle.words.proofs.parts.part_word.Lts as lts
-use Rattle.pattern.proofs.quoted.ends_in_quote.Reads as ends-in-quote-reads
-use Rattle.words.proofs.parts.hold.Reads as hold-reads
-use Rattle.words.proofs.parts.run_word.Reads as run-word-reads
-use Rattle.words.proofs.parts.times_word.Reads as times-word-reads
 
--- src/parts.rt:144:19
 enum-told : tie.Need-enum-told
 enum-told c = search needs
 
--- src/parts.rt:144:19
 run-word-requires : tie.Need-run-word-requires
 run-word-requires c κs = search needs
 
--- src/parts.rt:148:37
 enum-told-2 : tie.Need-enum-told-2
 enum-told-2 c = search needs
 
--- src/parts.rt:148:19
 times-word-requires : tie.Need-times-word-requires
 times-word-requires c κs = search needs
 
--- src/parts.rt:151:39
 enum-told-3 : tie.Need-enum-told-3
 enum-told-3 c = search needs
 
--- src/parts.rt:151:39
 add-hold : tie.Need-add-hold
 add-hold c = search needs
 
--- src/parts.rt:151:50
 add-hold-2 : tie.Need-add-hold-2
 add-hold-2 c = search needs
 
--- src/parts.rt:151:50
 sub-hold : tie.Need-sub-hold
 sub-hold c = search needs
 
--- src/parts.rt:151:30
 sub-hold-2 : tie.Need-sub-hold-2
 sub-hold-2 c = omega (arith, c .before .before .before .before .pre .0 .two (c .enum-told3 .given .1))
 
--- src/parts.rt:151:30
 part-hold-start : tie.Need-part-hold-start
 part-hold-start c = omega (arith, c .before .before .before .before .pre .0 .two (c .enum-told3 .given .1))
 
--- src/parts.rt:151:30
 part-hold-end : tie.Need-part-hold-end
 part-hold-end c = search needs
 
--- src/parts.rt:151:25
 hold-requires : tie.Need-hold-requires
 unfolding heldIn
 hold-requires c κs =
     let s = c .before .before .before .before .before .before in
     (rw (quoted-content (now (c .before .before .before .before .before .before .args .pattern)) (c .before .before .before .before .before .before .args .part) (c .before .before .enum-told3 .given .1)) at (s .pre .1 .1), s .pre .1 .2, s .pre .1 .3)
 
--- src/parts.rt:152:37
 enum-told-4 : tie.Need-enum-told-4
 enum-told-4 c = search needs
 
--- src/parts.rt:152:37
 add-hold-3 : tie.Need-add-hold-3
 add-hold-3 c = search needs
 
--- src/parts.rt:152:28
 sub-hold-3 : tie.Need-sub-hold-3
 sub-hold-3 c = search needs
 
--- src/parts.rt:152:28
 part-hold-start-2 : tie.Need-part-hold-start-2
 part-hold-start-2 c = search needs
 
--- src/parts.rt:152:28
 part-hold-end-2 : tie.Need-part-hold-end-2
 part-hold-end-2 c = search needs
 
--- src/parts.rt:152:74
 add-ends-in-quote : tie.Need-add-ends-in-quote
 add-ends-in-quote c = search needs
 
--- src/parts.rt:152:65
 sub-ends-in-quote : tie.Need-sub-ends-in-quote
 sub-ends-in-quote c = search needs
 
--- src/parts.rt:152:65
 part-ends-in-quote-start : tie.Need-part-ends-in-quote-start
 part-ends-in-quote-start c = search needs
 
--- src/parts.rt:152:65
 part-ends-in-quote-end : tie.Need-part-ends-in-quote-end
 part-ends-in-quote-end c = search needs
 
--- src/parts.rt:152:51
 ends-in-quote-requires : tie.Need-ends-in-quote-requires
 ends-in-quote-requires c κs = search needs
 
--- src/parts.rt:152:23
 hold-requires-2 : tie.Need-hold-requires-2
 unfolding heldIn
 hold-requires-2 c κs =
@@ -114,30 +85,24 @@ hold-requires-2 c κs =
     let lost = c .before .ends-in-quote .ensures ∙ open-lost (now (c .before .before .before .before .before .before .before .before .args .pattern)) (c .before .before .before .before .before .before .before .before .args .part) (s .pre .0) unclosed in
     (rw lost (rw (open-content (now (c .before .before .before .before .before .before .before .before .args .pattern)) (c .before .before .before .before .before .before .before .before .args .part) unclosed) at (s .pre .1 .1)), s .pre .1 .2, s .pre .1 .3)
 
--- src/parts.rt:134:1
 returns : tie.Need-returns
 unfolding partWord heldIn
 returns c = rw (run-content (now (c .before .before .before .before .before .args .pattern)) (c .before .before .before .before .before .args .part) (c .before .enum-told .given .1)) (c .run-word .ensures, record { start = omega arith; laid = refl })
 
--- src/parts.rt:134:1
 returns-2 : tie.Need-returns-2
 unfolding partWord heldIn
 returns-2 c = rw (quotes-content (now (c .before .before .before .before .before .args .pattern)) (c .before .before .before .before .before .args .part) (c .before .enum-told2 .given .1)) (c .times-word .ensures, record { start = omega arith; laid = refl })
 
--- src/parts.rt:134:1
 same-length : tie.Need-same-length
 same-length c = search needs
 
--- src/parts.rt:134:1
 returns-3 : tie.Need-returns-3
 unfolding partWord heldIn
 returns-3 c = rw (quoted-content (now (c .before .before .before .before .before .before .before .before .before .args .pattern)) (c .before .before .before .before .before .before .before .before .before .args .part) (c .before .before .before .before .before .enum-told3 .given .1)) (c .before .before .hold .ensures)
 
--- src/parts.rt:134:1
 same-length-2 : tie.Need-same-length-2
 same-length-2 c = search needs
 
--- src/parts.rt:134:1
 returns-4 : tie.Need-returns-4
 unfolding partWord heldIn
 returns-4 c =
@@ -178,4 +143,3 @@ part-word-spec =
     returns-3
     same-length-2
     returns-4)
-

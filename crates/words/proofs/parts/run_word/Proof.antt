@@ -7,12 +7,6 @@ use Rattle.words.proofs.parts.Words.{role-meant, rule-small}
 use borrow.Author.Needs.{needs}
 use Rattle.words.proofs.parts.run_word.Statement.{statement}
 use Rattle.words.proofs.parts.run_word.Tie as tie
-use Rattle.words.proofs.parts.run_word.Reads as reads
-use Rattle.words.proofs.parts.run_word.Lts as lts
-use Rattle.rules.proofs.step.step_of.Reads as step-of-reads
-use Rattle.words.proofs.parts.role_meant.Reads as role-meant-reads
-use Rattle.words.proofs.parts.times_word.Reads as times-word-reads
-use Rattle.words.proofs.rule_words.rule_word.Reads as rule-word-reads
 
 -- the role is what the table has for the run
 meant : (c : tie.After-role-meant) →
@@ -20,42 +14,33 @@ meant : (c : tie.After-role-meant) →
     c .role-meant .result ≡ roleOf (s .args .pair) (getD (now (s .args .pattern)) (s .args .part .start) 0) (s .args .part .length)
 meant c = c .role-meant .ensures ∙ role-meant (c .before .step-of .ensures) (c .before .before .before .pre .1 .0)
 
--- src/parts.rt:81:27
 step-of-requires : tie.Need-step-of-requires
 step-of-requires c κs = search needs
 
--- src/parts.rt:81:9
 role-meant-requires : tie.Need-role-meant-requires
 role-meant-requires c κs = search needs
 
--- src/parts.rt:83:37
 enum-told : tie.Need-enum-told
 enum-told c = search needs
 
--- src/parts.rt:83:37
 shared-slice-read-times-word : tie.Need-shared-slice-read-times-word
 shared-slice-read-times-word c = search needs
 
--- src/parts.rt:83:26
 times-word-requires : tie.Need-times-word-requires
 times-word-requires c κs = search needs
 
--- src/parts.rt:84:22
 enum-known-role : tie.Need-enum-known-role
 enum-known-role c = search needs
 
--- src/parts.rt:84:31
 rule-word-requires : tie.Need-rule-word-requires
 rule-word-requires c κs =
     let s = c .before .before .before .before .before .before in
     rule-small (c .before .role .given .0 .0) (s .args .pair) (getD (now (s .args .pattern)) (s .args .part .start) 0) (s .args .part .length)
     (s .pre .0 .some) (s .pre .1 .1) (sym (meant (c .before .before .before)) ∙ c .before .role .given .1)
 
--- src/parts.rt:74:1
 returns : tie.Need-returns
 returns c = rw (← meant (c .before .before .before .before), c .before .before .enum-told .given .1) (c .times-word .ensures)
 
--- src/parts.rt:74:1
 returns-2 : tie.Need-returns-2
 returns-2 c = rw (← meant (c .before .before .before .before), c .before .before .role .given .1) (c .rule-word .ensures)
 
@@ -72,4 +57,3 @@ run-word-spec =
     rule-word-requires
     returns
     returns-2)
-
