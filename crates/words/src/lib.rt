@@ -2,6 +2,8 @@
 pub mod checking;
 pub mod coding;
 pub mod fields;
+pub mod packing;
+pub mod parts;
 pub mod pending;
 pub mod pieces;
 pub mod rule_words;

@@ -1,8 +1,7 @@
 // The word of a rule: the numbers that `coding` takes apart again.
 ghost use mathlib.Core.Path.{_≡_};
-ghost use Prim.Native.Nat.{_≤_, _<_};
+ghost use Prim.Native.Nat.{_<_};
 ghost use Rattle.meaning.specs.Whole.{unitNumber};
-ghost use Rattle.words.specs.Laying.{ruleSize};
 ghost use Rattle.words.specs.Packing.{quantityNumber, listNumber, groupNumber, bit, slotNumber, slotWord, ruleWord};
 use meaning::Group;
 use meaning::NameList;
@@ -156,7 +155,7 @@ fn zone_word(utc: bool, colon: bool, minutes: Group, seconds: Group) -> u64
 
 // The word of a rule, where no byte is behind it.
 pub fn rule_word(rule: Rule) -> u64
-    requires { ⌜ ruleSize rule ≤ 256 ⌝ }
+    requires { ⌜ ruleWord rule < 72057594037927936 ⌝ }
     ensures { λ r. ⌜ r ≡ ruleWord rule ⌝ }
 {
     match rule {

@@ -1,7 +1,6 @@
 -- The sum of a rule's fields, by its kind.
 use native.Mathlib.Omega.{arith}
 use Rattle.words.specs.Packing.{ruleWord}
-use Rattle.words.specs.Laying.{ruleSize}
 use borrow.Author.Needs.{needs}
 use Rattle.words.proofs.rule_words.rule_word.Statement.{statement}
 use Rattle.words.proofs.rule_words.rule_word.Tie as tie
@@ -58,9 +57,11 @@ add-result-4 : tie.Need-add-result-4
 add-result-4 c = search needs
 
 mul-result-5 : tie.Need-mul-result-5
+unfolding ruleWord
 mul-result-5 c = omega (arith, rw (c .before .before .rule3 .given .1) at (c .before .before .before .before .pre))
 
 add-result-5 : tie.Need-add-result-5
+unfolding ruleWord
 add-result-5 c = omega (arith, rw (c .before .before .rule3 .given .1) at (c .before .before .before .before .pre))
 
 enum-known-rule-4 : tie.Need-enum-known-rule-4
@@ -88,27 +89,33 @@ add-result-7 : tie.Need-add-result-7
 add-result-7 c = search needs
 
 mul-result-8 : tie.Need-mul-result-8
+unfolding ruleWord
 mul-result-8 c = omega (arith, rw (c .before .before .rule5 .given .1) at (c .before .before .before .before .pre))
 
 add-result-8 : tie.Need-add-result-8
+unfolding ruleWord
 add-result-8 c = omega (arith, rw (c .before .before .rule5 .given .1) at (c .before .before .before .before .pre))
 
 enum-known-rule-6 : tie.Need-enum-known-rule-6
 enum-known-rule-6 c = search needs
 
 mul-result-9 : tie.Need-mul-result-9
+unfolding ruleWord
 mul-result-9 c = omega (arith, rw (c .before .rule6 .given .1) at (c .before .before .before .pre))
 
 add-result-9 : tie.Need-add-result-9
+unfolding ruleWord
 add-result-9 c = omega (arith, rw (c .before .rule6 .given .1) at (c .before .before .before .pre))
 
 enum-known-rule-7 : tie.Need-enum-known-rule-7
 enum-known-rule-7 c = search needs
 
 mul-result-10 : tie.Need-mul-result-10
+unfolding ruleWord
 mul-result-10 c = omega (arith, rw (c .before .rule7 .given .1) at (c .before .before .before .pre))
 
 add-result-10 : tie.Need-add-result-10
+unfolding ruleWord
 add-result-10 c = omega (arith, rw (c .before .rule7 .given .1) at (c .before .before .before .pre))
 
 enum-told-2 : tie.Need-enum-told-2
