@@ -39,7 +39,7 @@ pub fn rows_check(lines: usize, days: usize, months: usize, years: usize, codes:
 }
 
 // The value of a unit in the row of a reading, where 32 bits hold it; 0 where it was not read.
-pub fn value_of(answer: &[i64], unit: ParseUnit) -> i32
+fn value_of(answer: &[i64], unit: ParseUnit) -> i32
     requires { ⌜ (length (now answer) ≡ 48) × Short (getD (now answer) (3 + unitNumber unit) (pos 0)) ⌝ }
     ensures { λ r. ⌜ r ≡ getD (now (answer .entry)) (3 + unitNumber unit) (pos 0) ⌝ }
 {

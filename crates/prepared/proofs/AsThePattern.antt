@@ -1,14 +1,19 @@
 -- A row that stands for a pattern answers as the pattern, in every use: what it writes, reads and finds, for every choice that is made then.
 use mathlib.Core.List.{List, [], _∷_, map}
 use mathlib.Core.Path.{_≡_, refl, ap, _∙_}
-use Prim.Native.Nat.{ℕ}
-use lib.IntN.{ℤ, natAbs}
-use lib.ListN.{length}
-use Rattle.meaning.specs.Answers.{_else_, patternCheck, currentYearCheck, textCheck}
-use Rattle.meaning.specs.Lists.{Rows, lines, readLines, listCheck, readList, listRows, rowsBy}
+use Prim.Native.Nat.{ℕ, _<_}
+use native.Mathlib.Omega.{arith}
+use lib.IntN.{ℤ, pos, natAbs}
+use lib.ListN.{length, getD, List·getD-map}
+use Rattle.laws.proofs.DayNumbers.{is-short}
+use Rattle.laws.proofs.Values.{value-short, few-months}
+use Rattle.laws.specs.CalendarLine.{Short}
+use Rattle.meaning.specs.Answers.{_else_, answerBy, patternCheck, currentYearCheck, textCheck}
+use Rattle.meaning.specs.Lists.{Rows, lines, cell, codeOf, laid, readLines, listCheck, readList, listRows, rowsBy}
 use Rattle.meaning.specs.Names.{Book}
+use Rattle.meaning.specs.OpenedBooks.{bookIn}
 use Rattle.meaning.specs.Trust.{Says, trustCheck}
-use Rattle.meaning.specs.Whole.{text, writeCheck, write, output, walk, readBy, readCheck, readWith, read}
+use Rattle.meaning.specs.Whole.{unitNumber, text, writeCheck, write, output, walk, readBy, readCheck, readWith, read}
 use Rattle.meaning.specs.Writing.{Step, steps}
 use Rattle.meaning.specs.declared.Checked.{Checked}
 use Rattle.meaning.specs.declared.Checked.the-variants.{Fine, Refused}
@@ -16,12 +21,14 @@ use Rattle.meaning.specs.declared.Choices.{Choices}
 use Rattle.meaning.specs.declared.Edition.{Edition}
 use Rattle.meaning.specs.declared.Fields.{Fields}
 use Rattle.meaning.specs.declared.Pair.{Pair}
+use Rattle.meaning.specs.declared.ParseUnit.{ParseUnit}
+use Rattle.meaning.specs.declared.ParseUnit.the-variants.{Year, Month, DayOfMonth}
 use Rattle.meaning.specs.declared.Reading.{Reading}
 use Rattle.meaning.specs.declared.Refusal.{Refusal}
 use Rattle.trust.proofs.Turns.{shown-failing}
 use Rattle.trust.proofs.Verdicts.{verdict-says}
 use Rattle.trust.specs.Check.{firstFailing, shown, verdictBy, verdictOf}
-use Rattle.words.specs.Prepared.{writeStepsCheck, writeSteps, outputSteps, readSteps, listStepsCheck, readLinesSteps, readListSteps, listRowsSteps}
+use Rattle.words.specs.Prepared.{writeStepsCheck, writeSteps, outputSteps, readSteps, listStepsCheck, readLinesSteps, readListSteps, listRowsSteps, narrow, narrowed}
 use Rattle.words.specs.Rows.{checkedIn, stepsHeld}
 use Rattle.prepared.specs.PreparedRows.{unmetOf}
 use Rattle.prepared.specs.Stands.{Stands}
@@ -68,22 +75,59 @@ module _ (choices : Choices) (p row : List ℕ) (stands : Stands (choices .pair)
   unfolding readListSteps listStepsCheck readList listCheck
   list-so s rows = rw (stands .checks)
 
-  lines-so : (ls : List (List ℕ))
-      → map (λ line. readSteps (checkedIn row) choices book (stepsHeld row) line current) ls ≡ map (λ line. read choices book p line current) ls
-  lines-so [] = refl
-  lines-so (line ∷ ls) = rw (reads-so line, lines-so ls)
-
-  read-lines-so : (s : List ℕ) → readLinesSteps (checkedIn row) choices book (stepsHeld row) s current ≡ readLines choices book p s current
-  unfolding readLinesSteps readLines
-  read-lines-so s = lines-so (lines s)
-
   list-check-so : (s : List ℕ) (rows : Rows) → listStepsCheck (checkedIn row) (choices .edition) s current rows ≡ listCheck (choices .edition) p s current rows
   unfolding listStepsCheck listCheck
   list-check-so s rows = rw (stands .checks)
 
+-- the rows of a list: no value of a pattern is too wide for them, with the names of any lent book
+
+narrow-same : (z : ℤ) → Short z → narrow z ≡ z
+narrow-same z h = rw (is-short z h)
+
+module _ (choices : Choices) (p row : List ℕ) (stands : Stands (choices .pair) p row) (book : List ℕ) (current : ℤ) where
+  wide : List ℕ → Reading
+  wide line = read choices (bookIn book) p line current
+
+  narrow-cell : (unit : ParseUnit) → unitNumber unit < 14 → (line : List ℕ) → cell unit (narrowed (wide line)) ≡ cell unit (wide line)
+  unfolding wide
+  narrow-cell unit h line =
+      List·getD-map narrow (wide line .values) (unitNumber unit) (pos 0)
+      ∙ narrow-same _ (value-short choices (bookIn book) (few-months book) p line current (unitNumber unit) h)
+
+  code-number : (checked : Checked) (a b : List ℤ) → answerBy checked a .number ≡ answerBy checked b .number
+  code-number Fine a b = refl
+  code-number (Refused why) a b = refl
+
+  narrow-code : (r : Reading) → codeOf (narrowed r) ≡ codeOf r
+  narrow-code r = code-number (r .checked) _ _
+
+  cells-so : {B : Type 0} (f : Reading → B) → ((line : List ℕ) → f (narrowed (wide line)) ≡ f (wide line)) → (ls : List (List ℕ))
+      → map f (map (λ line. narrowed (readSteps (checkedIn row) choices (bookIn book) (stepsHeld row) line current)) ls)
+      ≡ map f (map (λ line. read choices (bookIn book) p line current) ls)
+  unfolding wide
+  cells-so f same [] = refl
+  cells-so f same (line ∷ ls) = rw (reads-so choices p row stands (bookIn book) current line, same line, cells-so f same ls)
+
+  laid-so : (s : List ℕ) (rows : Rows)
+      → laid (readLinesSteps (checkedIn row) choices (bookIn book) (stepsHeld row) s current) rows ≡ laid (readLines choices (bookIn book) p s current) rows
+  unfolding readLinesSteps readLines wide
+  laid-so s rows =
+      let days = cells-so (cell DayOfMonth) (narrow-cell DayOfMonth (omega arith)) (lines s) in
+      let months = cells-so (cell Month) (narrow-cell Month (omega arith)) (lines s) in
+      let years = cells-so (cell Year) (narrow-cell Year (omega arith)) (lines s) in
+      let codes = cells-so codeOf (λ line. narrow-code (wide line)) (lines s) in
+      rw (days, months, years, codes)
+
+  rows-by-so : (checked : Checked) (s : List ℕ) (rows : Rows)
+      → rowsBy checked (readLinesSteps (checkedIn row) choices (bookIn book) (stepsHeld row) s current) rows
+      ≡ rowsBy checked (readLines choices (bookIn book) p s current) rows
+  rows-by-so Fine s rows = laid-so s rows
+  rows-by-so (Refused why) s rows = refl
+
   pub list-rows-so : (s : List ℕ) (rows : Rows)
-      → listRowsSteps (checkedIn row) choices book (stepsHeld row) s current rows ≡ listRows choices book p s current rows
+      → listRowsSteps (checkedIn row) choices (bookIn book) (stepsHeld row) s current rows ≡ listRows choices (bookIn book) p s current rows
   unfolding listRowsSteps listRows
   list-rows-so s rows =
-      ap (λ (rs : List Reading). rowsBy (listStepsCheck (checkedIn row) (choices .edition) s current rows) rs rows) (read-lines-so s)
-      ∙ ap (λ (checked : Checked). rowsBy checked (readLines choices book p s current) rows) (list-check-so s rows)
+      rows-by-so (listStepsCheck (checkedIn row) (choices .edition) s current rows) s rows
+      ∙ ap (λ (checked : Checked). rowsBy checked (readLines choices (bookIn book) p s current) rows)
+      (list-check-so choices p row stands (bookIn book) current s rows)

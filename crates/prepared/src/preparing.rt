@@ -8,7 +8,6 @@ ghost use Rattle.prepared.specs.Verdicts.{foundWith};
 ghost use Rattle.words.specs.Packing.{packed, heldBy};
 ghost use Rattle.words.specs.Rows.{tail, xorFrom};
 use crate::opening::TAG;
-use crate::packing::pack;
 use crate::verdicts::unmet_number;
 use meaning::Checked;
 use meaning::Edition;
@@ -18,6 +17,7 @@ use pattern::checks::pattern_check;
 use refusals::tell;
 use verdict::first_unmet;
 use words::checking::check_word;
+use words::packing::pack;
 
 fn put_head(row: &mut [u64], mark: u64, check: u64, found: u64)
     requires { ⌜ 259 ≤ length (now row) ⌝ }

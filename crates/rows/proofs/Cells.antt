@@ -69,7 +69,7 @@ refused-row why unit old h =
     ∙ refused-cell ds (3 + unitNumber unit) few (omega arith) (omega (arith, unit-below unit))
     ∙ sym (get-entry 15 (valueOf []) (pos 0) (unitNumber unit) (unit-below unit))
 
-row-of : (checked : Checked) (w : Walk) (unit : ParseUnit) (old : List ℤ) → length old ≡ 48
+pub row-of : (checked : Checked) (w : Walk) (unit : ParseUnit) (old : List ℤ) → length old ≡ 48
     → getD (laid (inRow 48 (readAnswer (readBy checked w)) .values) old) (3 + unitNumber unit) (pos 0) ≡ cell unit (readBy checked w)
 row-of Fine (walked taken gave) unit old h = taken-row taken gave unit old h
 row-of Fine (refusedAt Fine) unit old h = taken-row 0 [] unit old h

@@ -2,9 +2,11 @@
 -- count equals the direct engine's": with a pattern's own check and steps these are `write`, `output` and `read` of Whole.
 use mathlib.Core.List.{List, [], map}
 use Prim.Native.Nat.{ℕ}
-use lib.IntN.{ℤ, natAbs}
+use lib.IntN.{ℤ, pos, natAbs}
 use lib.ListN.{length}
 use Rattle.meaning.specs.Answers.{_else_, refuseUnless, fieldsCheck, roomCheck, currentYearCheck, textCheck}
+use Rattle.meaning.specs.Bytes.{when}
+use Rattle.meaning.specs.Days.{isShort}
 use Rattle.meaning.specs.Lists.{Rows, lines, hold, listedBy, rowsBy}
 use Rattle.meaning.specs.Names.{Book}
 use Rattle.meaning.specs.Whole.{wroteBy, outputBy, walk, readBy, lastOf, bits, howMany}
@@ -49,9 +51,25 @@ listStepsCheck ofPattern edition s current rows =
     currentYearCheck edition current else
     refuseUnless (hold (length (lines s)) rows) ShortRow
 
+-- "Lent rows of 32-bit numbers": a value that these do not hold is 0. No step of a pattern gives one, but a damaged row may.
+abbrev pub narrow : ℤ → ℤ
+narrow z = when (isShort z) z (pos 0)
+
+abbrev pub narrowed : Reading → Reading
+narrowed r =
+    record {
+      checked = r .checked;
+      taken = r .taken;
+      values = map narrow (r .values);
+      mask = r .mask;
+      units = r .units;
+      starts = r .starts;
+      ends = r .ends;
+    }
+
 unfoldable pub readLinesSteps : Checked → Choices → Book → List Step → List ℕ → ℤ → List Reading
 unfolding lines readSteps
-readLinesSteps ofPattern choices book ss s current = map (λ line. readSteps ofPattern choices book ss line current) (lines s)
+readLinesSteps ofPattern choices book ss s current = map (λ line. narrowed (readSteps ofPattern choices book ss line current)) (lines s)
 
 -- the answer, and the lent rows afterwards
 unfoldable pub readListSteps : Checked → Choices → List ℕ → ℤ → Rows → Listed
