@@ -70,15 +70,7 @@ fn read_lines(
     let mut i = 0;
     while at < text.len() {
         let end = line_end(text, at);
-        codes[i] = read_words(
-            choices,
-            book,
-            tail,
-            used,
-            &text[at..end],
-            year,
-            &mut answer,
-        );
+        codes[i] = read_words(choices, book, tail, used, &text[at..end], year, &mut answer);
         days[i] = cell_in(&answer, ParseUnit::DayOfMonth);
         months[i] = cell_in(&answer, ParseUnit::Month);
         years[i] = cell_in(&answer, ParseUnit::Year);
@@ -111,7 +103,16 @@ fn list_in_year(
     match or_else(of_year, of_rows) {
         Checked::Fine => {
             read_lines(
-                choices, book, tail, used, text, year, days, months, years, codes,
+                choices,
+                book,
+                tail,
+                used,
+                text,
+                year,
+                days,
+                months,
+                years,
+                codes,
             );
             give_count(n as u64, answer)
         }

@@ -6,19 +6,23 @@ use Prim.Native.Nat.{ℕ, _+_, _≤_, _<_}
 use native.Mathlib.Omega.{arith}
 use borrow.Author.Tests.{leb-true, ltb-true}
 use lib.Dec.{eqb, leb, ltb}
-use lib.ListN.{length}
+use lib.IntN.{ℤ}
+use lib.ListN.{length, drop, length-drop}
+use lib.Seq.{length-take-le}
 use Rattle.laws.proofs.Tests.{both-true, when-is}
-use Rattle.meaning.specs.Answers.{details}
+use Rattle.meaning.specs.Answers.{Answer, details}
 use Rattle.meaning.specs.Bytes.{when}
 use Rattle.meaning.specs.declared.Checked.{Checked}
 use Rattle.meaning.specs.declared.Checked.the-variants as checked
 use Rattle.meaning.specs.declared.Refusal.{Refusal}
 use Rattle.meaning.specs.declared.Refusal.the-variants.{PatternTooLong, PatternByte, LoneQuote}
 use Rattle.rows.specs.Fits.{WhyFits}
+use Rattle.rows.specs.Rows.{Given}
 use Rattle.words.specs.Pieces.{mostOf}
-use Rattle.words.specs.Rows.{isAccepted, isRefused, refusalOf, refusalIn, checkedIn, tag, mark, used, found, stepWords}
+use Rattle.words.specs.Rows.{isAccepted, isRefused, refusalOf, refusalIn, checkedIn, tag, mark, used, found, tail, stepWords}
 use Rattle.prepared.specs.Opened.{opened}
 use Rattle.prepared.specs.Stands.{isPrepared}
+use Rattle.prepared.specs.Uses.{ifPrepared}
 use Rattle.prepared.specs.declared.opening.Opened.{Opened}
 use Rattle.prepared.specs.declared.opening.Opened.the-variants.{Nothing, Refused, Words}
 
@@ -92,3 +96,14 @@ module _ (row : List ℕ) where
         uses = o .1;
         bytes = o .2;
       }
+
+-- the answer that is given then
+
+pub prepared-given : {t : Bool} {answer : Answer} {old new : List ℤ} {r : ℕ} → t ≡ true → Given answer old new r → Given (ifPrepared t answer) old new r
+prepared-given e g = rw e g
+
+pub unprepared-given : {t : Bool} (answer : Answer) (old : List ℤ) → t ≡ false → Given (ifPrepared t answer) old old 105
+unprepared-given answer old e = rw e (record { number = refl; row = refl })
+
+pub tail-length : (row : List ℕ) → 259 ≤ length row → length (tail row) ≡ 256
+tail-length row long = length-take-le 256 (drop 3 row) (omega (arith, length-drop 3 row))
