@@ -54,7 +54,7 @@ fn put_behind(w: u64, out: &mut [u8], at: usize) -> usize
     put_byte(b, out, at)
 }
 
-// Two digits.
+// Two digits, and the byte behind them.
 fn put_full(n: u32, w: u64, out: &mut [u8], at: usize) -> usize
     requires { ⌜ (n < 100) × (at + length (num 2 n ++ behindText w) ≤ length (now out)) ⌝ }
     ensures { λ r. ⌜ Laid (now (out .entry)) (now (out .exit)) at r (num 2 n ++ behindText w) ⌝ }
@@ -63,7 +63,7 @@ fn put_full(n: u32, w: u64, out: &mut [u8], at: usize) -> usize
     put_behind(w, out, next)
 }
 
-// One digit or two.
+// One digit or two, and the byte behind them.
 fn put_few(n: u32, w: u64, out: &mut [u8], at: usize) -> usize
     requires { ⌜ (n < 100) × (at + length (num 1 n ++ behindText w) ≤ length (now out)) ⌝ }
     ensures { λ r. ⌜ Laid (now (out .entry)) (now (out .exit)) at r (num 1 n ++ behindText w) ⌝ }

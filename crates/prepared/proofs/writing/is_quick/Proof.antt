@@ -1,7 +1,7 @@
 -- Each code by itself.
 use borrow.Author.Needs.{needs}
 use borrow.Author.Tests.{ne-eqb}
-use mathlib.Core.Path.{_≡_, sym, _∙_}
+use mathlib.Core.Path.{sym, _∙_}
 use Rattle.words.specs.Fields.{code, slot}
 use Rattle.prepared.proofs.writing.is_quick.Statement.{statement}
 use Rattle.prepared.proofs.writing.is_quick.Tie as tie

@@ -4,8 +4,6 @@ use mir.Syntax.{w32}
 use mir.ValLaws.{toZ-ofZ}
 use Rattle.prepared.proofs.writing.put_year.Statement.{statement}
 use Rattle.prepared.proofs.writing.put_year.Tie as tie
-use Rattle.prepared.proofs.writing.put_year.Reads as reads
-use Rattle.prepared.proofs.writing.put_year.Lts as lts
 
 zero-padded-i-requires : tie.Need-zero-padded-i-requires
 zero-padded-i-requires c κs = search needs
