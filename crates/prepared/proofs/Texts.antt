@@ -17,13 +17,13 @@ use Rattle.laws.proofs.Tests.{by-test, both-true, true-is-not-false}
 use Rattle.laws.proofs.Texts.{texts-join}
 use Rattle.meaning.specs.Bytes.{when, digits, num}
 use Rattle.meaning.specs.Names.{Book}
-use Rattle.meaning.specs.Writing.{isNegative, quantityOf, signedText, ruleText, stepText, texts}
+use Rattle.meaning.specs.Writing.{isNegative, quantityOf, nameText, signedText, ruleText, stepText, texts}
 use Rattle.meaning.specs.declared.Fields.{Fields}
 use Rattle.meaning.specs.declared.Quantity.the-variants.{Month, Day, Hour0To23, Minute, Second}
 use Rattle.prepared.specs.Written.{behindText, twoMore, heldText, plainYear, numbersOf, Small, isQuick, quickText, otherText}
 use Rattle.rules.specs.ShortRules.{shortQuantity}
-use Rattle.words.specs.Coding.{ruleIn}
-use Rattle.words.specs.Fields.{code, slot, count, isLost, lastByte}
+use Rattle.words.specs.Coding.{listIn, ruleOfKind, ruleIn}
+use Rattle.words.specs.Fields.{code, slot, count, isLost, lastByte, kind, item}
 use Rattle.words.specs.Pieces.{pieceStep, behind, shortIn, piecesOfCode, piecesIn, stepsIn, stepsOf}
 
 module _ (book : Book) (tail : List ℕ) (f : Fields) where
@@ -60,6 +60,10 @@ module _ (book : Book) (tail : List ℕ) (f : Fields) where
   pub rule-word-text : (w : ℕ) → code w ≡ 22 → texts book f (stepsIn tail w) ≡ ruleText book (ruleIn w) f ++ behindText w
   unfolding texts stepText stepsIn pieceStep piecesIn piecesOfCode
   rule-word-text w e = rw (e, behind-text w)
+
+  pub name-word-text : (w : ℕ) → code w ≡ 22 → eqb (kind w) 4 ≡ true → texts book f (stepsIn tail w) ≡ nameText book (listIn (item w)) f ++ behindText w
+  unfolding ruleText ruleOfKind
+  name-word-text w e k = rw (rule-word-text w e, eqb-true (kind w) 4 k)
 
   pub long-year-text : (w : ℕ) → code w ≡ 29 → texts book f (stepsIn tail w) ≡ signedText (count w) (f .year)
   unfolding texts stepText stepsIn pieceStep piecesIn piecesOfCode

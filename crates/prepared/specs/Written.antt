@@ -8,10 +8,11 @@ use lib.IntN.{natAbs}
 use lib.ListN.{length, getD, take, replicate}
 use Rattle.meaning.specs.Bytes.{when, both, digits, num}
 use Rattle.meaning.specs.OpenedBooks.{bookIn}
-use Rattle.meaning.specs.Writing.{isNegative, quantityOf, signedText, texts}
+use Rattle.meaning.specs.Writing.{isNegative, quantityOf, nameText, signedText, texts}
 use Rattle.meaning.specs.declared.Fields.{Fields}
 use Rattle.meaning.specs.declared.Quantity.the-variants.{Month, Day, Hour0To23, Minute, Second}
-use Rattle.words.specs.Fields.{code, slot, count, from, isLost, firstByte, secondByte, lastByte}
+use Rattle.words.specs.Coding.{listIn}
+use Rattle.words.specs.Fields.{code, slot, count, from, isLost, firstByte, secondByte, lastByte, item}
 use Rattle.words.specs.Pieces.{heldBytes, stepsIn, stepsOf}
 
 -- with the names of a lent book, and the row's words
@@ -23,6 +24,10 @@ wordsText book tail f ws = texts (bookIn book) f (stepsOf tail ws)
 
 abbrev pub behindText : ℕ → List ℕ
 behindText w = when (eqb (lastByte w) 0) [] (lastByte w ∷ [])
+
+-- a name that is matched, and the byte behind it
+abbrev pub matchedText : List ℕ → Fields → ℕ → List ℕ
+matchedText book f w = nameText (bookIn book) (listIn (item w)) f ++ behindText w
 
 -- behind the first of three numbers
 abbrev pub twoMore : List ℕ → List ℕ → ℕ → List ℕ

@@ -10,7 +10,7 @@ ghost use Rattle.meaning.specs.Bytes.{num};
 ghost use Rattle.meaning.specs.OpenedBooks.{bookIn};
 ghost use Rattle.meaning.specs.Writing.{signedText};
 ghost use Rattle.meaning.specs.declared.Checked.the-variants.{Fine};
-ghost use Rattle.prepared.specs.Written.{wordText, wordsText, behindText, twoMore, plainYear, numbersOf, Small, isQuick, quickText, otherText};
+ghost use Rattle.prepared.specs.Written.{wordText, wordsText, behindText, matchedText, twoMore, plainYear, numbersOf, Small, isQuick, quickText, otherText};
 ghost use Rattle.words.specs.Fields as field;
 ghost use Rattle.words.specs.Pieces.{heldBytes, mostOf, stepsOf};
 ghost use Rattle.words.specs.Prepared.{writeSteps, outputSteps};
@@ -26,6 +26,7 @@ use fields::signed::is_negative;
 use fields::signed::size;
 use fields::values::second_of_day;
 use format::rule::format_rule;
+use format::symbols::put_name_of;
 use format::years::zero_padded_i;
 use meaning::Checked;
 use meaning::Fields;
@@ -33,6 +34,8 @@ use meaning::Refusal;
 use meaning::Wrote;
 use meaning::unit_sizes::SECS_PER_HOUR;
 use meaning::unit_sizes::SECS_PER_MINUTE;
+use words::coding::is_matched_name;
+use words::coding::list;
 use words::coding::rule_in;
 use words::fields::code;
 use words::fields::count;
@@ -155,6 +158,16 @@ fn put_quick(w: u64, numbers: &[u32; 11], out: &mut [u8], at: usize) -> usize
     }
 }
 
+// A name that is matched: its list is taken from the word, and no rule is made of it.
+fn put_name(book: &[u8], w: u64, f: Fields, out: &mut [u8], at: usize) -> usize
+    requires { ⌜ fieldsCheck f ≡ Fine ⌝ }
+    requires { ⌜ at + length (matchedText (now book) f w) ≤ length (now out) ⌝ }
+    ensures { λ r. ⌜ Laid (now (out .entry)) (now (out .exit)) at r (matchedText (now (book .entry)) f w) ⌝ }
+{
+    let next = put_name_of(book, list(w), f, out, at);
+    put_behind(w, out, next)
+}
+
 // What is rarest.
 fn put_other(tail: &[u64], w: u64, f: Fields, out: &mut [u8], at: usize) -> usize
     requires { ⌜ fieldsCheck f ≡ Fine ⌝ }
@@ -186,6 +199,9 @@ fn put_slow(book: &[u8], tail: &[u64], w: u64, f: Fields, out: &mut [u8], at: us
 {
     match code(w) {
         22 => {
+            if is_matched_name(w) {
+                return put_name(book, w, f, out, at);
+            }
             let next = format_rule(book, rule_in(w), f, out, at);
             put_behind(w, out, next)
         }
