@@ -1,15 +1,16 @@
 // Writing by words: each lays the text of its steps behind that of the words before it.
+ghost use mathlib.Core.Bool.{true, false};
 ghost use mathlib.Core.List.{_++_};
 ghost use mathlib.Core.Path.{_≡_};
 ghost use Prim.Native.Nat.{_+_, _-_, _≤_, _<_};
-ghost use lib.ListN.{length, take};
+ghost use lib.ListN.{length, take, getD};
 ghost use Rattle.laws.specs.Laid.{Laid};
 ghost use Rattle.meaning.specs.Answers.{fieldsCheck};
 ghost use Rattle.meaning.specs.Bytes.{num};
 ghost use Rattle.meaning.specs.OpenedBooks.{bookIn};
 ghost use Rattle.meaning.specs.Writing.{signedText};
 ghost use Rattle.meaning.specs.declared.Checked.the-variants.{Fine};
-ghost use Rattle.prepared.specs.Written.{wordText, wordsText, behindText, twoMore, plainYear, numbersOf};
+ghost use Rattle.prepared.specs.Written.{wordText, wordsText, behindText, matchedText, twoMore, plainYear, numbersOf, Small, isQuick, quickText, otherText};
 ghost use Rattle.words.specs.Fields as field;
 ghost use Rattle.words.specs.Pieces.{heldBytes, mostOf, stepsOf};
 ghost use Rattle.words.specs.Prepared.{writeSteps, outputSteps};
@@ -25,6 +26,7 @@ use fields::signed::is_negative;
 use fields::signed::size;
 use fields::values::second_of_day;
 use format::rule::format_rule;
+use format::symbols::put_name_of;
 use format::years::zero_padded_i;
 use meaning::Checked;
 use meaning::Fields;
@@ -32,6 +34,8 @@ use meaning::Refusal;
 use meaning::Wrote;
 use meaning::unit_sizes::SECS_PER_HOUR;
 use meaning::unit_sizes::SECS_PER_MINUTE;
+use words::coding::is_matched_name;
+use words::coding::list;
 use words::coding::rule_in;
 use words::fields::code;
 use words::fields::count;
@@ -53,7 +57,7 @@ fn put_behind(w: u64, out: &mut [u8], at: usize) -> usize
     put_byte(b, out, at)
 }
 
-// Two digits.
+// Two digits, and the byte behind them.
 fn put_full(n: u32, w: u64, out: &mut [u8], at: usize) -> usize
     requires { ⌜ (n < 100) × (at + length (num 2 n ++ behindText w) ≤ length (now out)) ⌝ }
     ensures { λ r. ⌜ Laid (now (out .entry)) (now (out .exit)) at r (num 2 n ++ behindText w) ⌝ }
@@ -62,26 +66,13 @@ fn put_full(n: u32, w: u64, out: &mut [u8], at: usize) -> usize
     put_behind(w, out, next)
 }
 
-// One digit or two.
+// One digit or two, and the byte behind them.
 fn put_few(n: u32, w: u64, out: &mut [u8], at: usize) -> usize
     requires { ⌜ (n < 100) × (at + length (num 1 n ++ behindText w) ≤ length (now out)) ⌝ }
     ensures { λ r. ⌜ Laid (now (out .entry)) (now (out .exit)) at r (num 1 n ++ behindText w) ⌝ }
 {
     let next = put_short(n, 1, out, at);
     put_behind(w, out, next)
-}
-
-// Four digits at once, where these are the year.
-fn put_year(n: u32, digits: usize, f: Fields, out: &mut [u8], at: usize) -> usize
-    requires { ⌜ (n ≡ plainYear f) × (at + length (signedText digits (f .year)) ≤ length (now out)) ⌝ }
-    ensures { λ r. ⌜ Laid (now (out .entry)) (now (out .exit)) at r (signedText digits (f .year)) ⌝ }
-{
-    if digits == 4 {
-        if n < 10000 {
-            return put_four(n, out, at);
-        }
-    }
-    zero_padded_i(f.year, digits, out, at)
 }
 
 // The last two of three numbers, each behind its byte.
@@ -93,6 +84,14 @@ fn put_two_more(b: u32, c: u32, w: u64, out: &mut [u8], at: usize) -> usize
     let second = put_two(b, out, first);
     let third = put_byte(second_byte(w), out, second);
     put_full(c, w, out, third)
+}
+
+// A year of any size.
+fn put_year(f: Fields, digits: usize, out: &mut [u8], at: usize) -> usize
+    requires { ⌜ at + length (signedText digits (f .year)) ≤ length (now out) ⌝ }
+    ensures { λ r. ⌜ Laid (now (out .entry)) (now (out .exit)) at r (signedText digits (f .year)) ⌝ }
+{
+    zero_padded_i(f.year, digits, out, at)
 }
 
 // Bytes that the row holds from a place on.
@@ -109,39 +108,33 @@ fn put_held(tail: &[u64], from: usize, n: usize, out: &mut [u8], at: usize) -> u
     at + j
 }
 
-// What is rarer. Called at two places, it stays a call of its own, so that nothing of it is worked out where it is not asked for.
-fn put_other(book: &[u8], tail: &[u64], w: u64, f: Fields, out: &mut [u8], at: usize) -> usize
-    requires { ⌜ fieldsCheck f ≡ Fine ⌝ }
-    requires { ⌜ (field.code w ≡ 1 → ⊥) × (field.code w ≡ 3 → ⊥) × (field.code w ≡ 4 → ⊥) × (field.code w ≡ 9 → ⊥) × (field.code w ≡ 10 → ⊥) × (field.code w ≡ 15 → ⊥) ⌝ }
-    requires { ⌜ at + length (wordText (now book) (now tail) f w) ≤ length (now out) ⌝ }
-    ensures { λ r. ⌜ Laid (now (out .entry)) (now (out .exit)) at r (wordText (now (book .entry)) (now (tail .entry)) f w) ⌝ }
+// Whether a word is one of those that patterns have most, with a year of four digits where it writes one.
+fn is_quick(w: u64, year: u32) -> bool
+    ensures { λ r. ⌜ r ≡ isQuick year w ⌝ }
 {
     match code(w) {
-        22 => {
-            let next = format_rule(book, rule_in(w), f, out, at);
-            put_behind(w, out, next)
+        1 => true,
+        3 => true,
+        4 => true,
+        9 => {
+            if slot(w) == 4 {
+                return year < 10000;
+            }
+            false
         }
-        29 => zero_padded_i(f.year, count(w), out, at),
-        30 => put_times(last_byte(w), count(w), out, at),
-        31 => put_held(tail, from(w), held_length(tail, w), out, at),
-        _ => at,
+        10 => true,
+        15 => year < 10000,
+        _ => false,
     }
 }
 
-// A number's place is taken from the word, also where the code alone says which it is: so no digit is worked out but those that are written.
-fn put_word(
-    book: &[u8],
-    tail: &[u64],
-    w: u64,
-    numbers: &[u32; 11],
-    f: Fields,
-    out: &mut [u8],
-    at: usize,
-) -> usize
-    requires { ⌜ fieldsCheck f ≡ Fine ⌝ }
-    requires { ⌜ now numbers ≡ numbersOf f ⌝ }
-    requires { ⌜ at + length (wordText (now book) (now tail) f w) ≤ length (now out) ⌝ }
-    ensures { λ r. ⌜ Laid (now (out .entry)) (now (out .exit)) at r (wordText (now (book .entry)) (now (tail .entry)) f w) ⌝ }
+// A quick word. The place of each number is taken from the word, also where the code alone says which it is: so no digit is worked out but those
+// that are written.
+fn put_quick(w: u64, numbers: &[u32; 11], out: &mut [u8], at: usize) -> usize
+    requires { ⌜ Small (now numbers) ⌝ }
+    requires { ⌜ isQuick (getD (now numbers) 10 0) w ≡ true ⌝ }
+    requires { ⌜ at + length (quickText (now numbers) w) ≤ length (now out) ⌝ }
+    ensures { λ r. ⌜ Laid (now (out .entry)) (now (out .exit)) at r (quickText (now (numbers .entry)) w) ⌝ }
 {
     let short = slot(w);
     let part = (w % 8) as usize;
@@ -151,19 +144,69 @@ fn put_word(
         3 => put_full(numbers[short], w, out, at),
         4 => put_few(numbers[short], w, out, at),
         9 => {
-            let next = put_year(numbers[year], short, f, out, at);
+            let next = put_four(numbers[year], out, at);
             put_behind(w, out, next)
         }
         10 => {
             let next = put_two(numbers[part], out, at);
             put_two_more(numbers[part + 1], numbers[part + 2], w, out, next)
         }
-        15 => {
-            let next = put_year(numbers[year], 4, f, out, at);
+        _ => {
+            let next = put_four(numbers[year], out, at);
             put_two_more(numbers[part + 1], numbers[part + 2], w, out, next)
         }
-        22 => put_other(book, tail, w, f, out, at),
-        _ => put_other(book, tail, w, f, out, at),
+    }
+}
+
+// A name that is matched: its list is taken from the word, and no rule is made of it.
+fn put_name(book: &[u8], w: u64, f: Fields, out: &mut [u8], at: usize) -> usize
+    requires { ⌜ fieldsCheck f ≡ Fine ⌝ }
+    requires { ⌜ at + length (matchedText (now book) f w) ≤ length (now out) ⌝ }
+    ensures { λ r. ⌜ Laid (now (out .entry)) (now (out .exit)) at r (matchedText (now (book .entry)) f w) ⌝ }
+{
+    let next = put_name_of(book, list(w), f, out, at);
+    put_behind(w, out, next)
+}
+
+// What is rarest.
+fn put_other(tail: &[u64], w: u64, f: Fields, out: &mut [u8], at: usize) -> usize
+    requires { ⌜ fieldsCheck f ≡ Fine ⌝ }
+    requires { ⌜ at + length (otherText (now tail) f w) ≤ length (now out) ⌝ }
+    ensures { λ r. ⌜ Laid (now (out .entry)) (now (out .exit)) at r (otherText (now (tail .entry)) f w) ⌝ }
+{
+    match code(w) {
+        9 => {
+            let next = put_year(f, slot(w), out, at);
+            put_behind(w, out, next)
+        }
+        15 => {
+            let next = put_year(f, 4, out, at);
+            put_two_more(f.month, f.day, w, out, next)
+        }
+        29 => put_year(f, count(w), out, at),
+        30 => put_times(last_byte(w), count(w), out, at),
+        31 => put_held(tail, from(w), held_length(tail, w), out, at),
+        _ => at,
+    }
+}
+
+// Any word that is not quick. The rarest are called at two places: so they stay a call, and nothing of them is worked out where it is not asked for.
+fn put_slow(book: &[u8], tail: &[u64], w: u64, f: Fields, out: &mut [u8], at: usize) -> usize
+    requires { ⌜ fieldsCheck f ≡ Fine ⌝ }
+    requires { ⌜ isQuick (plainYear f) w ≡ false ⌝ }
+    requires { ⌜ at + length (wordText (now book) (now tail) f w) ≤ length (now out) ⌝ }
+    ensures { λ r. ⌜ Laid (now (out .entry)) (now (out .exit)) at r (wordText (now (book .entry)) (now (tail .entry)) f w) ⌝ }
+{
+    match code(w) {
+        22 => {
+            if is_matched_name(w) {
+                return put_name(book, w, f, out, at);
+            }
+            let next = format_rule(book, rule_in(w), f, out, at);
+            put_behind(w, out, next)
+        }
+        31 => put_other(tail, w, f, out, at),
+        _ => put_other(tail, w, f, out, at),
     }
 }
 
@@ -197,10 +240,16 @@ fn put_words(book: &[u8], tail: &[u64], used: usize, f: Fields, out: &mut [u8]) 
     ensures { λ r. ⌜ Laid (now (out .entry)) (now (out .exit)) 0 r (wordsText (now (book .entry)) (now (tail .entry)) f (take used (now (tail .entry)))) ⌝ }
 {
     let numbers = numbers_of(f);
+    let year = numbers[10];
     let mut at = 0;
     let mut i = 0;
     while i < used {
-        at = put_word(book, tail, tail[i], &numbers, f, out, at);
+        let w = tail[i];
+        if is_quick(w, year) {
+            at = put_quick(w, &numbers, out, at);
+        } else {
+            at = put_slow(book, tail, w, f, out, at);
+        }
         i += 1;
     }
     at

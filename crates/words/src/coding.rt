@@ -1,5 +1,6 @@
 // The rule that a word holds.
 ghost use mathlib.Core.Path.{_≡_};
+ghost use lib.Dec.{eqb};
 ghost use Rattle.words.specs.Coding as coding;
 ghost use Rattle.words.specs.Fields as field;
 use meaning::Group;
@@ -111,7 +112,7 @@ fn quantity(w: u64) -> Quantity
     quantity_in(w / 512 % 32, least(w))
 }
 
-fn list(w: u64) -> NameList
+pub fn list(w: u64) -> NameList
     ensures { λ r. ⌜ r ≡ coding.listIn (field.item w) ⌝ }
 {
     list_in(w / 512 % 32)
@@ -126,6 +127,13 @@ fn zone(w: u64) -> Rule
         minutes: group_in(w / 68719476736 % 4),
         seconds: group_in(w / 274877906944 % 4),
     }
+}
+
+// Whether the rule is that of a name that is matched.
+pub fn is_matched_name(w: u64) -> bool
+    ensures { λ r. ⌜ r ≡ eqb (field.kind w) 4 ⌝ }
+{
+    w / 32 % 16 == 4
 }
 
 pub fn rule_in(w: u64) -> Rule
