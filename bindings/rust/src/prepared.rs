@@ -275,7 +275,8 @@ impl Prepared {
             wrote => wrote,
         }?;
         out.truncate(length);
-        Ok(String::from_utf8(out).expect("a written text is ASCII"))
+        // A row that no one prepared may write any byte.
+        Ok(String::from_utf8(out).unwrap_or_else(|wrong| String::from_utf8_lossy(wrong.as_bytes()).into_owned()))
     }
 
     fn written(&self, book: &[u8], fields: &Fields, out: &mut [u8]) -> Result<usize, Refusal> {
