@@ -22,6 +22,7 @@ mod ours;
 mod peers;
 mod plot;
 mod prepared;
+mod prepared_stack;
 mod preparing;
 mod records;
 mod rows;

@@ -122,9 +122,19 @@ fn group_of_bars(line: &Line, left: f64, group: f64, scale: &Scale) -> String {
             scale.foot - y,
             COLOURS[number]
         );
-        svg += &words(x + wide / 2.0 - 1.0, y - 4.0, "middle", &grouped(timing.nanos));
+        svg += &over_bar(x + wide / 2.0 - 1.0, y - 4.0, wide, &grouped(timing.nanos));
     }
     svg
+}
+
+/// A value over its bar, read upwards where the bar is narrow.
+fn over_bar(x: f64, y: f64, wide: f64, value: &str) -> String {
+    const LEAST: f64 = 30.0;
+    if LEAST <= wide {
+        return words(x, y, "middle", value);
+    }
+    let (x, upright) = (x + 4.0, words(x + 4.0, y, "start", value));
+    format!("<g transform=\"rotate(-90 {x:.1} {y:.1})\">{upright}</g>\n")
 }
 
 fn curves(along: &str, by_tens: bool, costs: &[(usize, Vec<f64>)], top: f64) -> String {
@@ -167,7 +177,7 @@ fn heading(title: &str, top: f64) -> String {
 fn legend(names: &[&str], top: f64) -> String {
     let mut svg = String::new();
     for (number, name) in names.iter().enumerate() {
-        let x = WIDTH - RIGHT - 80.0 * (names.len() - number) as f64;
+        let x = WIDTH - RIGHT - 92.0 * (names.len() - number) as f64;
         svg += &format!(
             "<rect x=\"{x}\" y=\"{}\" width=\"12\" height=\"12\" fill=\"{}\"/>\n",
             top - 35.0,

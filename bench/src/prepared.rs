@@ -9,12 +9,14 @@ use sheet::raw::{
     PREPARE_ANSWER, READ_ANSWER, WRITE_ANSWER,
 };
 use std::hint::black_box;
-use std::ptr::null;
+
+/// In the place of an opened book: the English names.
+const NO_BOOK: &[u8] = &[];
 
 pub type Row = [u64; PREPARED_ROW];
 
 #[inline(always)]
-fn prepare_into(pattern: &[u8], row: &mut Row, answer: &mut [i64; PREPARE_ANSWER]) -> u32 {
+pub fn prepare_into(pattern: &[u8], row: &mut Row, answer: &mut [i64; PREPARE_ANSWER]) -> u32 {
     // SAFETY: each pointer goes with the length of the slice that it comes from.
     unsafe {
         sheet_prepare(
@@ -30,12 +32,12 @@ fn prepare_into(pattern: &[u8], row: &mut Row, answer: &mut [i64; PREPARE_ANSWER
 }
 
 #[inline(always)]
-fn write_into(row: &Row, f: &Fields, out: &mut [u8; ROOM], answer: &mut [i64; WRITE_ANSWER]) -> u32 {
-    // SAFETY: as above, and a book of no bytes may be null.
+pub fn write_into(book: &[u8], row: &Row, f: &Fields, out: &mut [u8], answer: &mut [i64; WRITE_ANSWER]) -> u32 {
+    // SAFETY: as above.
     unsafe {
         sheet_prepared_write(
-            null(),
-            0,
+            book.as_ptr(),
+            book.len(),
             row.as_ptr(),
             row.len(),
             f.year,
@@ -55,13 +57,13 @@ fn write_into(row: &Row, f: &Fields, out: &mut [u8; ROOM], answer: &mut [i64; WR
 }
 
 #[inline(always)]
-fn read_into(row: &Row, text: &[u8], answer: &mut [i64; READ_ANSWER]) -> u32 {
+pub fn read_into(book: &[u8], row: &Row, text: &[u8], answer: &mut [i64; READ_ANSWER]) -> u32 {
     // SAFETY: as above.
     unsafe {
         sheet_prepared_read(
             0,
-            null(),
-            0,
+            book.as_ptr(),
+            book.len(),
             row.as_ptr(),
             row.len(),
             text.as_ptr(),
@@ -74,7 +76,7 @@ fn read_into(row: &Row, text: &[u8], answer: &mut [i64; READ_ANSWER]) -> u32 {
 }
 
 #[inline(always)]
-fn check_into(row: &Row, answer: &mut [i64; CHECK_ANSWER]) -> u32 {
+pub fn check_into(row: &Row, answer: &mut [i64; CHECK_ANSWER]) -> u32 {
     // SAFETY: as above.
     unsafe {
         sheet_prepared_check(
@@ -143,7 +145,7 @@ impl<'a> Prepared<'a> {
     /// What it reads of the text of a record.
     pub fn reading(&self, record: usize) -> Result<Reading, u32> {
         let mut answer = [0; READ_ANSWER];
-        let number = read_into(&self.row, &self.texts[record], &mut answer);
+        let number = read_into(NO_BOOK, &self.row, &self.texts[record], &mut answer);
         accepted(number, || reading_of(&answer))
     }
 
@@ -156,7 +158,13 @@ impl<'a> Prepared<'a> {
 impl Contender for Prepared<'_> {
     fn text(&mut self, record: usize) -> Option<Vec<u8>> {
         let mut answer = [0; WRITE_ANSWER];
-        let number = write_into(&self.row, &self.records[record].fields, &mut self.out, &mut answer);
+        let number = write_into(
+            NO_BOOK,
+            &self.row,
+            &self.records[record].fields,
+            &mut *self.out,
+            &mut answer,
+        );
         accepted(number, || self.out[..answer[0] as usize].to_vec()).ok()
     }
 
@@ -165,6 +173,7 @@ impl Contender for Prepared<'_> {
         for call in 0..calls {
             let fields = &self.records[call % RECORDS].fields;
             black_box(write_into(
+                NO_BOOK,
                 black_box(&*self.row),
                 black_box(fields),
                 black_box(&mut *self.out),
@@ -178,6 +187,7 @@ impl Contender for Prepared<'_> {
         for call in 0..calls {
             let text = &self.texts[call % RECORDS];
             black_box(read_into(
+                NO_BOOK,
                 black_box(&*self.row),
                 black_box(text),
                 black_box(&mut answer),

@@ -25,7 +25,7 @@ const WANTED: [(&str, f64); 6] = [
     ("ICU", 1.0),
     ("chrono", 1.0),
     ("time", 1.0),
-    ("C, all", 1.0 / 3.0),
+    ("C, all", 0.33),
 ];
 
 /// So many records are written or read by one pattern, which is prepared for them.
