@@ -170,7 +170,7 @@ fn curves(along: &str, by_tens: bool, costs: &[(usize, Vec<f64>)], top: f64) -> 
 fn heading(title: &str, top: f64) -> String {
     format!(
         "<text x=\"{LEFT}\" y=\"{}\" font-size=\"16\">{title}</text>\n",
-        top - 24.0
+        top - 38.0
     )
 }
 
@@ -180,10 +180,10 @@ fn legend(names: &[&str], top: f64) -> String {
         let x = WIDTH - RIGHT - 92.0 * (names.len() - number) as f64;
         svg += &format!(
             "<rect x=\"{x}\" y=\"{}\" width=\"12\" height=\"12\" fill=\"{}\"/>\n",
-            top - 35.0,
+            top - 49.0,
             COLOURS[number]
         );
-        svg += &words(x + 18.0, top - 24.0, "start", name);
+        svg += &words(x + 18.0, top - 38.0, "start", name);
     }
     svg
 }
