@@ -338,7 +338,8 @@ uint32_t sheet_prepare(uint32_t choices, const uint8_t *pattern, size_t pattern_
  * that were prepared. An empty `book` stands for the English names.
  * For a `book` of any other size than 0 and SHEET_BOOK_ROW bytes SHEET_NO_BOOK is returned, then SHEET_ROW_TOO_SMALL for `answer`,
  * then SHEET_NOT_PREPARED for a `row` that is too short, that does not begin as a prepared one, or whose check word does not fit its
- * other entries. A row that has a right one though no one prepared it is answered by what its entries say, and as safely.
+ * other entries. A row that has a right one though no one prepared it is answered by what its entries say, and as safely; it may write
+ * any bytes, and more than SHEET_LONGEST_TEXT of them.
  * Answers: as sheet_write.
  * Refuses: as sheet_write. */
 uint32_t sheet_prepared_write(const uint8_t *book, size_t book_len, const uint64_t *row, size_t row_len, int32_t year,

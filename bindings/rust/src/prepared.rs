@@ -95,7 +95,7 @@ impl Prepared {
 
     /// Takes a row that [`Prepared::row`] gave, or C, for the prepared pattern that it is. It is none where it does not begin as one, or
     /// where its check word does not fit its other entries. A row whose check word is right though no one prepared it is answered by
-    /// what its entries say, and as safely.
+    /// what its entries say, and as safely; of the bytes that it writes those that are no text are replaced in a `String`.
     ///
     /// ```
     /// use sheet::{NotPrepared, Prepared};
