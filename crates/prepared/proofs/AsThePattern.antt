@@ -26,7 +26,7 @@ use Rattle.meaning.specs.declared.Refusal.{Refusal}
 use Rattle.trust.proofs.Turns.{shown-failing}
 use Rattle.trust.proofs.Verdicts.{verdict-says}
 use Rattle.trust.specs.Check.{firstFailing, shown, verdictBy, verdictOf}
-use Rattle.words.specs.Prepared.{writeStepsCheck, writeSteps, outputSteps, readSteps, listStepsCheck, readLinesSteps, readListSteps, listRowsSteps, narrowed}
+use Rattle.meaning.specs.Prepared.{writeStepsCheck, writeSteps, outputSteps, readSteps, listStepsCheck, readLinesSteps, readListSteps, listRowsSteps, narrowed}
 use Rattle.words.specs.Rows.{checkedIn, stepsHeld}
 use Rattle.prepared.proofs.NarrowCells.{narrow-same, cell-narrowed, code-narrowed}
 use Rattle.prepared.specs.PreparedRows.{unmetOf}

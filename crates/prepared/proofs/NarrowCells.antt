@@ -23,7 +23,7 @@ use Rattle.meaning.specs.declared.ParseUnit.{ParseUnit}
 use Rattle.meaning.specs.declared.Reading.{Reading}
 use Rattle.rows.proofs.Cells.{row-of}
 use Rattle.rows.specs.Rows.{inRow, Given}
-use Rattle.words.specs.Prepared.{readSteps, narrow, narrowed}
+use Rattle.meaning.specs.Prepared.{readSteps, narrow, narrowed}
 
 pub narrow-same : (z : ℤ) → Short z → narrow z ≡ z
 narrow-same z h = rw (is-short z h)

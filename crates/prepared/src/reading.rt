@@ -11,7 +11,7 @@ ghost use Rattle.meaning.specs.Whole as whole;
 ghost use Rattle.prepared.specs.Quick.{Whole};
 ghost use Rattle.rows.specs.Rows.{inRow, Given};
 ghost use Rattle.words.specs.Pieces.{stepsOf};
-ghost use Rattle.words.specs.Prepared.{readSteps};
+ghost use Rattle.meaning.specs.Prepared.{readSteps};
 use crate::exact::read_pieces;
 use crate::quick::quick_words;
 use fields::signed::size;

@@ -24,7 +24,7 @@ use Rattle.rows.proofs.entries.Fits.{else-fits, unless-fits}
 use Rattle.rows.specs.Fits.{CheckedFits}
 use mir.Syntax.{w32}
 use mir.Val.{SFits}
-use Rattle.words.specs.Prepared.{listStepsCheck, readSteps, readLinesSteps, narrowed}
+use Rattle.meaning.specs.Prepared.{listStepsCheck, readSteps, readLinesSteps, narrowed}
 
 empty-fine : patternCheck [] ≡ Fine
 unfolding patternCheck bytesCheck byteCheck endsInLoneQuote contents elements outside

@@ -7,7 +7,7 @@ use mir.ValLaws.{toZ-ofZ}
 use Rattle.meaning.specs.Lists.{rowsOf}
 use Rattle.meaning.specs.OpenedBooks.{bookIn}
 use Rattle.prepared.proofs.listing.ListSteps.{steps-checked, steps-room, steps-check-fits}
-use Rattle.words.specs.Prepared.{readListSteps, listRowsSteps}
+use Rattle.meaning.specs.Prepared.{readListSteps, listRowsSteps}
 use borrow.Author.Needs.{needs}
 use Rattle.prepared.proofs.listing.list_in_year.Statement.{statement}
 use Rattle.prepared.proofs.listing.list_in_year.Tie as tie

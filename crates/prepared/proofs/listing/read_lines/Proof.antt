@@ -16,7 +16,7 @@ use Rattle.meaning.specs.declared.Checked.the-variants.{Fine}
 use Rattle.meaning.specs.declared.ParseUnit.{ParseUnit}
 use Rattle.meaning.specs.declared.ParseUnit.the-variants.{Year, Month, DayOfMonth}
 use Rattle.words.specs.Pieces.{stepsOf}
-use Rattle.words.specs.Prepared.{readSteps, narrowed}
+use Rattle.meaning.specs.Prepared.{readSteps, narrowed}
 use Rattle.prepared.proofs.NarrowCells.{steps-cell, steps-code}
 use Rattle.prepared.proofs.listing.ListSteps.{steps-room, steps-year, all-steps}
 use Rattle.prepared.proofs.listing.read_lines.Statement.{statement}

@@ -5,7 +5,7 @@ use denote.Ref.{now}
 use mir.Syntax.{w32}
 use mir.ValLaws.{toZ-ofZ}
 use Rattle.prepared.proofs.opening.OpenedRows.{opened-nothing, opened-refusal, opened-words, prepared-given, unprepared-given, tail-length}
-use Rattle.words.specs.Prepared.{listStepsCheck, readListSteps, listRowsSteps}
+use Rattle.meaning.specs.Prepared.{listStepsCheck, readListSteps, listRowsSteps}
 use borrow.Author.Needs.{needs}
 use Rattle.prepared.proofs.listing.read_list.Statement.{statement}
 use Rattle.prepared.proofs.listing.read_list.Tie as tie
