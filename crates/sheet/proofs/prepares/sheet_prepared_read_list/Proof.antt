@@ -50,7 +50,7 @@ returns-4 c =
     let s = c .before .before .before .before .before .before .before .before .before .before .before .before .before .before .before .before .before .before .before .before .before in
     let a = s .args in
     let reads = rw (toZ-ofZ w32 (a .year) (s .fits .year), c .before .before .before .before .before .before .before .before .before .before .before .before .choices-of .ensures) at (c .before .before .before .before .before .before .read-list .ensures) in
-    rw (le-leb (a .choices) 7 (omega arith), sym (c .before .before .before .before .before .before .before .before .before .before .before .before .before .before .before .is-book .ensures) ∙ not-false (c .before .before .before .before .before .before .before .before .before .before .before .before .before .before .before .is-book .result) (c .before .before .before .before .before .before .before .before .before .before .before .before .before .before .if2 .left), le-leb 2 (length (now (a .answer))) (omega (arith, c .before .before .before .before .before .before .before .before .before .before .before .before .before .if3 .left))) reads
+    rw (le-leb (a .choices) 7 (omega (arith, c .before .before .before .before .before .before .before .before .before .before .before .before .before .before .before .before .if1 .left)), sym (c .before .before .before .before .before .before .before .before .before .before .before .before .before .before .before .is-book .ensures) ∙ not-false (c .before .before .before .before .before .before .before .before .before .before .before .before .before .before .before .is-book .result) (c .before .before .before .before .before .before .before .before .before .before .before .before .before .before .if2 .left), le-leb 2 (length (now (a .answer))) (omega (arith, c .before .before .before .before .before .before .before .before .before .before .before .before .before .if3 .left))) reads
 
 pub sheet-prepared-read-list-spec : {M : Type 1} → statement M
 sheet-prepared-read-list-spec =
