@@ -14,7 +14,6 @@ use Rattle.meaning.specs.OpenedBooks.{bookIn}
 use Rattle.meaning.specs.Whole.{Gave, refusedAt, walk}
 use Rattle.meaning.specs.declared.Carried.the-variants.{Nothing, Value}
 use Rattle.meaning.specs.declared.Checked.the-variants.{Fine, Refused}
-use Rattle.meaning.specs.declared.Refusal.the-variants.{InPart, TextLeft}
 use Rattle.words.specs.Pieces.{pieceStep, piecesIn, stepsOf}
 use Rattle.prepared.proofs.exact.Fitting.{walk-fit, part-fit}
 use Rattle.prepared.proofs.exact.Pieces.{word-ends, piece-stops, piece-goes-on, words-left, words-done, piece-inside}

@@ -1,6 +1,5 @@
 -- The numbers of the refusal fit.
 use borrow.Author.Needs.{needs}
-use mathlib.Core.Path.{_≡_}
 use native.Mathlib.Omega.{arith}
 use Rattle.meaning.specs.Answers.{details}
 use Rattle.prepared.proofs.exact.refused_in.Statement.{statement}
