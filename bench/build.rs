@@ -1,4 +1,5 @@
-//! Links ICU with its shim, and the library of chrono and time, where they are there. The archive of ours is linked by the crate for Rust.
+//! Links ICU with its shim, the library of chrono and time, and what is written by hand in C, where they or a compiler are there. The
+//! archive of ours is linked by the crate for Rust.
 
 use std::env;
 use std::path::Path;
@@ -9,7 +10,9 @@ fn main() {
     println!("cargo:rerun-if-env-changed=ICU_VERSION");
     println!("cargo:rerun-if-changed=build.rs");
     println!("cargo:rerun-if-changed=icu.c");
+    println!("cargo:rerun-if-changed=hand.c");
     others();
+    hand();
     if let Some(words) = icu() {
         println!("cargo:rustc-cfg=icu");
         for word in words {
@@ -34,20 +37,33 @@ fn others() {
     }
 }
 
+/// The functions for one pattern each, as a compiler makes them by itself.
+fn hand() {
+    println!("cargo:rustc-check-cfg=cfg(hand)");
+    if let Some(object) = compiled("hand", &[]) {
+        println!("cargo:rustc-cfg=hand");
+        println!("cargo:rustc-link-arg={object}");
+    }
+}
+
 /// The words that link ICU, its shim first; none where ICU is not there.
 fn icu() -> Option<Vec<String>> {
     let flags = pkg_config("--cflags")?;
     let libraries = pkg_config("--libs")?;
-    let object = Path::new(&env::var("OUT_DIR").ok()?).join("icu.o");
+    Some([vec![compiled("icu", &flags)?], libraries].concat())
+}
+
+/// The object of a file in C; none where it can't be made.
+fn compiled(name: &str, flags: &[String]) -> Option<String> {
+    let object = Path::new(&env::var("OUT_DIR").ok()?).join(format!("{name}.o"));
     let compiler = env::var("CC").unwrap_or_else(|_| "cc".to_string());
-    let compiled = Command::new(compiler)
-        .args(["-O2", "-fPIC", "-c", "icu.c", "-o"])
+    let made = Command::new(compiler)
+        .args(["-O2", "-fPIC", "-c", &format!("{name}.c"), "-o"])
         .arg(&object)
         .args(flags)
         .status()
         .is_ok_and(|status| status.success());
-    let shim = object.to_str().filter(|_| compiled)?.to_string();
-    Some([vec![shim], libraries].concat())
+    object.to_str().filter(|_| made).map(str::to_string)
 }
 
 fn pkg_config(what: &str) -> Option<Vec<String>> {

@@ -1,6 +1,8 @@
-//! A whole list at once, beside its lines one by one, a loop over ours and a loop over the Rust, at lists of several lengths.
+//! A whole list at once, beside the same by a prepared pattern, its lines one by one, a loop over ours and a loop over the Rust, at lists
+//! of several lengths.
 
 use crate::books;
+use crate::prepared;
 use crate::records::CURRENT_YEAR;
 use crate::table::{columns, table_row};
 use crate::timing::{interleaved, Calls, Timing};
@@ -9,7 +11,8 @@ use harness::generator::Random;
 use harness::walk::{self, Pair};
 use harness::Fields;
 use sheet::raw::{
-    self, sheet_read_line, sheet_read_list, LINE_ANSWER, LINE_READING, LIST_ANSWER, READ_ANSWER, READ_VALUES,
+    self, sheet_prepared_read_list, sheet_read_line, sheet_read_list, LINE_ANSWER, LINE_READING, LIST_ANSWER,
+    READ_ANSWER, READ_VALUES,
 };
 use std::hint::black_box;
 
@@ -19,7 +22,7 @@ const PATTERNS: [&str; 3] = ["yyyy/MM/dd", "d MMM yyyy", "yyyy-MM-dd HH:mm:ss"];
 const LENGTHS: [usize; 3] = [1000, 5000, 20_000];
 
 /// By the order of their columns.
-const NAMES: [&str; 4] = ["list", "lines", "loop", "Rust"];
+const NAMES: [&str; 5] = ["list", "prepared", "lines", "loop", "Rust"];
 
 const SEED: u64 = 1;
 const LAST_OF_9999: i64 = 3_652_058;
@@ -28,6 +31,7 @@ const LAST_OF_9999: i64 = 3_652_058;
 #[derive(Clone)]
 struct List {
     pattern: &'static str,
+    prepared: Box<prepared::Row>,
     text: String,
     rows: Rows,
 }
@@ -67,7 +71,13 @@ impl List {
             years: row(),
             codes: vec![u32::MAX; lines],
         };
-        List { pattern, text, rows }
+        let prepared = prepared::row_of(pattern);
+        List {
+            pattern,
+            prepared,
+            text,
+            rows,
+        }
     }
 
     fn at_once(&mut self) {
@@ -81,6 +91,35 @@ impl List {
                 0,
                 pattern.as_ptr(),
                 pattern.len(),
+                text.as_ptr(),
+                text.len(),
+                CURRENT_YEAR,
+                rows.days.as_mut_ptr(),
+                rows.days.len(),
+                rows.months.as_mut_ptr(),
+                rows.months.len(),
+                rows.years.as_mut_ptr(),
+                rows.years.len(),
+                rows.codes.as_mut_ptr(),
+                rows.codes.len(),
+                answer.as_mut_ptr(),
+                answer.len(),
+            )
+        };
+        black_box(answer);
+    }
+
+    fn by_prepared(&mut self) {
+        let (prepared, text, rows) = (&self.prepared[..], self.text.as_bytes(), &mut self.rows);
+        let mut answer = [0; LIST_ANSWER];
+        // SAFETY: as above.
+        unsafe {
+            sheet_prepared_read_list(
+                0,
+                std::ptr::null(),
+                0,
+                prepared.as_ptr(),
+                prepared.len(),
                 text.as_ptr(),
                 text.len(),
                 CURRENT_YEAR,
@@ -161,7 +200,13 @@ fn fields_of(number: i32) -> Fields {
     }
 }
 
-const READERS: [fn(&mut List); 4] = [List::at_once, List::line_by_line, List::by_reads, List::by_the_rust];
+const READERS: [fn(&mut List); 5] = [
+    List::at_once,
+    List::by_prepared,
+    List::line_by_line,
+    List::by_reads,
+    List::by_the_rust,
+];
 
 /// The table, or what does not agree.
 pub fn table() -> Result<String, String> {

@@ -1,5 +1,5 @@
 //! The benchmark: ours beside the Rust, glibc, ICU and, for days and stamps, chrono, time and java.time, in one run on the machine that it was built on;
-//! ours with a name book beside ours without; and whole lists beside loops.
+//! ours with a name book beside ours without; whole lists beside loops; and prepared patterns beside direct ones and those of others.
 #![cfg_attr(not(icu), allow(dead_code))]
 
 mod agreement;
@@ -7,6 +7,8 @@ mod books;
 mod contender;
 mod days;
 mod glibc;
+#[cfg(hand)]
+mod hand;
 #[cfg(icu)]
 mod icu;
 mod java;
@@ -16,7 +18,12 @@ mod measure;
 #[cfg(others)]
 mod others;
 mod ours;
+#[cfg(others)]
+mod peers;
 mod plot;
+mod prepared;
+mod prepared_stack;
+mod preparing;
 mod records;
 mod rows;
 mod rust;
@@ -29,6 +36,8 @@ use books::ByBook;
 use contender::Contender;
 use measure::{Line, Op, NAMES};
 use ours::Ours;
+use plot::Panel;
+use prepared::Prepared;
 use records::{records, Record};
 use rows::Row;
 use std::env::args;
@@ -36,7 +45,7 @@ use std::fs;
 use std::process::ExitCode;
 
 const USAGE: &str =
-    "usage: bench PICTURE.svg\n       bench calls CONTENDER write|read|check ROW CALLS\n       bench days\n       bench books\n       bench lists\n       bench stamps\n       bench stack";
+    "usage: bench PICTURE.svg\n       bench calls CONTENDER write|read|check|prepare ROW CALLS\n       bench days\n       bench books\n       bench lists\n       bench stamps\n       bench prepared PICTURE.svg\n       bench stack";
 
 fn main() -> ExitCode {
     let words: Vec<String> = args().skip(1).collect();
@@ -50,6 +59,7 @@ fn main() -> ExitCode {
         ["books"] => books::table(&records()).map(|table| print!("{table}")),
         ["lists"] => lists::table().map(|table| print!("{table}")),
         ["stamps"] => stamps::table().map(|table| print!("{table}")),
+        ["prepared", picture] => preparing::run(picture),
         [picture] => run(picture),
         ["calls", contender, op, row, calls] => only_calls(contender, op, row, calls),
         _ => Err(USAGE.to_string()),
@@ -72,15 +82,19 @@ fn run(picture: &str) -> Result<(), String> {
     if cfg!(not(icu)) {
         println!("ICU is left out: pkg-config finds no icu-i18n\n");
     }
-    let lines = |op| -> Vec<Line> { rows.iter().map(|row| measure::compared(op, row, &records)).collect() };
+    let lines = |op| -> Vec<Line> {
+        rows.iter()
+            .map(|row| measure::compared(op, &NAMES, row, &records))
+            .collect()
+    };
     let (written, read) = (lines(Op::Write), lines(Op::Read));
-    println!("{}", table::comparison("Writing", &written));
-    println!("{}", table::comparison("Reading", &read));
+    println!("{}", table::comparison("Writing", &NAMES, &written));
+    println!("{}", table::comparison("Reading", &NAMES, &read));
     println!("{}", table::notes(&rows));
-    print!("{}", table::standing("Rust", 10.0, "Writing", &written));
-    print!("{}", table::standing("Rust", 7.0, "Reading", &read));
-    print!("{}", table::standing("glibc", 1.0, "Writing", &written));
-    println!("{}", table::standing("glibc", 1.0, "Reading", &read));
+    print!("{}", table::standing(&NAMES, "Rust", 10.0, "Writing", &written));
+    print!("{}", table::standing(&NAMES, "Rust", 7.0, "Reading", &read));
+    print!("{}", table::standing(&NAMES, "glibc", 1.0, "Writing", &written));
+    println!("{}", table::standing(&NAMES, "glibc", 1.0, "Reading", &read));
     let patterns = rows::checked();
     println!("{}", table::checks(&patterns, &measure::checked(&patterns)));
     let growths = measure::grown(&records);
@@ -89,13 +103,36 @@ fn run(picture: &str) -> Result<(), String> {
     println!("{}", lists::table()?);
     println!("{}", days::table()?);
     println!("{}", stamps::table()?);
-    fs::write(picture, plot::picture(&machine_and_day, &written, &read, &growths))
-        .map_err(|why| format!("{picture}: {why}"))?;
+    let grown: Vec<(usize, Vec<f64>)> = growths.iter().map(measure::Growth::costs).collect();
+    let panels = [
+        Panel::Bars {
+            title: "Writing",
+            names: &NAMES,
+            lines: &written,
+        },
+        Panel::Bars {
+            title: "Reading",
+            names: &NAMES,
+            lines: &read,
+        },
+        Panel::Curves {
+            title: "Growth of ours with the pattern",
+            names: &["write", "read", "check"],
+            along: "bytes of the pattern",
+            by_tens: false,
+            costs: &grown,
+        },
+    ];
+    draw(picture, &plot::picture(&machine_and_day, &panels))
+}
+
+pub fn draw(picture: &str, svg: &str) -> Result<(), String> {
+    fs::write(picture, svg).map_err(|why| format!("{picture}: {why}"))?;
     println!("picture: {picture}");
     Ok(())
 }
 
-fn agreed(rows: &[Row], records: &[Record]) -> Result<(), String> {
+pub fn agreed(rows: &[Row], records: &[Record]) -> Result<(), String> {
     let patterns = rows.iter().map(|row| row.pattern.clone());
     let grown = rows::LENGTHS.iter().map(|length| rows::stamps(*length));
     match patterns
@@ -120,7 +157,15 @@ fn only_calls(contender: &str, op: &str, row: &str, calls: &str) -> Result<(), S
     let calls = calls.parse().map_err(|_| USAGE)?;
     if op == "check" {
         let pattern = rows::checked().into_iter().nth(row).ok_or(USAGE)?;
-        ours::check_calls(pattern.as_bytes(), calls);
+        match contender {
+            "prepared" => prepared::check_calls(&prepared::row_of(&pattern), calls),
+            _ => ours::check_calls(pattern.as_bytes(), calls),
+        }
+        return Ok(());
+    }
+    if op == "prepare" {
+        let pattern = &rows.get(row).ok_or(USAGE)?.pattern;
+        prepared::prepare_calls(pattern, &mut prepared::row_of(pattern), calls);
         return Ok(());
     }
     let book = books::opened();
@@ -148,9 +193,7 @@ fn contender_at<'a>(
     match name {
         "book" => Some(Box::new(ByBook::new(book, pattern, records)?)),
         "ours" => Some(Box::new(Ours::new(pattern, records)?)),
-        _ => {
-            let number = NAMES.iter().position(|known| *known == name)?;
-            measure::contender(number, rows.get(row)?, records)
-        }
+        "prepared" => Some(Box::new(Prepared::new(pattern, records)?)),
+        _ => measure::contender(name, rows.get(row)?, records),
     }
 }

@@ -2,9 +2,14 @@
 
 use crate::contender::Contender;
 use crate::glibc::Glibc;
+#[cfg(hand)]
+use crate::hand;
 #[cfg(icu)]
 use crate::icu::Icu;
 use crate::ours::{check_calls, Ours};
+#[cfg(others)]
+use crate::peers;
+use crate::prepared::Prepared;
 use crate::records::Record;
 use crate::rows::{self, Row};
 use crate::rust::Rust;
@@ -35,35 +40,43 @@ pub struct Growth {
     pub check: f64,
 }
 
-/// A contender at a row, by its number among the names; none where it does not take the pattern or is not there.
-pub fn contender<'a>(number: usize, row: &'a Row, records: &'a [Record]) -> Option<Box<dyn Contender + 'a>> {
-    Some(match NAMES[number] {
-        "ours" => Box::new(Ours::new(&row.pattern, records)?),
+impl Growth {
+    /// The length, and what it costs there.
+    pub fn costs(&self) -> (usize, Vec<f64>) {
+        (self.length, vec![self.write, self.read, self.check])
+    }
+}
+
+/// A contender at a row, by its name; none where it does not take the pattern or is not there.
+pub fn contender<'a>(name: &str, row: &'a Row, records: &'a [Record]) -> Option<Box<dyn Contender + 'a>> {
+    Some(match name {
+        "ours" | "direct" => Box::new(Ours::new(&row.pattern, records)?),
+        "prepared" => Box::new(Prepared::new(&row.pattern, records)?),
         "Rust" => Box::new(Rust::new(&row.pattern, records)?),
         "glibc" => Box::new(Glibc::new(row, records)?),
-        _ => return icu(row, records),
+        #[cfg(icu)]
+        "ICU" => Box::new(Icu::new(row, records)?),
+        #[cfg(others)]
+        "chrono" => Box::new(peers::chrono(&row.chrono, records)?),
+        #[cfg(others)]
+        "time" => Box::new(peers::time(&row.time, records)?),
+        #[cfg(hand)]
+        "C, all" => hand::full(&row.pattern, records)?,
+        #[cfg(hand)]
+        "C, bare" => hand::bare(&row.pattern, records)?,
+        _ => return None,
     })
 }
 
-#[cfg(icu)]
-fn icu<'a>(row: &'a Row, records: &'a [Record]) -> Option<Box<dyn Contender + 'a>> {
-    Some(Box::new(Icu::new(row, records)?))
-}
-
-#[cfg(not(icu))]
-fn icu<'a>(_: &'a Row, _: &'a [Record]) -> Option<Box<dyn Contender + 'a>> {
-    None
-}
-
-/// A row by all contenders.
-pub fn compared(op: Op, row: &Row, records: &[Record]) -> Line {
-    let mut present: Vec<(usize, Box<dyn Contender>)> = (0..NAMES.len())
-        .filter_map(|number| Some((number, contender(number, row, records)?)))
+/// A row by all contenders that are named, of which the first is always there.
+pub fn compared(op: Op, names: &[&str], row: &Row, records: &[Record]) -> Line {
+    let mut present: Vec<(usize, Box<dyn Contender>)> = (0..names.len())
+        .filter_map(|number| Some((number, contender(names[number], row, records)?)))
         .collect();
     let mut line = Line {
         label: row.label.clone(),
-        timings: vec![None; NAMES.len()],
-        same: vec![true; NAMES.len()],
+        timings: vec![None; names.len()],
+        same: vec![true; names.len()],
     };
     let ours = texts(&mut *present[0].1, records);
     for (number, contender) in &mut present {
@@ -109,11 +122,11 @@ pub fn grown(records: &[Record]) -> Vec<Growth> {
         .collect()
 }
 
-fn nanos(timings: Vec<Timing>) -> Vec<f64> {
+pub fn nanos(timings: Vec<Timing>) -> Vec<f64> {
     timings.iter().map(|timing| timing.nanos).collect()
 }
 
-fn calls_of<'a>(op: Op, contender: &'a mut (dyn Contender + 'a)) -> Calls<'a> {
+pub fn calls_of<'a>(op: Op, contender: &'a mut (dyn Contender + 'a)) -> Calls<'a> {
     match op {
         Op::Write => Box::new(|calls| contender.write_calls(calls)),
         Op::Read => Box::new(|calls| contender.read_calls(calls)),

@@ -1,6 +1,6 @@
-//! The picture: bars of writing and of reading on a logarithmic scale, and the growth of ours with the pattern.
+//! The picture: panels one below the other, of bars on a logarithmic scale and of curves.
 
-use crate::measure::{Growth, Line, NAMES};
+use crate::measure::Line;
 
 const WIDTH: f64 = 1080.0;
 const PANEL: f64 = 260.0;
@@ -9,21 +9,51 @@ const RIGHT: f64 = 30.0;
 const GAP: f64 = 120.0;
 const TOP: f64 = 100.0;
 const LINE: f64 = 15.0;
-const COLOURS: [&str; 4] = ["#1b6ca8", "#c8553d", "#7a9e3f", "#8a8a8a"];
-const CURVES: [&str; 3] = ["write", "read", "check"];
+const COLOURS: [&str; 9] = [
+    "#1b6ca8", "#c8553d", "#7a9e3f", "#8a8a8a", "#d9a441", "#6b4c9a", "#3aa6a0", "#4a4a4a", "#b9b9b9",
+];
 
-/// All three panels, with the machine and the day of the run above them.
-pub fn picture(machine_and_day: &str, written: &[Line], read: &[Line], growths: &[Growth]) -> String {
-    let height = TOP + 3.0 * (PANEL + GAP);
+/// A panel of the picture.
+pub enum Panel<'a> {
+    /// For each line of a table a group of bars, one for each name.
+    Bars {
+        title: &'a str,
+        names: &'a [&'a str],
+        lines: &'a [Line],
+    },
+    /// For each name a curve through what it costs at each place.
+    Curves {
+        title: &'a str,
+        names: &'a [&'a str],
+        along: &'a str,
+        /// Whether each place is as far from the next as ten times it is.
+        by_tens: bool,
+        costs: &'a [(usize, Vec<f64>)],
+    },
+}
+
+/// All panels, with the machine and the day of the run above them.
+pub fn picture(machine_and_day: &str, panels: &[Panel]) -> String {
+    let height = TOP + panels.len() as f64 * (PANEL + GAP);
     let mut svg = format!(
         "<svg xmlns=\"http://www.w3.org/2000/svg\" viewBox=\"0 0 {WIDTH} {height}\" \
          font-family=\"sans-serif\" font-size=\"12\">\n\
          <rect width=\"{WIDTH}\" height=\"{height}\" fill=\"white\"/>\n"
     );
     svg += &words(LEFT, 30.0, "start", machine_and_day);
-    svg += &bars("Writing", written, TOP);
-    svg += &bars("Reading", read, TOP + PANEL + GAP);
-    svg += &curves(growths, TOP + 2.0 * (PANEL + GAP));
+    for (number, panel) in panels.iter().enumerate() {
+        let top = TOP + number as f64 * (PANEL + GAP);
+        svg += &match panel {
+            Panel::Bars { title, names, lines } => bars(title, names, lines, top),
+            Panel::Curves {
+                title,
+                names,
+                along,
+                by_tens,
+                costs,
+            } => heading(title, top) + &legend(names, top) + &curves(along, *by_tens, costs, top),
+        };
+    }
     svg + "</svg>\n"
 }
 
@@ -56,10 +86,10 @@ impl Scale {
     }
 }
 
-fn bars(title: &str, lines: &[Line], top: f64) -> String {
+fn bars(title: &str, names: &[&str], lines: &[Line], top: f64) -> String {
     let scale = Scale::around(lines, top + PANEL);
     let group = (WIDTH - LEFT - RIGHT) / lines.len() as f64;
-    let mut svg = heading(title, top) + &legend(&NAMES, top);
+    let mut svg = heading(title, top) + &legend(names, top);
     svg += &axes("ns a call, each line ten times the one below", "pattern", top);
     for decade in scale.decades.0 as i32..=scale.decades.1 as i32 {
         let value = 10f64.powi(decade);
@@ -81,7 +111,7 @@ fn bars(title: &str, lines: &[Line], top: f64) -> String {
 }
 
 fn group_of_bars(line: &Line, left: f64, group: f64, scale: &Scale) -> String {
-    let wide = group * 0.8 / NAMES.len() as f64;
+    let wide = group * 0.8 / line.timings.len() as f64;
     let mut svg = String::new();
     for (number, timing) in line.timings.iter().enumerate() {
         let Some(timing) = timing else { continue };
@@ -92,31 +122,45 @@ fn group_of_bars(line: &Line, left: f64, group: f64, scale: &Scale) -> String {
             scale.foot - y,
             COLOURS[number]
         );
-        svg += &words(x + wide / 2.0 - 1.0, y - 4.0, "middle", &grouped(timing.nanos));
+        svg += &over_bar(x + wide / 2.0 - 1.0, y - 4.0, wide, &grouped(timing.nanos));
     }
     svg
 }
 
-fn curves(growths: &[Growth], top: f64) -> String {
+/// A value over its bar, read upwards where the bar is narrow.
+fn over_bar(x: f64, y: f64, wide: f64, value: &str) -> String {
+    const LEAST: f64 = 30.0;
+    if LEAST <= wide {
+        return words(x, y, "middle", value);
+    }
+    let (x, upright) = (x + 4.0, words(x + 4.0, y, "start", value));
+    format!("<g transform=\"rotate(-90 {x:.1} {y:.1})\">{upright}</g>\n")
+}
+
+fn curves(along: &str, by_tens: bool, costs: &[(usize, Vec<f64>)], top: f64) -> String {
     let foot = top + PANEL;
-    let costs = |growth: &Growth| [growth.write, growth.read, growth.check];
-    let longest = growths.iter().map(|growth| growth.length).max().unwrap_or(1) as f64;
-    let most = growths.iter().flat_map(costs).fold(1.0, f64::max) * 1.1;
-    let x = |growth: &Growth| LEFT + (WIDTH - LEFT - RIGHT) * growth.length as f64 / longest;
+    let far = |place: usize| if by_tens { (place as f64).log10() } else { place as f64 };
+    let farthest = costs.iter().map(|(place, _)| far(*place)).fold(1.0, f64::max);
+    let most = costs
+        .iter()
+        .flat_map(|(_, costs)| costs)
+        .fold(1.0, |most, cost| cost.max(most))
+        * 1.1;
+    let x = |place: usize| LEFT + (WIDTH - LEFT - RIGHT) * far(place) / farthest;
     let y = |cost: f64| foot - PANEL * cost / most;
-    let mut svg = heading("Growth of ours with the pattern", top) + &legend(&CURVES, top);
-    svg += &axes("ns a call", "bytes of the pattern", top);
+    let mut svg = axes("ns a call", along, top);
     for number in 0..=(most / step(most)) as i32 {
         let cost = step(most) * f64::from(number);
         svg += &level(y(cost), cost);
     }
-    for growth in growths {
-        svg += &words(x(growth), foot + 3.0 + LINE, "middle", &growth.length.to_string());
+    for (place, _) in costs {
+        svg += &words(x(*place), foot + 3.0 + LINE, "middle", &place.to_string());
     }
-    for (number, colour) in COLOURS.iter().enumerate().take(CURVES.len()) {
-        let places = growths
+    let curves = costs.first().map_or(0, |(_, costs)| costs.len());
+    for (number, colour) in COLOURS.iter().enumerate().take(curves) {
+        let places = costs
             .iter()
-            .map(|growth| format!("{:.1},{:.1}", x(growth), y(costs(growth)[number])));
+            .map(|(place, costs)| format!("{:.1},{:.1}", x(*place), y(costs[number])));
         let places = places.collect::<Vec<_>>().join(" ");
         svg += &format!("<polyline points=\"{places}\" fill=\"none\" stroke=\"{colour}\" stroke-width=\"2\"/>\n");
     }
@@ -126,20 +170,20 @@ fn curves(growths: &[Growth], top: f64) -> String {
 fn heading(title: &str, top: f64) -> String {
     format!(
         "<text x=\"{LEFT}\" y=\"{}\" font-size=\"16\">{title}</text>\n",
-        top - 24.0
+        top - 38.0
     )
 }
 
 fn legend(names: &[&str], top: f64) -> String {
     let mut svg = String::new();
     for (number, name) in names.iter().enumerate() {
-        let x = WIDTH - RIGHT - 80.0 * (names.len() - number) as f64;
+        let x = WIDTH - RIGHT - 92.0 * (names.len() - number) as f64;
         svg += &format!(
             "<rect x=\"{x}\" y=\"{}\" width=\"12\" height=\"12\" fill=\"{}\"/>\n",
-            top - 35.0,
+            top - 49.0,
             COLOURS[number]
         );
-        svg += &words(x + 18.0, top - 24.0, "start", name);
+        svg += &words(x + 18.0, top - 38.0, "start", name);
     }
     svg
 }

@@ -6,12 +6,19 @@ pub struct Row {
     pub pattern: String,
     pub glibc: String,
     pub icu: String,
+    pub chrono: String,
+    pub time: String,
     /// What an equivalent does not do.
     pub note: &'static str,
 }
 
 const STAMP: &str = "yyyy-MM-dd HH:mm:ss ";
+const GLIBC_STAMP: &str = "%Y-%m-%d %H:%M:%S ";
+const TIME_STAMP: &str = "[year]-[month]-[day] [hour]:[minute]:[second] ";
 const LONGEST: usize = 256;
+
+/// The row with a fraction and a zone, for which each has words of its own.
+const ZONED: usize = 3;
 
 /// Patterns of these lengths show how the cost grows.
 pub const LENGTHS: [usize; 5] = [16, 32, 64, 128, LONGEST];
@@ -27,29 +34,39 @@ pub fn checked() -> Vec<String> {
 
 pub fn rows() -> Vec<Row> {
     let mut rows = vec![
-        row("yyyy/MM/dd", "%Y/%m/%d", "yyyy/MM/dd", ""),
+        row("yyyy/MM/dd", "%Y/%m/%d", "[year]/[month]/[day]", ""),
         row(
             "d/M",
             "%-d/%-m",
-            "d/M",
+            "[day padding:none]/[month padding:none]",
             "a single M of ours and of the Rust reads one byte, glibc and ICU read both digits of 12",
         ),
-        row("yyyy-MM-dd HH:mm:ss", "%Y-%m-%d %H:%M:%S", "yyyy-MM-dd HH:mm:ss", ""),
+        row("yyyy-MM-dd HH:mm:ss", GLIBC_STAMP.trim_end(), TIME_STAMP.trim_end(), ""),
         row(
             "yyyy/MM/dd HH:mm:ss.nnn XXXXX",
             "%Y/%m/%d %H:%M:%S.000 %z",
-            "yyyy/MM/dd HH:mm:ss.SSS XXXXX",
+            "[year]/[month]/[day] [hour]:[minute]:[second].[subsecond digits:3] [offset_hour sign:mandatory]:[offset_minute]",
             "glibc has no fraction of a second and no colon in a zone: it writes and reads .000 and +0530",
         ),
-        row("eeee, d MMMM yyyy", "%A, %-d %B %Y", "eeee, d MMMM yyyy", ""),
+        row(
+            "eeee, d MMMM yyyy",
+            "%A, %-d %B %Y",
+            "[weekday], [day padding:none] [month repr:long] [year]",
+            "",
+        ),
     ];
+    rows[ZONED].icu = "yyyy/MM/dd HH:mm:ss.SSS XXXXX".to_string();
+    rows[ZONED].chrono = "%Y/%m/%d %H:%M:%S%.3f %:z".to_string();
+    // 12 whole stamps are 240 bytes; behind them stand the other 16.
+    let whole = LONGEST / STAMP.len();
     rows.push(Row {
         label: format!("{LONGEST} bytes of {}..", STAMP.trim_end()),
-        pattern: stamps(LONGEST),
-        // 12 whole stamps are 240 bytes; these are the other 16.
-        glibc: "%Y-%m-%d %H:%M:%S ".repeat(LONGEST / STAMP.len()) + "%Y-%m-%d %H:%M",
-        icu: stamps(LONGEST),
-        note: "",
+        ..row(
+            &stamps(LONGEST),
+            &(GLIBC_STAMP.repeat(whole) + "%Y-%m-%d %H:%M"),
+            &(TIME_STAMP.repeat(whole) + "[year]-[month]-[day] [hour]:[minute]"),
+            "",
+        )
     });
     rows
 }
@@ -59,12 +76,15 @@ pub fn stamps(length: usize) -> String {
     STAMP.chars().cycle().take(length).collect()
 }
 
-fn row(pattern: &str, glibc: &str, icu: &str, note: &'static str) -> Row {
+/// Where ICU has the words of ours, and chrono those of glibc.
+fn row(pattern: &str, glibc: &str, time: &str, note: &'static str) -> Row {
     Row {
         label: pattern.to_string(),
         pattern: pattern.to_string(),
         glibc: glibc.to_string(),
-        icu: icu.to_string(),
+        icu: pattern.to_string(),
+        chrono: glibc.to_string(),
+        time: time.to_string(),
         note,
     }
 }

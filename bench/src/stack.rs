@@ -2,6 +2,7 @@
 
 use crate::books;
 use crate::ours::ROOM;
+use crate::prepared_stack;
 use crate::records::{Record, CURRENT_YEAR};
 use crate::rows::Row;
 use harness::Fields;
@@ -42,7 +43,7 @@ fn stack_pointer() -> usize {
 /// How many bytes below the stack pointer a call leaves changed. The first call, in which a linker may be at work, does not
 /// count.
 #[inline(never)]
-fn depth(mut call: impl FnMut() -> u32) -> usize {
+pub fn depth(mut call: impl FnMut() -> u32) -> usize {
     black_box(call());
     let top = stack_pointer();
     // SAFETY: the thread's stack has PAINTED bytes below this frame, and nothing is kept there between calls.
@@ -273,7 +274,7 @@ fn of_stamps() -> [(&'static str, usize); 2] {
     [("rfc_read", read), ("rfc_write", write)]
 }
 
-/// The depths by one pattern, in the order of `FUNCTIONS`.
+/// The depths by one pattern, in the order of `FUNCTIONS`, and then by it prepared.
 fn depths(book: &[u8], pattern: &[u8], f: &Fields) -> Vec<usize> {
     let mut out = [0; ROOM];
     let (write, length) = of_write(raw::sheet_write, pattern, f, &mut out);
@@ -281,7 +282,7 @@ fn depths(book: &[u8], pattern: &[u8], f: &Fields) -> Vec<usize> {
     let [write_by, read_by] = of_both_by(book, pattern, f, &text);
     let [list, line] = of_lists(book, pattern, &text);
     let [mend, undo] = of_mend(pattern);
-    vec![
+    let direct = vec![
         write,
         of_write(raw::sheet_write, pattern, f, &mut out[..length]).0,
         of_write(raw::sheet_write, pattern, f, &mut out[..length - 1]).0,
@@ -297,7 +298,8 @@ fn depths(book: &[u8], pattern: &[u8], f: &Fields) -> Vec<usize> {
         undo,
         of_rows(raw::sheet_split, pattern),
         of_rows(raw::sheet_units, pattern),
-    ]
+    ];
+    [direct, prepared_stack::depths(book, pattern, f, &text)].concat()
 }
 
 const FUNCTIONS: [&str; 15] = [
@@ -343,7 +345,7 @@ pub fn table(rows: &[Row], records: &[Record]) -> String {
     for number in 1..=patterns.len() {
         let _ = write!(table, "{number:>6}");
     }
-    for (line, function) in FUNCTIONS.iter().enumerate() {
+    for (line, function) in FUNCTIONS.iter().chain(&prepared_stack::FUNCTIONS).enumerate() {
         let _ = write!(table, "\n{function:<24}");
         for column in &columns {
             let _ = write!(table, "{:>6}", column[line]);

@@ -1,15 +1,15 @@
 //! The tables, as lines of text.
 
-use crate::measure::{Growth, Line, NAMES};
+use crate::measure::{Growth, Line};
 use crate::rows::Row;
 
-/// Ours, then for each other contender the nanoseconds and how many times ours that is.
-pub fn comparison(title: &str, lines: &[Line]) -> String {
-    let headings = (0..NAMES.len()).map(|number| columns(number, NAMES[number], ' ', "x ours"));
-    let mut table = format!("{title}, ns a call, and how many times ours\n");
+/// The first contender, then for each other one the nanoseconds and how many times the first one's that is.
+pub fn comparison(title: &str, names: &[&str], lines: &[Line]) -> String {
+    let headings = (0..names.len()).map(|number| columns(number, names[number], ' ', "times"));
+    let mut table = format!("{title}, ns a call, and how many times {}\n", names[0]);
     table += &table_row("pattern", headings);
     for line in lines {
-        table += &table_row(&line.label, (0..NAMES.len()).map(|number| cell(line, number)));
+        table += &table_row(&line.label, (0..names.len()).map(|number| cell(line, number)));
     }
     table
 }
@@ -47,21 +47,23 @@ pub fn notes(rows: &[Row]) -> String {
     notes
 }
 
-/// How a contender stands against ours over all rows: the row at which it is nearest.
-pub fn standing(name: &str, wanted: f64, what: &str, lines: &[Line]) -> String {
-    let number = NAMES
+/// How a contender stands against ours, the first, over all rows: the row at which it is nearest.
+pub fn standing(names: &[&str], name: &str, wanted: f64, what: &str, lines: &[Line]) -> String {
+    let number = names
         .iter()
         .position(|known| *known == name)
         .expect("a contender's name");
     let ratio = |line: &&Line| line.timings[number].map_or(f64::INFINITY, |timing| timing.ratio);
-    let held = lines.iter().filter(|line| wanted <= ratio(line)).count();
-    let Some(nearest) = lines.iter().min_by(|a, b| ratio(a).total_cmp(&ratio(b))) else {
+    let there: Vec<&Line> = lines.iter().filter(|line| line.timings[number].is_some()).collect();
+    let held = there.iter().filter(|line| wanted <= ratio(line)).count();
+    let Some(nearest) = there.iter().min_by(|a, b| ratio(a).total_cmp(&ratio(b))) else {
         return String::new();
     };
     format!(
-        "{what}: {name} takes at least {wanted} times ours on {held} of {} patterns; least x{:.2}, {}\n",
-        lines.len(),
-        ratio(&nearest),
+        "{what}: {name} takes at least {wanted} times {} on {held} of {} patterns; least x{:.2}, {}\n",
+        names[0],
+        there.len(),
+        ratio(nearest),
         nearest.label
     )
 }

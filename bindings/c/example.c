@@ -1,7 +1,7 @@
 /* Writes a record by a pattern, reads it back, underlines what was read, shows what the parts of a pattern are, checks a pattern,
  * reads strictly, reads and checks in the second edition, shows a refusal, places a bar of a chart, writes and reads with the
- * names of a book, which it finds where it is run at the root of the repository, reads a list, mends a pattern, and reads and
- * writes a stamp. */
+ * names of a book, which it finds where it is run at the root of the repository, reads a list, prepares a pattern and writes days of
+ * it, mends a pattern, and reads and writes a stamp. */
 #include "sheet.h"
 
 #include <inttypes.h>
@@ -239,6 +239,25 @@ static void read_a_list(const char *pattern, const char *text) {
     }
 }
 
+/* The days of a bar, all by one pattern that is prepared once. */
+static void write_days_by_a_prepared_pattern(const char *pattern, int32_t first, int32_t last) {
+    uint64_t prepared[SHEET_PREPARED_ROW];
+    uint8_t text[SHEET_LONGEST_TEXT];
+    int64_t day[SHEET_DAY_ANSWER], answer[SHEET_WRITE_ANSWER];
+    if (sheet_prepare(0, bytes(pattern), strlen(pattern), prepared, SHEET_PREPARED_ROW, answer, SHEET_PREPARE_ANSWER) !=
+        SHEET_ACCEPTED)
+        return;
+    printf("%s, prepared, writes", pattern);
+    for (int32_t number = first; number <= last; number++) {
+        sheet_day(number, day, SHEET_DAY_ANSWER);
+        if (sheet_prepared_write(NULL, 0, prepared, SHEET_PREPARED_ROW, (int32_t)day[0], (uint32_t)day[1], (uint32_t)day[2],
+                                 (uint32_t)day[3], (uint32_t)day[4], (uint32_t)day[5], 0, 0, text, sizeof text, answer,
+                                 SHEET_WRITE_ANSWER) == SHEET_ACCEPTED)
+            printf(" %.*s", (int)answer[0], (const char *)text);
+    }
+    printf("\n");
+}
+
 /* Shows the mended pattern, what was altered of it, and that undoing gives the one that was mended. */
 static void mend_a_pattern(const char *pattern) {
     uint8_t mended[SHEET_LONGEST_PATTERN], undone[SHEET_LONGEST_PATTERN];
@@ -290,6 +309,7 @@ int main(void) {
     write_and_read_with_a_book("books/dutch.lnb", "eeee d MMMM");
     show_a_bad_name("books/dutch.lnb");
     read_a_list("d/MM", "3/12\nsoon\n24/12");
+    write_days_by_a_prepared_pattern("eee'_'dd/MM", 739672, 739676);
     mend_a_pattern("d/M/yy Hmm");
     read_and_write_a_stamp("2025-12-03t07:05:09.5+05:30");
     read_and_write_a_stamp("2025-12-03T07:05:09-00:00");

@@ -25,6 +25,7 @@ pub mod op;
 pub mod options;
 mod part;
 mod pluses;
+pub mod prepared;
 pub mod printing;
 pub mod request;
 pub mod running;

@@ -67,6 +67,24 @@ impl Op {
         Op::ListStrictSecond,
     ];
 
+    /// Those that may be asked for by a prepared pattern, beside a check.
+    pub const PREPARED: [Op; 14] = [
+        Op::Write,
+        Op::WriteDate,
+        Op::Read,
+        Op::ReadDate,
+        Op::ReadStrict,
+        Op::ReadDateStrict,
+        Op::ReadSecond,
+        Op::ReadDateSecond,
+        Op::ReadStrictSecond,
+        Op::ReadDateStrictSecond,
+        Op::List,
+        Op::ListStrict,
+        Op::ListSecond,
+        Op::ListStrictSecond,
+    ];
+
     /// Those of mending, one for each edition.
     pub const MENDS: [Op; 2] = [Op::Mend, Op::MendSecond];
 

@@ -3,6 +3,7 @@
 use crate::check::CheckRequest;
 use crate::choices::{Books, Edition};
 use crate::generator::{CheckGenerator, Generator};
+use crate::prepared;
 use crate::request::{Op, Request};
 use std::num::NonZeroUsize;
 use std::str::FromStr;
@@ -23,6 +24,8 @@ pub struct Options {
     pub mends: bool,
     /// Stamps in their place.
     pub stamps: bool,
+    /// Requests that are asked twice, also by a prepared pattern.
+    pub prepared: bool,
     /// Which books the requests come with; none where none is named.
     pub books: Option<Books>,
     /// Of a check; both where none is named.
@@ -39,6 +42,9 @@ impl Options {
         let options = Options::from_args(args)?;
         match options.edition {
             Some(_) => Err("the edition is in the name of an op".to_string()),
+            None if options.prepared && options.names_requests() => Err(
+                "prepared patterns have requests of their own, with and without books".to_string(),
+            ),
             None if options.ways_to_name_ops() > 1 => {
                 Err("lists, patterns to mend and stamps are ops of their own".to_string())
             }
@@ -54,11 +60,15 @@ impl Options {
         let options = Options::from_args(args)?;
         match options.ops {
             Some(_) => Err("there is one op".to_string()),
-            None if options.lists || options.mends || options.stamps => {
+            None if options.lists || options.mends || options.stamps || options.prepared => {
                 Err("that is no check".to_string())
             }
             None => Ok(options),
         }
+    }
+
+    fn names_requests(&self) -> bool {
+        self.ways_to_name_ops() > 0 || self.books.is_some() || self.requests.is_some()
     }
 
     fn ways_to_name_ops(&self) -> usize {
@@ -75,6 +85,7 @@ impl Options {
             lists: false,
             mends: false,
             stamps: false,
+            prepared: false,
             books: None,
             edition: None,
             requests: None,
@@ -89,6 +100,7 @@ impl Options {
                 "--lists" => options.lists = true,
                 "--mends" => options.mends = true,
                 "--stamps" => options.stamps = true,
+                "--prepared" => options.prepared = true,
                 "--books" => options.books = Some(books(&word(args.next())?)?),
                 "--edition" => options.edition = Some(edition(&word(args.next())?)?),
                 "--requests" => options.requests = Some(word(args.next())?),
@@ -110,6 +122,14 @@ impl Options {
         Generator::with(self.books, self.seed, ops)
             .step_by(self.every.get())
             .take(self.count.unwrap_or(COUNT))
+    }
+
+    /// Each of so many requests twice.
+    pub fn generated_prepared(&self) -> impl Iterator<Item = String> {
+        prepared::requests(self.seed)
+            .step_by(self.every.get())
+            .take(self.count.unwrap_or(COUNT))
+            .flat_map(prepared::both_ways)
     }
 
     /// A count that is not named goes through the list of patterns once.

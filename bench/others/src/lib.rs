@@ -1,6 +1,7 @@
-//! Days and their numbers, and stamps, by the crates chrono and time, many at a call, as a library of its own: it is built only where
-//! the sources of the two are there.
+//! Days and their numbers, stamps, and prepared patterns, by the crates chrono and time, many at a call, as a library of its own: it is
+//! built only where the sources of the two are there.
 
+mod prepared;
 mod stamps;
 
 use chrono::{Datelike, NaiveDate};

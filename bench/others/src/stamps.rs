@@ -103,30 +103,33 @@ pub unsafe extern "C" fn time_read(texts: Texts) -> u64 {
     read_all(time_stamp, texts)
 }
 
+/// A stamp as chrono holds it.
+pub fn held_by_chrono(stamp: &Stamp) -> Option<DateTime<FixedOffset>> {
+    let day = NaiveDate::from_ymd_opt(stamp.year, stamp.month, stamp.day)?;
+    let (seconds, nanos) = (stamp.nanos / NANOS_A_SECOND, stamp.nanos % NANOS_A_SECOND);
+    let local = day.and_hms_nano_opt(0, 0, 0, nanos as u32)? + chrono::Duration::seconds(seconds as i64);
+    local.and_local_timezone(FixedOffset::east_opt(stamp.offset)?).single()
+}
+
+pub fn held_by_time(stamp: &Stamp) -> Option<OffsetDateTime> {
+    let month = Month::try_from(stamp.month as u8).ok()?;
+    let day = Date::from_calendar_date(stamp.year, month, stamp.day as u8).ok()?;
+    let offset = UtcOffset::from_whole_seconds(stamp.offset).ok()?;
+    let since = time::Duration::nanoseconds(stamp.nanos as i64);
+    Some((day.midnight() + since).assume_offset(offset))
+}
+
 /// Stamps as chrono holds them, which are made once and kept.
 #[no_mangle]
 pub unsafe extern "C" fn chrono_stamps(stamps: *const Stamp, count: usize) -> *const DateTime<FixedOffset> {
-    let held = |stamp: &Stamp| {
-        let day = NaiveDate::from_ymd_opt(stamp.year, stamp.month, stamp.day)?;
-        let (seconds, nanos) = (stamp.nanos / NANOS_A_SECOND, stamp.nanos % NANOS_A_SECOND);
-        let local = day.and_hms_nano_opt(0, 0, 0, nanos as u32)? + chrono::Duration::seconds(seconds as i64);
-        local.and_local_timezone(FixedOffset::east_opt(stamp.offset)?).single()
-    };
     let all = slice::from_raw_parts(stamps, count).iter();
-    kept(all.map(|stamp| held(stamp).expect("it is in chrono's range")))
+    kept(all.map(|stamp| held_by_chrono(stamp).expect("it is in chrono's range")))
 }
 
 #[no_mangle]
 pub unsafe extern "C" fn time_stamps(stamps: *const Stamp, count: usize) -> *const OffsetDateTime {
-    let held = |stamp: &Stamp| {
-        let month = Month::try_from(stamp.month as u8).ok()?;
-        let day = Date::from_calendar_date(stamp.year, month, stamp.day as u8).ok()?;
-        let offset = UtcOffset::from_whole_seconds(stamp.offset).ok()?;
-        let since = time::Duration::nanoseconds(stamp.nanos as i64);
-        Some((day.midnight() + since).assume_offset(offset))
-    };
     let all = slice::from_raw_parts(stamps, count).iter();
-    kept(all.map(|stamp| held(stamp).expect("it is in time's range")))
+    kept(all.map(|stamp| held_by_time(stamp).expect("it is in time's range")))
 }
 
 fn kept<T>(all: impl Iterator<Item = T>) -> *const T {

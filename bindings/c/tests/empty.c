@@ -18,6 +18,7 @@ static const uint8_t PATTERN[] = {'d', 'd'};
 static const uint8_t TEXT[] = {'0', '3'};
 static const uint8_t MONTH[] = {'M', 'M', 'M', 'M'};
 static const uint8_t NEWLINE[] = {'\n'};
+static const uint8_t QUOTE[] = {'\''};
 static uint8_t out[4];
 static int64_t answer[SHEET_LINE_ANSWER];
 static int64_t parts[SHEET_SPLIT_PARTS];
@@ -25,6 +26,7 @@ static int64_t units[SHEET_UNITS_ROW];
 static int64_t changes[SHEET_CHANGES_ROW];
 static uint8_t book[SHEET_BOOK_ROW];
 static uint8_t written[SHEET_LONGEST_BOOK];
+static uint64_t prepared[SHEET_PREPARED_ROW];
 static bool all = true;
 
 /* What a call has to return, and the first two entries of its row. */
@@ -140,6 +142,59 @@ static void by_lists(void) {
     GIVES(read_line(NEWLINE, 1, NULL, 0), SHEET_ROW_TOO_SMALL, MARK, MARK);
 }
 
+static uint32_t prepared_write(const uint64_t *row, size_t row_len, uint8_t *to, size_t to_len, int64_t *into, size_t into_len) {
+    return sheet_prepared_write(NULL, 0, row, row_len, 2025, 12, 3, 337, 49, 3, 0, 0, to, to_len, into, into_len);
+}
+
+static uint32_t prepared_read(uint32_t choices, const uint64_t *row, size_t row_len, const uint8_t *text, size_t text_len,
+                              int64_t *into, size_t into_len) {
+    return sheet_prepared_read(choices, NULL, 0, row, row_len, text, text_len, 2025, into, into_len);
+}
+
+static uint32_t prepared_list(const uint64_t *row, size_t row_len, const uint8_t *text, size_t text_len, int64_t *into,
+                              size_t into_len) {
+    return sheet_prepared_read_list(0, NULL, 0, row, row_len, text, text_len, 2025, NULL, 0, NULL, 0, NULL, 0, NULL, 0, into,
+                                    into_len);
+}
+
+static uint32_t prepare(const uint8_t *pattern, size_t pattern_len) {
+    return sheet_prepare(0, pattern, pattern_len, prepared, SHEET_PREPARED_ROW, answer, SHEET_PREPARE_ANSWER);
+}
+
+/* What is lent as a prepared pattern is none, or the row for the answer is none. */
+static void by_no_prepared_pattern(void) {
+    GIVES(prepared_write(NULL, 0, NULL, 0, answer, 2), SHEET_NOT_PREPARED, MARK, MARK);
+    GIVES(prepared_write(NULL, 0, NULL, 0, NULL, 0), SHEET_ROW_TOO_SMALL, MARK, MARK);
+    GIVES(prepared_read(0, NULL, 0, NULL, 0, answer, SHEET_READ_ANSWER), SHEET_NOT_PREPARED, MARK, MARK);
+    GIVES(prepared_read(0, NULL, 0, NULL, 0, NULL, 0), SHEET_ROW_TOO_SMALL, MARK, MARK);
+    GIVES(prepared_read(8, NULL, 0, NULL, 0, NULL, 0), SHEET_NO_SUCH_CHOICE, MARK, MARK);
+    GIVES(prepared_list(NULL, 0, NULL, 0, answer, 2), SHEET_NOT_PREPARED, MARK, MARK);
+    GIVES(prepared_list(NULL, 0, NULL, 0, NULL, 0), SHEET_ROW_TOO_SMALL, MARK, MARK);
+    GIVES(sheet_prepared_check(0, NULL, 0, 2025, answer, SHEET_CHECK_ANSWER), SHEET_NOT_PREPARED, MARK, MARK);
+    GIVES(sheet_prepared_check(0, NULL, 0, 2025, NULL, 0), SHEET_ROW_TOO_SMALL, MARK, MARK);
+    GIVES(sheet_prepared_check(SHEET_DATE_PAIR, NULL, 0, 2025, NULL, 0), SHEET_NO_SUCH_CHOICE, MARK, MARK);
+    GIVES(sheet_prepare(0, PATTERN, 2, NULL, 0, answer, 2), SHEET_ROW_TOO_SMALL, MARK, MARK);
+    GIVES(sheet_prepare(0, PATTERN, 2, prepared, SHEET_PREPARED_ROW, NULL, 0), SHEET_ROW_TOO_SMALL, MARK, MARK);
+    GIVES(sheet_prepare(8, NULL, 0, NULL, 0, NULL, 0), SHEET_NO_SUCH_CHOICE, MARK, MARK);
+}
+
+/* An empty pattern has no steps; a prepared one is read by and written by where text and output are empty. */
+static void by_prepared(void) {
+    by_no_prepared_pattern();
+    GIVES(prepare(NULL, 0), SHEET_ACCEPTED, 0, 0);
+    GIVES(prepared_write(prepared, SHEET_PREPARED_ROW, NULL, 0, answer, 2), SHEET_ACCEPTED, 0, 0);
+    GIVES(prepared_read(0, prepared, SHEET_PREPARED_ROW, NULL, 0, answer, SHEET_READ_ANSWER), SHEET_ACCEPTED, 0, 0);
+    GIVES(prepared_list(prepared, SHEET_PREPARED_ROW, NULL, 0, answer, 2), SHEET_ACCEPTED, 0, 0);
+    GIVES(sheet_prepared_check(0, prepared, SHEET_PREPARED_ROW, 2025, answer, SHEET_CHECK_ANSWER), SHEET_ACCEPTED, 1, 0);
+    GIVES(prepare(PATTERN, 2), SHEET_ACCEPTED, 1, 0);
+    GIVES(prepared_write(prepared, SHEET_PREPARED_ROW, NULL, 0, answer, 2), SHEET_NO_ROOM, 2, 0);
+    GIVES(prepared_read(0, prepared, SHEET_PREPARED_ROW, NULL, 0, answer, SHEET_READ_ANSWER), SHEET_TOO_FEW, 0, 0);
+    GIVES(prepared_list(prepared, SHEET_PREPARED_ROW, NEWLINE, 1, answer, 2), SHEET_SHORT_ROW, 0, 0);
+    GIVES(prepared_write(prepared, SHEET_PREPARED_ROW - 1, NULL, 0, answer, 2), SHEET_NOT_PREPARED, MARK, MARK);
+    GIVES(prepare(QUOTE, 1), SHEET_LONE_QUOTE, 0, 0);
+    GIVES(prepared_write(prepared, SHEET_PREPARED_ROW, NULL, 0, answer, 2), SHEET_LONE_QUOTE, 0, 0);
+}
+
 /* An empty pattern needs no output, and no changes undo nothing. */
 static void by_mending(void) {
     GIVES(sheet_mend(0, NULL, 0, 2025, NULL, 0, changes, SHEET_CHANGES_ROW, answer, 2), SHEET_ACCEPTED, 0, 0);
@@ -191,6 +246,7 @@ int main(void) {
     by_choices();
     by_books();
     by_lists();
+    by_prepared();
     by_mending();
     by_stamps();
     by_others();

@@ -26,6 +26,7 @@ static uint8_t book[SHEET_BOOK_ROW];
 static uint8_t file[SHEET_LONGEST_BOOK];
 static int32_t days_read[LINES], months_read[LINES], years_read[LINES];
 static uint32_t codes_read[LINES];
+static uint64_t prepared[SHEET_PREPARED_ROW];
 
 /* Calls a function by the first bytes of the pattern. */
 typedef void function(size_t length);
@@ -131,6 +132,39 @@ static void check(size_t length) {
     sheet_check_with(SHEET_SECOND_EDITION, pattern, length, 2025, answer, SHEET_CHECK_ANSWER);
 }
 
+static uint32_t write_prepared(size_t room) {
+    return sheet_prepared_write(book, sizeof book, prepared, SHEET_PREPARED_ROW, -5879611, 12, 30, 366, 53, 6,
+                                UINT64_C(43200000000000), -86399, text, room, answer, SHEET_WRITE_ANSWER);
+}
+
+/* With one pair: written with room and without, and with all choices read, also as a list, and checked. */
+static void use_prepared(void) {
+    if (write_prepared(0) == SHEET_NO_ROOM)
+        write_prepared((size_t)answer[0] - 1);
+    if (write_prepared(SHEET_LONGEST_TEXT) != SHEET_ACCEPTED)
+        return;
+    size_t written = (size_t)answer[0];
+    for (uint32_t choices = 0; choices <= SHEET_STRICT + SHEET_SECOND_EDITION; choices += SHEET_STRICT) {
+        sheet_prepared_read(choices, book, sizeof book, prepared, SHEET_PREPARED_ROW, text, written, 2025, answer,
+                            SHEET_READ_ANSWER);
+        sheet_prepared_read_list(choices, book, sizeof book, prepared, SHEET_PREPARED_ROW, text, written, 2025, days_read, LINES,
+                                 months_read, LINES, years_read, LINES, codes_read, LINES, answer, SHEET_LIST_ANSWER);
+        sheet_prepared_check(choices, prepared, SHEET_PREPARED_ROW, 2025, answer, SHEET_CHECK_ANSWER);
+    }
+}
+
+static void prepare(size_t length) {
+    for (uint32_t pair = 0; pair <= SHEET_DATE_PAIR; pair++)
+        sheet_prepare(pair, pattern, length, prepared, SHEET_PREPARED_ROW, answer, SHEET_PREPARE_ANSWER);
+}
+
+static void prepare_and_use(size_t length) {
+    for (uint32_t pair = 0; pair <= SHEET_DATE_PAIR; pair++) {
+        sheet_prepare(pair, pattern, length, prepared, SHEET_PREPARED_ROW, answer, SHEET_PREPARE_ANSWER);
+        use_prepared();
+    }
+}
+
 /* In both editions, with room and without, and undone where it is mended. */
 static void mend(size_t length) {
     static uint8_t mended[SHEET_LONGEST_PATTERN];
@@ -226,6 +260,8 @@ int main(void) {
     all &= holds("split", split, SHEET_MOST_STACK);
     all &= holds("units", tell_units, SHEET_MOST_STACK);
     all &= holds("check", check, SHEET_MOST_STACK);
+    all &= holds("prepare", prepare, SHEET_MOST_STACK);
+    all &= holds("prepare, and by prepared", prepare_and_use, SHEET_MOST_STACK);
     all &= holds("mend, undo", mend, SHEET_MEND_STACK);
     all &= holds("parse_offset, was_read", parse_offset, SHEET_MOST_STACK);
     all &= holds("day, day_number", days, SHEET_MOST_STACK);

@@ -180,7 +180,7 @@ fn came_back(edition: Edition, symbol: &[u8], text: &[u8], own: &[u8], current_y
     }
 }
 
-fn verdict(number: u32, answer: [i64; raw::CHECK_ANSWER]) -> Result<Verdict, Refusal> {
+pub(crate) fn verdict(number: u32, answer: [i64; raw::CHECK_ANSWER]) -> Result<Verdict, Refusal> {
     Refusal::unless_accepted(number, &answer)?;
     Ok(match answer {
         [1, ..] => Verdict::Yes,

@@ -3,7 +3,7 @@ use std::iter::FusedIterator;
 use std::ops::Range;
 
 /// In the place of an opened book: the English names.
-const NO_BOOK: &[u8] = &[];
+pub(crate) const NO_BOOK: &[u8] = &[];
 
 /// What a list was read as, a cell for each of its lines. A line that was refused has zeros beside its code.
 #[derive(Clone, Debug, Default, PartialEq, Eq, Hash)]
@@ -132,10 +132,17 @@ pub fn read_list_by_into(
     stored(choices, book.row(), pattern, text, current_year, rows)
 }
 
-/// The columns in rows that have just as many cells as there are lines.
 fn columns(choices: Choices, book: &[u8], pattern: &[u8], text: &[u8], current_year: i32) -> Result<Columns, Refusal> {
+    columns_of(text, |rows| stored(choices, book, pattern, text, current_year, rows))
+}
+
+/// What a reader of a text lays into rows that have just as many cells as there are lines.
+pub(crate) fn columns_of(
+    text: &[u8],
+    read: impl FnOnce(Rows<'_>) -> Result<usize, Refusal>,
+) -> Result<Columns, Refusal> {
     let mut columns = Columns::of_zeros(count_lines(text));
-    stored(choices, book, pattern, text, current_year, columns.rows())?;
+    read(columns.rows())?;
     Ok(columns)
 }
 

@@ -64,7 +64,7 @@ fn version() {
 fn texts_of_refusals() {
     let (by_number, of_others) = texts();
     let numbers: Vec<u32> = by_number.keys().copied().collect();
-    assert_eq!(numbers, (0..=30).chain(100..=104).collect::<Vec<_>>());
+    assert_eq!(numbers, (0..=30).chain(100..=105).collect::<Vec<_>>());
     for number in (0..=1000).chain([u32::MAX]) {
         assert_eq!(
             raw::refusal_text(number),
@@ -93,6 +93,7 @@ fn constants() {
     ours.extend(of_raw!(BOOK_MARK BOOK_VERSION BOOK_LENGTH BOOK_NAME));
     ours.extend(of_raw!(LIST_ANSWER LINE_ANSWER LINE_READING SHORT_ROW NO_LINE));
     ours.extend(of_raw!(MEND_ANSWER CHANGES_ROW UNDO_ANSWER MOST_CHANGES CHANGE MEND_STACK MENDED_TOO_LONG MISFIT));
+    ours.extend(of_raw!(PREPARED_ROW PREPARE_ANSWER NOT_PREPARED));
     ours.extend(of_raw!(LONGEST_STAMP RFC_READ_ANSWER RFC_WRITE_ANSWER));
     ours.extend(of_raw!(NOT_STAMP STAMP_RANGE LEAP_SECOND STAMP_YEAR STAMP_OFFSET));
     ours.extend(of_raw!(WIDE_MONTHS SHORT_MONTHS WIDE_WEEKDAYS SHORT_WEEKDAYS TWO_LETTER_WEEKDAYS NARROW_WEEKDAYS));

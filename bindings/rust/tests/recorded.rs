@@ -90,6 +90,25 @@ fn at_the_boundaries_of_refusals() {
     all_are_given(BOUNDARIES, 1667);
 }
 
+/// The writes, reads, checks and lists among them, asked for by a prepared pattern, have the same answers.
+#[test]
+fn by_prepared_patterns() {
+    for (file, least) in [(RECORDED, 5000), (BOUNDARIES, 700)] {
+        let mut prepared = recordings(file);
+        prepared.retain(|recording| has_a_pattern_to_prepare(&recording.request));
+        for recording in &mut prepared {
+            recording.request.insert_str(0, "prepared ");
+        }
+        assert!(prepared.len() > least, "only {}", prepared.len());
+        assert_eq!(differing(&prepared), []);
+    }
+}
+
+fn has_a_pattern_to_prepare(request: &str) -> bool {
+    let word = request.split(' ').next().unwrap_or_default();
+    ["write", "write_date", "read", "read_date", "check", "list"].contains(&word)
+}
+
 #[test]
 fn a_wrong_answer_of_the_rust_is_reported() {
     a_wrong_one_is_reported(RECORDED);

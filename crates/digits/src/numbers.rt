@@ -10,7 +10,7 @@ use crate::laying::put_byte;
 use crate::padded::put_padded;
 
 // Two digits, which most numbers of a date have.
-fn put_two(n: u32, out: &mut [u8], at: usize) -> usize
+pub fn put_two(n: u32, out: &mut [u8], at: usize) -> usize
     requires { ⌜ (n < 100) × (at + 2 ≤ length (now out)) ⌝ }
     ensures { λ r. ⌜ Laid (now (out .entry)) (now (out .exit)) at r (text.digits 2 n) ⌝ }
 {
@@ -33,7 +33,7 @@ pub fn put_short(n: u32, k: usize, out: &mut [u8], at: usize) -> usize
 }
 
 // Four digits, which most years have.
-fn put_four(n: u32, out: &mut [u8], at: usize) -> usize
+pub fn put_four(n: u32, out: &mut [u8], at: usize) -> usize
     requires { ⌜ (n < 10000) × (at + 4 ≤ length (now out)) ⌝ }
     ensures { λ r. ⌜ Laid (now (out .entry)) (now (out .exit)) at r (text.digits 4 n) ⌝ }
 {

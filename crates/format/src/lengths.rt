@@ -40,7 +40,7 @@ fn open_length(src: &[u8]) -> usize
 }
 
 // The digits, and a minus where the year is negative.
-fn year_length(z: i32, k: usize) -> usize
+pub fn year_length(z: i32, k: usize) -> usize
     requires { ⌜ length (signedText k z) ≤ 2048 ⌝ }
     ensures { λ r. ⌜ r ≡ length (signedText k z) ⌝ }
 {
@@ -92,7 +92,7 @@ fn length_of_name(book: &[u8], names: NameList, f: Fields) -> usize
     name_length(book, names, place_of(names, f))
 }
 
-fn rule_length(book: &[u8], rule: Rule, f: Fields) -> usize
+pub fn rule_length(book: &[u8], rule: Rule, f: Fields) -> usize
     requires { ⌜ fieldsCheck f ≡ Fine ⌝ }
     requires { ⌜ length (ruleText (bookIn (now book)) rule f) ≤ 2048 ⌝ }
     ensures { λ r. ⌜ r ≡ length (ruleText (bookIn (now (book .entry))) rule f) ⌝ }

@@ -36,7 +36,7 @@ taken-cell a b c values behind n k h =
     let l : k < length (values ++ behind) = omega (arith, length-append values behind) in
     rw e (List·getD-append (values ++ behind) (replicate n (pos 0)) (pos 0) k l ∙ List·getD-append values behind (pos 0) k h)
 
-few-details : (why : Refusal) → length (details why) ≤ 2
+pub few-details : (why : Refusal) → length (details why) ≤ 2
 few-details why =
     subst (λ (ds : List ℤ). length ds ≤ 2) (tells-details why refl)
     (when-is (λ (more : List ℤ). length (detailOf (told why .first) ∷ more) ≤ 2) (told why .two) (λ _. omega arith) (λ _. omega arith))
@@ -69,7 +69,7 @@ refused-row why unit old h =
     ∙ refused-cell ds (3 + unitNumber unit) few (omega arith) (omega (arith, unit-below unit))
     ∙ sym (get-entry 15 (valueOf []) (pos 0) (unitNumber unit) (unit-below unit))
 
-row-of : (checked : Checked) (w : Walk) (unit : ParseUnit) (old : List ℤ) → length old ≡ 48
+pub row-of : (checked : Checked) (w : Walk) (unit : ParseUnit) (old : List ℤ) → length old ≡ 48
     → getD (laid (inRow 48 (readAnswer (readBy checked w)) .values) old) (3 + unitNumber unit) (pos 0) ≡ cell unit (readBy checked w)
 row-of Fine (walked taken gave) unit old h = taken-row taken gave unit old h
 row-of Fine (refusedAt Fine) unit old h = taken-row 0 [] unit old h

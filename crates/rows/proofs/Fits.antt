@@ -62,7 +62,7 @@ text-fits s h =
 
 -- reading
 
-abbrev WalkFits : Walk → Type 0
+abbrev pub WalkFits : Walk → Type 0
 WalkFits (walked taken gave) = NumberFits taken
 WalkFits (refusedAt checked) = CheckedFits checked
 
@@ -80,7 +80,7 @@ module _ (choices : Choices) (book : Book) (current : ℕ) where
   part-fits i at room (got n c) next h k w on = on n c w
   part-fits i at room (stopped why place) next h k w on = (h, (omega arith, tt))
 
-  walk-fits : (i at : ℕ) (ss : List Step) (s : List ℕ) (gave : List Gave) → NumberFits (i + length ss) → NumberFits (at + length s)
+  pub walk-fits : (i at : ℕ) (ss : List Step) (s : List ℕ) (gave : List Gave) → NumberFits (i + length ss) → NumberFits (at + length s)
       → WalkFits (walk choices book current i at ss s gave)
   unfolding walk
   walk-fits i at [] s gave h k = rest-fits (choices .strict) at s gave (omega arith)

@@ -18,7 +18,7 @@ use Rattle.meaning.specs.OpenedBooks.{openedSize, bookNames, openedNames, openC
 use Rattle.meaning.specs.declared.Checked.{Checked}
 use Rattle.meaning.specs.declared.Checked.the-variants.{Fine, Refused}
 use Rattle.meaning.specs.declared.Refusal.the-variants.{NoRoom, BookMark, BookVersion, BookCut, BookName}
-use Rattle.sheet.proofs.Fits.{wrote-fits}
+use Rattle.rows.proofs.WriteFits.{wrote-fits}
 use Rattle.rows.proofs.entries.Fits.{else-fits, unless-fits}
 use Rattle.rows.specs.Fits.{NumberFits, CheckedFits, WroteFits}
 

@@ -1,12 +1,11 @@
 -- The answers to what can be lent fit a row: each slice has fewer than 2 ^ 63 bytes, and the current year has 32 bits.
 use mathlib.Core.Bool.{Bool, false}
 use mathlib.Core.List.{List}
-use mathlib.Core.Path.{_≡_, refl}
 use Prim.Native.Char.{code}
 use Prim.Native.Nat.{ℕ, _+_, _*_}
 use native.Mathlib.Omega.{arith}
 use lib.Dec.{eqb, leb}
-use lib.IntN.{ℤ, pos, negℤ, natAbs}
+use lib.IntN.{ℤ, pos, negℤ}
 use lib.ListN.{length, getD, drop, length-drop}
 use Rattle.pattern.proofs.parts.Few.{few-steps}
 use mir.Syntax.{w32}
@@ -16,7 +15,7 @@ use Rattle.laws.proofs.Fields.{allowed}
 use Rattle.laws.proofs.OpenedBooks.{opened-text-fits}
 use Rattle.laws.proofs.Tests.{when-is}
 use Rattle.meaning.proofs.Books.{english-valid}
-use Rattle.meaning.specs.Answers.{_else_, refuseUnless, within, patternCheck, fieldsCheck, roomCheck, textCheck, details}
+use Rattle.meaning.specs.Answers.{_else_, refuseUnless, patternCheck, fieldsCheck, roomCheck, textCheck, details}
 use Rattle.meaning.specs.Bytes.{when, plus}
 use Rattle.meaning.specs.Calendar.{isDate, dateNumber}
 use Rattle.meaning.specs.Days.{isShort, dayCheck, dayNumberBy, dayNumber}
@@ -25,7 +24,7 @@ use Rattle.meaning.specs.OpenedBooks.{bookIn}
 use Rattle.meaning.specs.Numerals.{Signed}
 use Rattle.meaning.specs.Readers.{Got, got, stopped}
 use Rattle.meaning.specs.Trust.{SaysOf, Says}
-use Rattle.meaning.specs.Whole.{text, writeCheck, wroteBy, write, offsetBy, seconds, hourAndMinute, twoAt, parseOffset}
+use Rattle.meaning.specs.Whole.{text, writeCheck, write, offsetBy, seconds, hourAndMinute, twoAt, parseOffset}
 use Rattle.meaning.specs.declared.Checked.{Checked}
 use Rattle.meaning.specs.declared.Checked.the-variants.{Fine, Refused}
 use Rattle.meaning.specs.declared.Edition.{Edition}
@@ -35,42 +34,16 @@ use Rattle.meaning.specs.declared.Offset.{Offset}
 use Rattle.meaning.specs.declared.Offset.the-variants as offset
 use Rattle.meaning.specs.declared.Pair.{Pair}
 use Rattle.meaning.specs.declared.Pair.the-variants.{Full}
-use Rattle.meaning.specs.declared.Refusal.the-variants.{FieldRange, NoRoom, OffsetLength, OffsetRange, NoSuchDay, NoDayNumber}
+use Rattle.meaning.specs.declared.Refusal.the-variants.{NoRoom, OffsetLength, OffsetRange, NoSuchDay, NoDayNumber}
 use Rattle.meaning.specs.declared.Verdict.{Verdict}
 use Rattle.meaning.specs.declared.Verdict.the-variants as verdict
 use Rattle.rows.proofs.entries.Fits.{else-fits, unless-fits}
 use Rattle.rows.specs.Fits.{NumberFits, CheckedFits, WroteFits, OffsetFits, DayNumberFits, VerdictFits}
 use Rattle.parse.proofs.steps.Within.{Within, within-take}
+use Rattle.rows.proofs.WriteFits.{fields-fit, wrote-fits}
 use Rattle.rows.proofs.Fits.{pattern-fits, trust-fits, text-fits}
 
 -- writing
-
--- a check whose refusal fits, as a type that shows the check
-record Fitting (checked : Checked) : Type 0 where
-  fits : CheckedFits checked
-
-field-fits : (t : Bool) (n : ℕ) (next : Checked) → NumberFits n → Fitting next → Fitting (refuseUnless t (FieldRange n) else next)
-unfolding details
-field-fits t n next h k =
-    record { fits = else-fits (refuseUnless t (FieldRange n)) next (unless-fits t (FieldRange n) (h, tt)) (λ _. k .fits) }
-
-last-fits : (t : Bool) (n : ℕ) → NumberFits n → Fitting (refuseUnless t (FieldRange n))
-unfolding details
-last-fits t n h = record { fits = unless-fits t (FieldRange n) (h, tt) }
-
-fitting-fields : (f : Fields) → Fitting (fieldsCheck f)
-unfolding fieldsCheck
-fitting-fields f =
-    field-fits (within 1 5879611 (natAbs (f .year))) 1 _ (omega arith)
-    (field-fits (within 1 12 (f .month)) 2 _ (omega arith)
-    (field-fits (within 1 31 (f .day)) 3 _ (omega arith)
-    (field-fits (within 1 366 (f .doy)) 4 _ (omega arith)
-    (field-fits (within 1 53 (f .week)) 5 _ (omega arith)
-    (field-fits (within 0 6 (f .wday)) 6 _ (omega arith)
-    (field-fits (within 0 86399999999999 (f .nanos)) 7 _ (omega arith) (last-fits (within 0 86399 (natAbs (f .offset))) 8 (omega arith))))))))
-
-pub fields-fit : (f : Fields) → CheckedFits (fieldsCheck f)
-fields-fit f = fitting-fields f .fits
 
 write-check-fits : (pair : Pair) (book p : List ℕ) (f : Fields) (room : ℕ) → NumberFits (length p) → CheckedFits (writeCheck pair (bookIn book) p f room)
 unfolding writeCheck details
@@ -79,10 +52,6 @@ write-check-fits pair book p f room h =
     else-fits (patternCheck p) (fieldsCheck f else roomCheck room n) (pattern-fits p h)
     (λ fine. else-fits (fieldsCheck f) (roomCheck room n) (fields-fit f)
     (λ fields. unless-fits (leb n room) (NoRoom n) (omega (arith, opened-text-fits book pair p f fine fields), tt)))
-
-pub wrote-fits : (checked : Checked) (t : List ℕ) → CheckedFits checked → (checked ≡ Fine → NumberFits (length t)) → WroteFits (wroteBy checked t)
-wrote-fits Fine t h k = k refl
-wrote-fits (Refused why) t h k = h
 
 pub write-fits : (pair : Pair) (book p : List ℕ) (f : Fields) (out : List ℕ) → NumberFits (length p) → NumberFits (length out)
     → WroteFits (write pair (bookIn book) p f out)

@@ -23,7 +23,8 @@ use Rattle.meaning.specs.declared.Stamped.{Stamped}
 use Rattle.meaning.specs.declared.Stamped.the-variants as stamped
 use Rattle.stamps.proofs.writing.Lengths.{text-short}
 use Rattle.rows.proofs.Fits.{text-fits}
-use Rattle.sheet.proofs.Fits.{fields-fit, day-fits, wrote-fits}
+use Rattle.rows.proofs.WriteFits.{fields-fit, wrote-fits}
+use Rattle.sheet.proofs.Fits.{day-fits}
 use Rattle.rows.proofs.entries.Fits.{else-fits, unless-fits}
 use Rattle.rows.specs.Fits.{NumberFits, WhyFits, CheckedFits, WroteFits, StampedFits}
 

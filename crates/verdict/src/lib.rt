@@ -100,7 +100,7 @@ fn witness(need: Need) -> Fields
 }
 
 // What the check answers, by the first part whose need is not met.
-fn shown(unmet: Unmet) -> Verdict
+pub fn shown(unmet: Unmet) -> Verdict
     ensures { λ r. ⌜ r ≡ trust.shown unmet ⌝ }
 {
     match unmet {

@@ -1,4 +1,4 @@
--- One lent row in the loop over the lines, whatever its cells are: what is still to be stored, laid over what is there, gives the row in
+-- One lent row in the loop over the lines, whatever its cells are and however a line is read: what is still to be stored, laid over what is there, gives the row in
 -- the end. A turn stores the next line's cell.
 use mathlib.Core.List.{List, [], _∷_, map}
 use mathlib.Core.Path.{_≡_, refl, ap, _∙_}
@@ -34,23 +34,23 @@ module _ {B : Type 0} (f : Reading → B) (rs : List Reading) (old : List B) whe
 
 -- All four rows: the lines from a place on are still to be read.
 
-abbrev readFrom : Choices → Book → List ℕ → List ℕ → ℤ → ℕ → List Reading
-readFrom choices book p s current at = map (λ line. read choices book p line current) (lines (drop at s))
+abbrev readFrom : (List ℕ → Reading) → List ℕ → ℕ → List Reading
+readFrom reading s at = map reading (lines (drop at s))
 
 abbrev lineAt : List ℕ → ℕ → List ℕ
 lineAt s at = take (lineEnd s at - at) (drop at s)
 
-pub record Unfinished (choices : Choices) (book : Book) (p s : List ℕ) (current : ℤ) (old rows : Rows) (at i : ℕ) : Type 0 where
+pub record Unfinished (reading : List ℕ → Reading) (s : List ℕ) (old rows : Rows) (at i : ℕ) : Type 0 where
   pub room : Room (length (lines s)) old
   pub inside : at ≤ length s
   pub count : i + length (lines (drop at s)) ≡ length (lines s)
-  pub days : Stored (cell DayOfMonth) (readFrom choices book p s current 0) (readFrom choices book p s current at) (old .days) (rows .days) i
-  pub months : Stored (cell Month) (readFrom choices book p s current 0) (readFrom choices book p s current at) (old .months) (rows .months) i
-  pub years : Stored (cell Year) (readFrom choices book p s current 0) (readFrom choices book p s current at) (old .years) (rows .years) i
-  pub codes : Stored codeOf (readFrom choices book p s current 0) (readFrom choices book p s current at) (old .codes) (rows .codes) i
+  pub days : Stored (cell DayOfMonth) (readFrom reading s 0) (readFrom reading s at) (old .days) (rows .days) i
+  pub months : Stored (cell Month) (readFrom reading s 0) (readFrom reading s at) (old .months) (rows .months) i
+  pub years : Stored (cell Year) (readFrom reading s 0) (readFrom reading s at) (old .years) (rows .years) i
+  pub codes : Stored codeOf (readFrom reading s 0) (readFrom reading s at) (old .codes) (rows .codes) i
 
-module _ (choices : Choices) (book : Book) (p s : List ℕ) (current : ℤ) (old : Rows) where
-  pub nothing-read : Room (length (lines s)) old → Unfinished choices book p s current old old 0 0
+module _ (reading : List ℕ → Reading) (s : List ℕ) (old : Rows) where
+  pub nothing-read : Room (length (lines s)) old → Unfinished reading s old old 0 0
   nothing-read r =
       record {
         room = r;
@@ -63,7 +63,7 @@ module _ (choices : Choices) (book : Book) (p s : List ℕ) (current : ℤ) (old
       }
 
   -- a line is left, and so is its cell in each row
-  pub cell-left : (rows : Rows) (at i : ℕ) → Unfinished choices book p s current old rows at i → at < length s → Room (suc i) rows
+  pub cell-left : (rows : Rows) (at i : ℕ) → Unfinished reading s old rows at i → at < length s → Room (suc i) rows
   cell-left rows at i u h =
       let some : 0 < length (lines (drop at s)) = rw (line-there s at h) (omega arith) in
       let left : suc i ≤ length (lines s) = omega (arith, u .count) in
@@ -74,15 +74,15 @@ module _ (choices : Choices) (book : Book) (p s : List ℕ) (current : ℤ) (old
         codes = omega (arith, u .room .codes, u .codes .long);
       }
 
-  pub line-stored : (rows : Rows) (at i : ℕ) → Unfinished choices book p s current old rows at i → at < length s
-      → (day month year : ℤ) (code : ℕ) → day ≡ cell DayOfMonth (read choices book p (lineAt s at) current) → month ≡ cell Month (read choices book p (lineAt s at) current)
-      → year ≡ cell Year (read choices book p (lineAt s at) current) → code ≡ codeOf (read choices book p (lineAt s at) current)
-      → Unfinished choices book p s current old
+  pub line-stored : (rows : Rows) (at i : ℕ) → Unfinished reading s old rows at i → at < length s
+      → (day month year : ℤ) (code : ℕ) → day ≡ cell DayOfMonth (reading (lineAt s at)) → month ≡ cell Month (reading (lineAt s at))
+      → year ≡ cell Year (reading (lineAt s at)) → code ≡ codeOf (reading (lineAt s at))
+      → Unfinished reading s old
       (rowsOf (set (rows .days) i day) (set (rows .months) i month) (set (rows .years) i year) (set (rows .codes) i code)) (nextLine s (lineEnd s at)) (i + 1)
   line-stored rows at i u h day month year code d m y c =
       let there = line-there s at h in
-      let next = readFrom choices book p s current (nextLine s (lineEnd s at)) in
-      let this : readFrom choices book p s current at ≡ read choices book p (lineAt s at) current ∷ next = rw there in
+      let next = readFrom reading s (nextLine s (lineEnd s at)) in
+      let this : readFrom reading s at ≡ reading (lineAt s at) ∷ next = rw there in
       record {
         room = u .room;
         inside = omega arith;
@@ -93,13 +93,16 @@ module _ (choices : Choices) (book : Book) (p s : List ℕ) (current : ℤ) (old
         codes = one-stored codeOf _ (old .codes) _ next (rows .codes) i code c (rw this at (u .codes));
       }
 
-  pub all-read : (rows : Rows) (at i : ℕ) → Unfinished choices book p s current old rows at i → length s ≤ at
-      → rows ≡ laid (readLines choices book p s current) old
-  unfolding readLines
-  all-read rows at i u h =
-      let none : readFrom choices book p s current at ≡ [] = rw (line-none s at h) in
+  pub all-laid : (rows : Rows) (at i : ℕ) → Unfinished reading s old rows at i → length s ≤ at → rows ≡ laid (map reading (lines s)) old
+  all-laid rows at i u h =
+      let none : readFrom reading s at ≡ [] = rw (line-none s at h) in
       let d = all-stored (cell DayOfMonth) _ (old .days) (rows .days) i (rw none at (u .days)) in
       let m = all-stored (cell Month) _ (old .months) (rows .months) i (rw none at (u .months)) in
       let y = all-stored (cell Year) _ (old .years) (rows .years) i (rw none at (u .years)) in
       let c = all-stored codeOf _ (old .codes) (rows .codes) i (rw none at (u .codes)) in
       ap (λ (l : List ℤ). rowsOf l (rows .months) (rows .years) (rows .codes)) d ∙ rw (m, y, c)
+
+pub all-read : (choices : Choices) (book : Book) (p s : List ℕ) (current : ℤ) (old rows : Rows) (at i : ℕ)
+    → Unfinished (λ line. read choices book p line current) s old rows at i → length s ≤ at → rows ≡ laid (readLines choices book p s current) old
+unfolding readLines
+all-read choices book p s current = all-laid (λ line. read choices book p line current) s

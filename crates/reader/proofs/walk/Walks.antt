@@ -1,6 +1,6 @@
 -- Laws of the walk over the parts of a pattern: a part more, and the end.
 use mathlib.Core.Bool.{true, false}
-use mathlib.Core.List.{List, _∷_}
+use mathlib.Core.List.{List, [], _∷_}
 use mathlib.Core.Logic.{_⊎_, inl, inr}
 use mathlib.Core.Path.{_≡_, refl, _∙_}
 use Prim.Native.Nat.{ℕ, suc, _+_, _≤_, _<_}
@@ -11,12 +11,11 @@ use lib.Seq.{drop-drop}
 use borrow.Author.Tests.{lt-ltb}
 use Rattle.laws.proofs.Pluses.{behindPart}
 use Rattle.laws.proofs.Readers.{none-left}
-use Rattle.meaning.specs.Answers.{restCheck}
 use Rattle.meaning.specs.Bytes.{when}
 use Rattle.meaning.specs.Names.{Book}
 use Rattle.meaning.specs.Readers.{Got, got, stopped}
 use Rattle.meaning.specs.Reading.{readStep}
-use Rattle.meaning.specs.Whole.{Gave, Walk, walked, refusedAt, walkedBy, walk}
+use Rattle.meaning.specs.Whole.{Gave, Walk, walked, refusedAt, walk}
 use Rattle.meaning.specs.Writing.{Step, steps}
 use Rattle.meaning.specs.declared.Carried.{Carried}
 use Rattle.meaning.specs.declared.Checked.the-variants.{Refused}
@@ -56,7 +55,7 @@ part-inside edition book text at current step e h =
 
 module _ (choices : Choices) (book : Book) (current i : ℕ) (text : List ℕ) (gave : List Gave) where
   -- what follows a part that began at a place, by what it gave
-  abbrev walkBy : ℕ → List Step → PartRead → Walk
+  abbrev pub walkBy : ℕ → List Step → PartRead → Walk
   walkBy at ss (read.Stopped why place) = refusedAt (Refused (InPart why i place))
   walkBy at ss (read.Got c next) =
       walk choices book current (i + 1) (next .at) ss (drop (next .at) text) (record { carried = c; start = at; end = next .at } ∷ gave)
@@ -67,7 +66,7 @@ module _ (choices : Choices) (book : Book) (current i : ℕ) (text : List ℕ) (
   by-part at ss (got n c) = rw (drop-drop n at text, add-one i)
   by-part at ss (stopped why place) = refl
 
-  walk-on : (at : ℕ) (step : Step) (ss : List Step)
+  pub walk-on : (at : ℕ) (step : Step) (ss : List Step)
       → walk choices book current i at (step ∷ ss) (drop at text) gave
       ≡ walkBy at ss (partAt at (readStep choices book current step (drop at text)))
   unfolding walk
@@ -101,17 +100,21 @@ module _ (choices : Choices) (book : Book) (current i : ℕ) (text : List ℕ) (
     walk-goes-on e same = walk-step e ∙ rw same
 
   -- behind the last part, where text is left over and where none is
-  module _ (at place : ℕ) (p : List ℕ) (end : length p ≤ place) where
-    walk-ends : walk choices book current i at (steps (choices .pair) (drop place p)) (drop at text) gave
-        ≡ walkedBy (restCheck (choices .strict) at (drop at text)) at gave
+  module _ (at : ℕ) where
+    pub end-left : choices .strict ≡ true → at < length text → walk choices book current i at [] (drop at text) gave ≡ refusedAt (Refused (TextLeft at))
     unfolding walk
-    walk-ends = rw (steps-done (choices .pair) p place end)
+    end-left strict h = rw (strict, lt-ltb 0 (length (drop at text)) (rw length-drop (omega arith)))
 
+    pub end-done : (choices .strict ≡ false) ⊎ (length text ≤ at) → walk choices book current i at [] (drop at text) gave ≡ walked at gave
+    unfolding walk
+    end-done (inl strict) = rw strict
+    end-done (inr h) = rw (none-left (choices .strict) at (drop at text) (rw length-drop (omega arith)))
+
+  module _ (at place : ℕ) (p : List ℕ) (end : length p ≤ place) where
     pub walk-left : choices .strict ≡ true → at < length text
         → walk choices book current i at (steps (choices .pair) (drop place p)) (drop at text) gave ≡ refusedAt (Refused (TextLeft at))
-    walk-left strict h = walk-ends ∙ rw (strict, lt-ltb 0 (length (drop at text)) (rw length-drop (omega arith)))
+    walk-left strict h = rw (steps-done (choices .pair) p place end) (end-left at strict h)
 
     pub walk-done : (choices .strict ≡ false) ⊎ (length text ≤ at)
         → walk choices book current i at (steps (choices .pair) (drop place p)) (drop at text) gave ≡ walked at gave
-    walk-done (inl strict) = walk-ends ∙ rw strict
-    walk-done (inr h) = walk-ends ∙ rw (none-left (choices .strict) at (drop at text) (rw length-drop (omega arith)))
+    walk-done ends = rw (steps-done (choices .pair) p place end) (end-done at ends)

@@ -3,7 +3,7 @@
 use crate::lines::LONGEST;
 use crate::pair::Pair;
 use crate::words::Words;
-use crate::{books, checking, days, lists, mending, reading, splitting, stamps, writing};
+use crate::{books, checking, days, lists, mending, prepared, reading, splitting, stamps, writing};
 use sheet::Refusal;
 
 const BAD_REQUEST: &str = "bad request";
@@ -32,6 +32,7 @@ fn answer_to(line: &[u8]) -> Option<String> {
         b"mend" => mending::answer(words),
         b"rfc_read" => stamps::answer_read(words),
         b"rfc_write" => stamps::answer_write(words),
+        b"prepared" => prepared::answer(words),
         _ => None,
     }
 }

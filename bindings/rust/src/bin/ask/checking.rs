@@ -5,20 +5,25 @@ use crate::books::with_book;
 use crate::words::{of_fields, Words};
 use sheet::{Edition, Refusal, Verdict};
 
-pub fn answer(mut words: Words) -> Option<String> {
+pub fn answer(words: Words) -> Option<String> {
+    answered(words, |edition, pattern, current_year| {
+        let answer = checked(sheet::check_with(edition, pattern, current_year));
+        match edition {
+            Edition::First => agreed(checked(sheet::check(pattern, current_year)), answer),
+            Edition::Second => answer,
+        }
+    })
+}
+
+/// By the check that is given.
+pub fn answered(mut words: Words, check: impl FnOnce(Edition, &[u8], i32) -> String) -> Option<String> {
     let pattern = words.bytes()?;
     let current_year = words.number()?;
     let edition = words.edition();
     let book = words.book();
     words.end()?;
     // The answer is the same with every book, so that the check is given none.
-    Some(with_book(book, |_| {
-        let answer = checked(sheet::check_with(edition, &pattern, current_year));
-        match edition {
-            Edition::First => agreed(checked(sheet::check(&pattern, current_year)), answer),
-            Edition::Second => answer,
-        }
-    }))
+    Some(with_book(book, |_| check(edition, &pattern, current_year)))
 }
 
 pub fn checked(verdict: Result<Verdict, Refusal>) -> String {

@@ -12,15 +12,20 @@ use sheet::{raw, Book, Choices, Columns, Line, ParseUnit, Refusal};
 const MOST_ROWS: usize = 20_000;
 
 /// What is asked: a list, and how many cells each of the lent rows has.
-struct List {
-    choices: Choices,
-    pattern: Vec<u8>,
-    text: Vec<u8>,
-    current_year: i32,
-    rows: usize,
+pub struct List {
+    pub choices: Choices,
+    pub pattern: Vec<u8>,
+    pub text: Vec<u8>,
+    pub current_year: i32,
+    pub rows: usize,
 }
 
-pub fn answer(mut words: Words) -> Option<String> {
+pub fn answer(words: Words) -> Option<String> {
+    answered(words, List::answer)
+}
+
+/// By the reader of lists that is given.
+pub fn answered(mut words: Words, read: impl FnOnce(&List, Option<&Book>) -> String) -> Option<String> {
     let (pattern, text, current_year) = (words.bytes()?, words.bytes()?, words.number()?);
     let list = List {
         pattern,
@@ -31,7 +36,7 @@ pub fn answer(mut words: Words) -> Option<String> {
     };
     let book = words.book();
     words.end()?;
-    Some(with_book(book, |book| list.answer(book)))
+    Some(with_book(book, |book| read(&list, book)))
 }
 
 impl List {
@@ -84,6 +89,11 @@ impl List {
                 sheet::read_list_by(self.choices, book, pattern, text, self.current_year)
             }
         };
+        self.shown(columns)
+    }
+
+    /// What a function answers that makes its rows.
+    pub fn shown(&self, columns: Result<Columns, Refusal>) -> String {
         match columns {
             Ok(columns) => self.listed_or_short(&columns),
             Err(refusal) => refused(&refusal),
@@ -154,10 +164,10 @@ fn listed(columns: &Columns, lines: usize) -> String {
 }
 
 /// What a list returned, and left in the rows that it was lent.
-struct Lent {
-    number: u32,
-    answer: [i64; raw::LIST_ANSWER],
-    columns: Columns,
+pub struct Lent {
+    pub number: u32,
+    pub answer: [i64; raw::LIST_ANSWER],
+    pub columns: Columns,
 }
 
 /// A cell that no list lays at this place, and another one than its neighbours'.
@@ -166,7 +176,7 @@ fn mark(place: usize) -> i32 {
 }
 
 impl Lent {
-    fn filled(rows: usize) -> Lent {
+    pub fn filled(rows: usize) -> Lent {
         let marks: Vec<i32> = (0..rows).map(mark).collect();
         Lent {
             number: raw::ACCEPTED,
@@ -195,7 +205,7 @@ impl Lent {
     }
 
     /// Of an accepted list its columns; what is altered behind them, or by a refused one anywhere, is the answer in their place.
-    fn answer(&self) -> String {
+    pub fn answer(&self) -> String {
         let [first, second] = self.answer;
         let lines = match self.number {
             raw::ACCEPTED => first as usize,

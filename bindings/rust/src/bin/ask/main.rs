@@ -11,6 +11,7 @@ mod lists;
 mod marks;
 mod mending;
 mod pair;
+mod prepared;
 mod reader;
 mod reading;
 mod splitting;

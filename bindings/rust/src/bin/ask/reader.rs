@@ -2,7 +2,7 @@
 
 use crate::marks::ENTRY;
 use crate::pair::Pair;
-use sheet::{raw, Book, Choices, Reading, Refusal};
+use sheet::{raw, Book, Choices, Prepared, Reading, Refusal};
 
 /// All that a reader leaves in the row that it was lent.
 pub type Row = [i64; raw::READ_ANSWER];
@@ -15,6 +15,8 @@ pub enum Reader<'a> {
     With(Choices),
     /// The one with choices and a book.
     By(Choices, &'a Book),
+    /// The one of a pattern that is prepared first.
+    Prepared(Choices, Option<&'a Book>),
 }
 
 impl Reader<'_> {
@@ -24,6 +26,10 @@ impl Reader<'_> {
             Reader::Of(Pair::Date) => sheet::read_date(pattern, text, current_year),
             Reader::With(choices) => sheet::read_with(choices, pattern, text, current_year),
             Reader::By(choices, book) => sheet::read_by(choices, book, pattern, text, current_year),
+            Reader::Prepared(choices, None) => Prepared::with(choices, pattern).read_with(choices, text, current_year),
+            Reader::Prepared(choices, Some(book)) => {
+                Prepared::with(choices, pattern).read_by(choices, book, text, current_year)
+            }
         }
     }
 
@@ -44,6 +50,12 @@ impl Reader<'_> {
                     let (number, book) = (choices.number(), book.row());
                     let (b, b_len) = (book.as_ptr(), book.len());
                     raw::sheet_read_by(number, b, b_len, p, p_len, t, t_len, current_year, r, r_len)
+                }
+                Reader::Prepared(choices, book) => {
+                    let (number, book) = (choices.number(), book.map_or(&[][..], |book| book.row()));
+                    let prepared = Prepared::with(choices, pattern);
+                    let (b, b_len, p, p_len) = (book.as_ptr(), book.len(), prepared.row().as_ptr(), raw::PREPARED_ROW);
+                    raw::sheet_prepared_read(number, b, b_len, p, p_len, t, t_len, current_year, r, r_len)
                 }
             }
         };

@@ -5,9 +5,22 @@ use crate::books::with_book;
 use crate::pair::Pair;
 use crate::reader::{Reader, Row};
 use crate::words::Words;
-use sheet::{Choices, Reading, Refusal};
+use sheet::{Book, Choices, Reading, Refusal};
 
-pub fn answer(pair: Pair, mut words: Words) -> Option<String> {
+pub fn answer(pair: Pair, words: Words) -> Option<String> {
+    answered(pair, words, |choices, book, answer_of| match book {
+        Some(book) => answer_of(Reader::By(choices, book)),
+        None if choices == pair.choices() => agreed(answer_of(Reader::Of(pair)), answer_of(Reader::With(choices))),
+        None => answer_of(Reader::With(choices)),
+    })
+}
+
+/// By the readers that are chosen for the choices and the book, or for none.
+pub fn answered(
+    pair: Pair,
+    mut words: Words,
+    by: impl FnOnce(Choices, Option<&Book>, &dyn Fn(Reader) -> String) -> String,
+) -> Option<String> {
     let pattern = words.bytes()?;
     let text = words.bytes()?;
     let current_year = words.number()?;
@@ -15,11 +28,7 @@ pub fn answer(pair: Pair, mut words: Words) -> Option<String> {
     let book = words.book();
     words.end()?;
     let answer_of = |reader: Reader| answer_by(reader, &pattern, &text, current_year);
-    Some(with_book(book, |book| match book {
-        Some(book) => answer_of(Reader::By(choices, book)),
-        None if choices == pair.choices() => agreed(answer_of(Reader::Of(pair)), answer_of(Reader::With(choices))),
-        None => answer_of(Reader::With(choices)),
-    }))
+    Some(with_book(book, |book| by(choices, book, &answer_of)))
 }
 
 /// By the words that may stand behind a read, in this order.

@@ -1,7 +1,7 @@
 //! The functions that write, each as Rust calls it.
 
 use crate::pair::Pair;
-use sheet::{Book, Fields, Refusal};
+use sheet::{Book, Fields, Prepared, Refusal};
 
 #[derive(Clone, Copy)]
 pub enum Writer<'a> {
@@ -9,6 +9,8 @@ pub enum Writer<'a> {
     Of(Pair),
     /// Those with a book.
     By(Pair, &'a Book),
+    /// Those of a pattern that is prepared first.
+    Prepared(Pair, Option<&'a Book>),
 }
 
 impl Writer<'_> {
@@ -17,6 +19,8 @@ impl Writer<'_> {
             Writer::Of(Pair::Full) => sheet::write(pattern, fields),
             Writer::Of(Pair::Date) => sheet::write_date(pattern, fields),
             Writer::By(pair, book) => sheet::write_by(pair.choices(), book, pattern, fields),
+            Writer::Prepared(pair, None) => Prepared::with(pair.choices(), pattern).write(fields),
+            Writer::Prepared(pair, Some(book)) => Prepared::with(pair.choices(), pattern).write_by(book, fields),
         }
     }
 
@@ -25,6 +29,10 @@ impl Writer<'_> {
             Writer::Of(Pair::Full) => sheet::write_into(pattern, fields, out),
             Writer::Of(Pair::Date) => sheet::write_date_into(pattern, fields, out),
             Writer::By(pair, book) => sheet::write_by_into(pair.choices(), book, pattern, fields, out),
+            Writer::Prepared(pair, None) => Prepared::with(pair.choices(), pattern).write_into(fields, out),
+            Writer::Prepared(pair, Some(book)) => {
+                Prepared::with(pair.choices(), pattern).write_by_into(book, fields, out)
+            }
         }
     }
 }

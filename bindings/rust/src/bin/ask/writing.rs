@@ -7,18 +7,25 @@ use crate::marks::{filled, first_altered};
 use crate::pair::Pair;
 use crate::words::Words;
 use crate::writer::Writer;
-use sheet::{raw, Refusal};
+use sheet::{raw, Book, Refusal};
 
 pub const MOST_ROOM: usize = 4096;
 
-pub fn answer(pair: Pair, mut words: Words) -> Option<String> {
+pub fn answer(pair: Pair, words: Words) -> Option<String> {
+    answered(words, |book| {
+        book.map_or(Writer::Of(pair), |book| Writer::By(pair, book))
+    })
+}
+
+/// By the writer that is chosen for the book, or for none.
+pub fn answered(mut words: Words, writer: impl FnOnce(Option<&Book>) -> Writer<'_>) -> Option<String> {
     let pattern = words.bytes()?;
     let fields = words.fields()?;
     let room = words.number().filter(|room| *room <= MOST_ROOM)?;
     let book = words.book();
     words.end()?;
     Some(with_book(book, |book| {
-        let writer = book.map_or(Writer::Of(pair), |book| Writer::By(pair, book));
+        let writer = writer(book);
         let mut out = filled(room);
         let wrote = writer.write_into(&pattern, &fields, &mut out);
         let made = writer.write(&pattern, &fields);

@@ -11,6 +11,7 @@ use mir.ValLaws.{toZ-ofZ}
 use Rattle.laws.proofs.Lists.{end-inside, list-room}
 use Rattle.meaning.specs.Lists.{rowsOf}
 use Rattle.meaning.specs.OpenedBooks.{bookIn}
+use Rattle.meaning.specs.Whole.{read}
 use Rattle.lists.proofs.Checks.{list-trusted}
 use Rattle.meaning.specs.declared.ParseUnit.the-variants.{Year, Month, DayOfMonth}
 use Rattle.lists.proofs.cells.Line.{cell-of, cell-short}
@@ -20,7 +21,7 @@ use Rattle.lists.proofs.cells.read_lines.Tie as tie
 
 abbrev Inv-loop : tie.InvT-loop
 Inv-loop choices book pattern text year days₀ months₀ years₀ codes₀ answer₀ at₀ i₀ days months years codes answer at i =
-    Unfinished choices (bookIn book) pattern text (toZ w32 year) (rowsOf days₀ months₀ years₀ codes₀) (rowsOf days months years codes) at i
+    Unfinished (λ line. read choices (bookIn book) pattern line (toZ w32 year)) text (rowsOf days₀ months₀ years₀ codes₀) (rowsOf days months years codes) at i
     × (length answer ≡ 48)
 
 abbrev μ-loop : tie.MeasureT-loop
@@ -31,7 +32,7 @@ loop-holds : tie.Need-loop-holds Inv-loop μ-loop
 loop-holds c =
     let start = c .before .before .before .before in
     let a = start .args in
-    (nothing-read _ _ _ _ _ _ (list-room (a .choices) (bookIn (now (a .book))) (now (a .pattern)) (now (a .text)) (a .year) _ (start .pre)), refl)
+    (nothing-read _ _ _ (list-room (a .choices) (bookIn (now (a .book))) (now (a .pattern)) (now (a .text)) (a .year) _ (start .pre)), refl)
 
 line-end-requires : tie.Need-line-end-requires Inv-loop μ-loop
 line-end-requires c κs = c .before .loop .inv .0 .inside
@@ -60,13 +61,13 @@ read-row-requires c κs =
 mul-codes : tie.Need-mul-codes Inv-loop μ-loop
 mul-codes c =
     let l = c .before .before .before .before .before .before in
-    let left = cell-left _ _ _ _ _ _ _ _ _ (l .loop .inv .0) (c .before .before .before .before .before .loop-test .taken) in
+    let left = cell-left _ _ _ _ _ _ (l .loop .inv .0) (c .before .before .before .before .before .loop-test .taken) in
     omega (arith, left .codes, l .loop .inv .0 .codes .long, l .before .before .before .before .before .good)
 
 slice-write-codes : tie.Need-slice-write-codes Inv-loop μ-loop
 slice-write-codes c =
     let l = c .before .before .before .before .before .before in
-    cell-left _ _ _ _ _ _ _ _ _ (l .loop .inv .0) (c .before .before .before .before .before .loop-test .taken) .codes
+    cell-left _ _ _ _ _ _ (l .loop .inv .0) (c .before .before .before .before .before .loop-test .taken) .codes
 
 slice-aggregate-value-of : tie.Need-slice-aggregate-value-of Inv-loop μ-loop
 slice-aggregate-value-of c = search needs
@@ -81,13 +82,13 @@ value-of-requires c κs =
 mul-months : tie.Need-mul-months Inv-loop μ-loop
 mul-months c =
     let l = c .before .before .before .before .before .before .before .before in
-    let left = cell-left _ _ _ _ _ _ _ _ _ (l .loop .inv .0) (c .before .before .before .before .before .before .before .loop-test .taken) in
+    let left = cell-left _ _ _ _ _ _ (l .loop .inv .0) (c .before .before .before .before .before .before .before .loop-test .taken) in
     omega (arith, left .days, l .loop .inv .0 .days .long, l .before .before .before .before .before .good)
 
 slice-set-from-months : tie.Need-slice-set-from-months Inv-loop μ-loop
 slice-set-from-months c =
     let l = c .before .before .before .before .before .before .before .before in
-    cell-left _ _ _ _ _ _ _ _ _ (l .loop .inv .0) (c .before .before .before .before .before .before .before .loop-test .taken) .days
+    cell-left _ _ _ _ _ _ (l .loop .inv .0) (c .before .before .before .before .before .before .before .loop-test .taken) .days
 
 slice-aggregate-value-of-2 : tie.Need-slice-aggregate-value-of-2 Inv-loop μ-loop
 slice-aggregate-value-of-2 c = search needs
@@ -102,13 +103,13 @@ value-of-requires-2 c κs =
 mul-years : tie.Need-mul-years Inv-loop μ-loop
 mul-years c =
     let l = c .before .before .before .before .before .before .before .before .before .before in
-    let left = cell-left _ _ _ _ _ _ _ _ _ (l .loop .inv .0) (c .before .before .before .before .before .before .before .before .before .loop-test .taken) in
+    let left = cell-left _ _ _ _ _ _ (l .loop .inv .0) (c .before .before .before .before .before .before .before .before .before .loop-test .taken) in
     omega (arith, left .months, l .loop .inv .0 .months .long, l .before .before .before .before .before .good)
 
 slice-set-from-years : tie.Need-slice-set-from-years Inv-loop μ-loop
 slice-set-from-years c =
     let l = c .before .before .before .before .before .before .before .before .before .before in
-    cell-left _ _ _ _ _ _ _ _ _ (l .loop .inv .0) (c .before .before .before .before .before .before .before .before .before .loop-test .taken) .months
+    cell-left _ _ _ _ _ _ (l .loop .inv .0) (c .before .before .before .before .before .before .before .before .before .loop-test .taken) .months
 
 slice-aggregate-value-of-3 : tie.Need-slice-aggregate-value-of-3 Inv-loop μ-loop
 slice-aggregate-value-of-3 c = search needs
@@ -123,18 +124,18 @@ value-of-requires-3 c κs =
 mul-t14 : tie.Need-mul-t14 Inv-loop μ-loop
 mul-t14 c =
     let l = c .before .before .before .before .before .before .before .before .before .before .before .before in
-    let left = cell-left _ _ _ _ _ _ _ _ _ (l .loop .inv .0) (c .before .before .before .before .before .before .before .before .before .before .before .loop-test .taken) in
+    let left = cell-left _ _ _ _ _ _ (l .loop .inv .0) (c .before .before .before .before .before .before .before .before .before .before .before .loop-test .taken) in
     omega (arith, left .years, l .loop .inv .0 .years .long, l .before .before .before .before .before .good)
 
 slice-set-from-years-2 : tie.Need-slice-set-from-years-2 Inv-loop μ-loop
 slice-set-from-years-2 c =
     let l = c .before .before .before .before .before .before .before .before .before .before .before .before in
-    cell-left _ _ _ _ _ _ _ _ _ (l .loop .inv .0) (c .before .before .before .before .before .before .before .before .before .before .before .loop-test .taken) .years
+    cell-left _ _ _ _ _ _ (l .loop .inv .0) (c .before .before .before .before .before .before .before .before .before .before .before .loop-test .taken) .years
 
 add-i : tie.Need-add-i Inv-loop μ-loop
 add-i c =
     let l = c .before .before .before .before .before .before .before .before .before .before .before .before in
-    let left = cell-left _ _ _ _ _ _ _ _ _ (l .loop .inv .0) (c .before .before .before .before .before .before .before .before .before .before .before .loop-test .taken) in
+    let left = cell-left _ _ _ _ _ _ (l .loop .inv .0) (c .before .before .before .before .before .before .before .before .before .before .before .loop-test .taken) in
     omega (arith, left .codes, l .loop .inv .0 .codes .long)
 
 next-line-requires : tie.Need-next-line-requires Inv-loop μ-loop
@@ -155,7 +156,7 @@ loop-again c =
     let month = c .before .before .before .value-of2 in
     let year = c .before .value-of3 in
     let cells = cell-of (a .choices) (now (a .book)) (now (a .pattern)) _ (toZ w32 (ofZ w32 (a .year))) (l .loop .inv .1) (rw end at (row .ensures)) in
-    let stored = line-stored _ _ _ _ _ _ _ _ _ (l .loop .inv .0) (c .before .before .before .before .before .before .before .before .before .before .before .before .loop-test .taken) (day .result) (month .result) (year .result) (row .result)
+    let stored = line-stored _ _ _ _ _ _ (l .loop .inv .0) (c .before .before .before .before .before .before .before .before .before .before .before .before .loop-test .taken) (day .result) (month .result) (year .result) (row .result)
     (day .ensures ∙ cells DayOfMonth) (month .ensures ∙ cells Month) (year .ensures ∙ cells Year) (rw end at (row .ensures .number)) in (
       rw (
         toZ-ofZ w32 (day .result) (search needs),

@@ -1,0 +1,3 @@
+pub mod Moving
+pub mod Passing
+pub mod Rows

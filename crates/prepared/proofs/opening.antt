@@ -1,0 +1,3 @@
+pub mod OpenedRows
+pub mod Parts
+pub mod Sums

@@ -1,0 +1,7 @@
+pub mod Opened
+pub mod PreparedRows
+pub mod Quick
+pub mod Stands
+pub mod Uses
+pub mod Verdicts
+pub mod Written
