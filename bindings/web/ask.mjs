@@ -3,14 +3,12 @@
 // Answers requests for the library, one a line, by the ES module of dist/ and its sheet.wasm: as the program `ask` does, whose README
 // has the protocol. Each request is also put to the functions of sheet.h with lent rows full of marks; where the answers do not agree,
 // both are shown with the word `unlike` between them.
-import { answerTo } from './ask/answers.mjs';
+import { LONGEST, answerTo } from './ask/answers.mjs';
 
-/** A line with more bytes is no request. */
-const LONGEST = 20000;
 const NEWLINE = 10;
 
 function answer(line) {
-    return `${line.length <= LONGEST ? answerTo(line.toString('latin1')) : 'bad request'}\n`;
+    return `${answerTo(line.toString('latin1'))}\n`;
 }
 
 if (process.argv.length > 2) {

@@ -31,11 +31,14 @@ const ANSWERS = {
     rfc_write: answerStampWrite,
 };
 
+/** A line with more bytes is no request. */
+export const LONGEST = 20000;
+
 export function answerTo(line) {
     const words = new Words(line);
     const first = words.word();
     try {
-        return wanted(Object.hasOwn(ANSWERS, first) && ANSWERS[first])(words);
+        return wanted(line.length <= LONGEST && Object.hasOwn(ANSWERS, first) && ANSWERS[first])(words);
     } catch (error) {
         if (error === BAD_REQUEST) {
             return error.message;

@@ -58,7 +58,8 @@ function readBefore(sheet, before, text, choices) {
     return unlessRefused(() => sheet.read(before, text, ANY_YEAR, { ...choices, strict: false }).taken);
 }
 
-function unlessRefused(asked) {
+/** What is answered; nothing where it is refused. */
+export function unlessRefused(asked) {
     try {
         return asked();
     } catch (error) {

@@ -1,10 +1,10 @@
-import { ANY_YEAR } from './explaining.mjs';
+import { ANY_YEAR, unlessRefused } from './explaining.mjs';
 import { bytesOf } from './memory.mjs';
 import { MOST_SHOWN, shown, spelled } from './shown.mjs';
 
 /** Each change of a mending in a sentence; of spaces also why they were put in. */
 export function explainedMending(sheet, { pattern, changes }) {
-    return changes.map((change) => whySpaces(sheet, pattern, change) ?? plainly(change));
+    return changes.map((change) => unlessRefused(() => whySpaces(sheet, pattern, change)) ?? plainly(change));
 }
 
 function plainly({ byte, before, after }) {
@@ -29,7 +29,7 @@ function countedSpaces(count) {
 
 /** The sentence for spaces that were put behind a part; none where the pattern is another than the changes are of. */
 function whySpaces(sheet, pattern, { place, byte, before, after }) {
-    if (before !== 0 || byte !== ' ') {
+    if (before !== 0 || byte !== ' ' || place + after > pattern.length) {
         return null;
     }
     const disturbed = sheet.split(pattern.slice(0, place)).at(-1);
