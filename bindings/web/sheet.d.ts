@@ -197,6 +197,7 @@ export interface Book {
 
 /** Why nothing was done. */
 export class Refusal extends Error {
+    private constructor();
     /** Always `Refusal`. */
     readonly name: 'Refusal';
     /** 1 to 30, as the table of the specification has them; 104 where changes do not fit a pattern. */
