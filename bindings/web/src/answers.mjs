@@ -1,4 +1,4 @@
-import { bytesOf } from './memory.mjs';
+import { bytesOf, numbersOf } from './memory.mjs';
 
 export const units = Object.freeze([
     'year', 'month', 'dayOfMonth', 'dayOfYear', 'hour', 'period', 'periodHour', 'minute', 'second',
@@ -34,15 +34,17 @@ export function readingOf(row) {
     return { taken: Number(row[0]), mask, values, spans };
 }
 
-/** A day of its six entries, and of eight a record that a check shows. */
-export function recordOf(row) {
-    const [year, month, day, dayOfYear, week, weekday, nanoseconds, offset] = Array.from(row, Number);
-    const ofDay = { year, month, day, dayOfYear, week, weekday };
-    return row.length === 6 ? ofDay : { ...ofDay, nanoseconds, offset };
+export function dayOf(row) {
+    const [year, month, day, dayOfYear, week, weekday] = numbersOf(row, 0, 6);
+    return { year, month, day, dayOfYear, week, weekday };
 }
 
 export function verdictOf(row) {
-    return row[0] === 1n ? { trusted: true } : { trusted: false, part: Number(row[1]), record: recordOf(row.subarray(2)) };
+    if (row[0] === 1n) {
+        return { trusted: true };
+    }
+    const [part, year, month, day, dayOfYear, week, weekday, nanoseconds, offset] = numbersOf(row, 1, 10);
+    return { trusted: false, part, record: { year, month, day, dayOfYear, week, weekday, nanoseconds, offset } };
 }
 
 /** A part of a pattern by its three entries and its unit's. */

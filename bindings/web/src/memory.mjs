@@ -8,6 +8,15 @@ export function bytesOf(text) {
     return typeof text === 'string' ? encoder.encode(text) : text;
 }
 
+/** Entries of a row, from one to the one before another, as numbers. */
+export function numbersOf(row, from, to) {
+    const numbers = [];
+    for (let k = from; k < to; k += 1) {
+        numbers.push(Number(row[k]));
+    }
+    return numbers;
+}
+
 /** The most bytes that an argument takes of the memory: a character of a string has three at most. */
 function mostBytes(lent) {
     return ALIGNED + (typeof lent === 'string' ? 3 * lent.length : (lent?.byteLength ?? 0));
@@ -41,7 +50,7 @@ export class Memory {
         if (typeof called !== 'function') {
             throw new TypeError(`the library has no function ${name}`);
         }
-        this.#makeRoom(lent.reduce((sum, one) => sum + (isNumber(one) ? 0 : mostBytes(one)), 0));
+        this.#makeRoom(lent);
         const given = [];
         const places = [];
         let next = this.#start;
@@ -50,13 +59,19 @@ export class Memory {
             next = this.#lend(one, next, given);
         }
         const number = called(...given) >>> 0;
-        lent.forEach((one, k) => this.#giveBack(one, places[k]));
+        for (let k = 0; k < lent.length; k += 1) {
+            this.#giveBack(lent[k], places[k]);
+        }
         return number;
     }
 
     /** Views of a memory that has grown are of no use any more, and made anew. */
-    #makeRoom(length) {
-        const lacking = this.#start + length - this.#memory.buffer.byteLength;
+    #makeRoom(lent) {
+        let end = this.#start;
+        for (const one of lent) {
+            end += isNumber(one) ? 0 : mostBytes(one);
+        }
+        const lacking = end - this.#bytes.length;
         if (lacking > 0) {
             this.#memory.grow(Math.ceil(lacking / PAGE));
             this.#bytes = new Uint8Array(this.#memory.buffer);

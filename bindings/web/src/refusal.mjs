@@ -1,3 +1,5 @@
+import { numbersOf } from './memory.mjs';
+
 /** What each number says, in words that need no details. */
 const WORDS = new Map([
     [1, 'the pattern has over 256 bytes'],
@@ -141,5 +143,5 @@ export function detailsOf(number, answer) {
     if (number >= FIRST_WITHOUT_DETAILS) {
         return [];
     }
-    return Array.from(answer.subarray(0, OF_A_PART.has(number) ? 2 : 1), Number);
+    return numbersOf(answer, 0, OF_A_PART.has(number) ? 2 : 1);
 }

@@ -1,4 +1,4 @@
-import { partOf, readingOf, recordOf, textOf, units, verdictOf } from './answers.mjs';
+import { dayOf, partOf, readingOf, textOf, units, verdictOf } from './answers.mjs';
 import { BOOK_ROW, Book, LONGEST_BOOK, rowOfNames } from './book.mjs';
 import { entry, fieldsInOrder, numberOf, signed, unsigned, unsigned64 } from './choices.mjs';
 import { explained } from './explaining.mjs';
@@ -6,7 +6,7 @@ import { explainedCheck } from './explaining_checks.mjs';
 import { explainedMending } from './explaining_mending.mjs';
 import { explainedStamp } from './explaining_stamps.mjs';
 import { linesOf, newlines } from './lists.mjs';
-import { bytesOf } from './memory.mjs';
+import { bytesOf, numbersOf } from './memory.mjs';
 import { Refusal, unlessAccepted } from './refusal.mjs';
 
 const LONGEST_PATTERN = 256;
@@ -32,7 +32,7 @@ function rowOfBook(book) {
 /** Groups of so many entries, as numbers. */
 function* inGroups(row, size, count) {
     for (let k = 0; k < count; k += 1) {
-        yield Array.from(row.subarray(size * k, size * (k + 1)), Number);
+        yield numbersOf(row, size * k, size * (k + 1));
     }
 }
 
@@ -123,7 +123,7 @@ export class Sheet {
     }
 
     dayOf(number) {
-        return recordOf(this.#asked('sheet_day', DAY_ANSWER, signed('number', number)));
+        return dayOf(this.#asked('sheet_day', DAY_ANSWER, signed('number', number)));
     }
 
     dayNumber(year, month, day) {
@@ -152,8 +152,8 @@ export class Sheet {
     }
 
     readStamp(text) {
-        const row = Array.from(this.#asked('sheet_rfc_read', STAMP_ANSWER, text), Number);
-        const [year, month, day, nanoseconds, offset, unknown] = row;
+        const row = this.#asked('sheet_rfc_read', STAMP_ANSWER, text);
+        const [year, month, day, nanoseconds, offset, unknown] = numbersOf(row, 0, STAMP_ANSWER);
         return { year, month, day, nanoseconds, offset, unknown: unknown === 1 };
     }
 
