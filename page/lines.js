@@ -71,11 +71,11 @@ const Lines = (() => {
     }
 
     // The line in pieces, one for each value's bytes.
-    function piecesOfRead(line, spans) {
-        const ordered = Object.entries(spans).sort(([, some], [, other]) => some.start - other.start);
+    function piecesOfRead(line, units, spans) {
         const shown = [];
         let at = 0;
-        for (const [unit, { start, end }] of ordered) {
+        for (const unit of units) {
+            const { start, end } = spans[unit];
             shown.push(line.slice(at, start), make('span', { data: { colour: unit, unit } }, line.slice(start, end)));
             at = end;
         }
@@ -102,8 +102,9 @@ const Lines = (() => {
         if (job.refusal) return { shown: [line], said: [] };
         try {
             const { values, spans } = sheet.read(job.pattern, line, job.year, job.choices);
-            const said = Object.keys(values).map((unit) => valueShown(unit, values[unit]));
-            return { shown: piecesOfRead(line, spans), said: said.length > 0 ? said : ['no value'] };
+            const units = Words.inOrder(spans);
+            const said = units.map((unit) => valueShown(unit, values[unit]));
+            return { shown: piecesOfRead(line, units, spans), said: said.length > 0 ? said : ['no value'] };
         } catch (refusal) {
             if (!(refusal instanceof openSheet.Refusal)) throw refusal;
             const why = sheet.explain(job.pattern, line, refusal, job.choices);

@@ -100,7 +100,10 @@
         if (link !== location.hash) history.replaceState(null, '', link);
     }
 
+    // The defaults are read first, so that there is a day where that of a link is none.
     function restore() {
+        setControls(DEFAULTS);
+        Day.read(sheet);
         setControls({ ...DEFAULTS, ...Link.read(location.hash) });
         show();
     }

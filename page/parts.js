@@ -44,21 +44,20 @@ const Parts = (() => {
         showPieces(byId('pattern-shown'), [...pieces, piece('\u200b', 'literal')]);
     }
 
-    function cardOf(part, number, text, isFailing) {
+    function cardOf(part, text, isFailing) {
         const className = ['part', part.literal === null ? 'symbol' : 'literal', isFailing ? 'failing' : ''].join(' ').trim();
         return make(
             'li',
-            { className, data: { colour: Words.colourOf(part), part: number } },
-            make('span', { className: 'number' }, String(number)),
-            make('code', { className: 'bytes' }, part.text),
+            { className, data: { colour: Words.colourOf(part) } },
+            make('code', { className: 'bytes' }, part.text.replaceAll(' ', '␣')),
             make('span', { className: 'words' }, Words.ofPart(part)),
-            make('code', { className: 'text' }, text)
+            make('code', { className: 'text' }, text === part.text ? '' : text)
         );
     }
 
     function showCards({ parts, texts, failing }) {
-        const keys = parts.map((part, number) => `${number} ${number === failing} ${Words.colourOf(part)} ${part.text}\n${texts[number]}`);
-        hold(byId('parts'), keys, (number) => cardOf(parts[number], number, texts[number], number === failing));
+        const keys = parts.map((part, number) => `${number === failing} ${Words.colourOf(part)} ${part.text}\n${texts[number]}`);
+        hold(byId('parts'), keys, (number) => cardOf(parts[number], texts[number], number === failing));
     }
 
     function showWritten({ parts, texts, failing }) {

@@ -52,9 +52,9 @@ const Verdict = (() => {
 
     function cameBack(sheet, pattern, text, state, record) {
         try {
-            const { values, taken } = sheet.read(pattern, text, state.year, state.choices);
+            const { values, spans, taken } = sheet.read(pattern, text, state.year, state.choices);
             const written = valuesOf(record);
-            const shown = Object.keys(values).map((unit) => valueShown(unit, values[unit], written[unit]));
+            const shown = Words.inOrder(spans).map((unit) => valueShown(unit, values[unit], written[unit]));
             if (taken < text.length) shown.push(make('span', {}, 'and ', make('code', {}, text.slice(taken)), ' is left over'));
             return shown;
         } catch (refusal) {

@@ -132,6 +132,9 @@ const Words = (() => {
         return String(value);
     }
 
+    // The units of a reading in the order in which they stand in the text.
+    const inOrder = (spans) => Object.keys(spans).sort((some, other) => spans[some].start - spans[other].start);
+
     // As in `year, month and day`.
     function listed(words) {
         if (words.length < 2) return words.join('');
@@ -142,5 +145,5 @@ const Words = (() => {
 
     const capitalised = (text) => text.charAt(0).toUpperCase() + text.slice(1);
 
-    return { units: UNITS, ofPart, colourOf, ofOffset, ofValue, listed, counted, capitalised };
+    return { units: UNITS, ofPart, colourOf, ofOffset, ofValue, inOrder, listed, counted, capitalised };
 })();
