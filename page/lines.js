@@ -37,10 +37,11 @@ const Lines = (() => {
     }
 
     function showProgress(isDone) {
+        byId('window').ariaBusy = !isDone;
         const bar = byId('progress');
         bar.hidden = isDone;
         bar.value = job.lines.length === 0 ? 0 : job.codes.length / job.lines.length;
-        if (isDone || bar.hidden) byId('tally').replaceChildren(...tally());
+        if (isDone) byId('tally').replaceChildren(...tally());
     }
 
     function tally() {
@@ -159,9 +160,15 @@ const Lines = (() => {
         clearTimeout(timer);
         const lines = text === job.text ? job.lines : linesOf(text);
         job = { text, lines, codes: [], refused: [], refusal, pattern: state.pattern, year: state.year, choices: state.choices };
+        byId('window').ariaBusy = true;
+        timer = setTimeout(startReading, 0);
+    }
+
+    // Not at the key itself: rows ask for a layout.
+    function startReading() {
         showAnew();
-        if (refusal) showProgress(true);
-        else timer = setTimeout(readSlice, 0);
+        if (job.refusal) showProgress(true);
+        else readSlice();
     }
 
     // Lights up the bytes that a value came from while it is pointed at or has the focus.

@@ -8,7 +8,7 @@ const said = (tab) => tab.text('.row .said');
 
 async function paste(tab, text) {
     await tab.repaste('#column', text);
-    await tab.until(`document.getElementById('progress').hidden && document.querySelector('.row')`);
+    await tab.until(`document.getElementById('window').ariaBusy === 'false'`);
 }
 
 export async function switches(tab) {

@@ -6,7 +6,7 @@ const lit = (tab) => tab.texts('.row .line .lit');
 
 async function paste(tab, text) {
     await tab.repaste('#column', text);
-    await tab.until(`document.getElementById('progress').hidden && document.querySelector('.row')`);
+    await tab.until(`document.getElementById('window').ariaBusy === 'false'`);
 }
 
 export async function values(tab) {

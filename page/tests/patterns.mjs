@@ -19,6 +19,18 @@ export async function typing(tab) {
     same(new Set(colours.slice(0, 3)).size, 3, 'the colours of d, / and M');
 }
 
+// Every symbol has words at each count, and they name what its part carries.
+export async function words(tab) {
+    await tab.retype('#pattern', 'MM/MMM');
+    same(await tab.texts('#parts .words'), ['month, two digits', 'itself', 'month, short name'], 'the words of the parts');
+    for (const symbol of 'GyqMwdDeabhKHkmsnXx') {
+        await tab.repaste('#pattern', Array.from({ length: 12 }, (_, place) => symbol.repeat(place + 1)).join('/'));
+        const cards = await tab.texts('#parts .part.symbol .words');
+        same(cards.length, 12, `the parts of ${symbol} that are symbols`);
+        holds(cards.every((card) => /^[a-zA-Z]/.test(card)), `each part of ${symbol} has words: ${cards}`);
+    }
+}
+
 export async function aNo(tab) {
     await tab.retype('#pattern', 'd/M');
     within(await tab.text('#verdict-sentence'), /^No\. Part 2, M, does not come back/, 'the verdict');
