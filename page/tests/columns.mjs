@@ -49,6 +49,7 @@ export async function scrolling(tab) {
     holds((await tab.value(`document.querySelectorAll('.row').length`)) < 60, 'rows out of sight are no elements');
     await tab.value(`document.getElementById('window').scrollTop = 1e9`);
     await tab.until(`document.querySelector('${row(1999)}')`);
+    holds((await tab.value(`document.querySelectorAll('.row').length`)) < 60, 'rows above those in sight are no elements');
     await tab.value(`document.getElementById('window').scrollTop = 0`);
     await tab.until(`document.querySelector('${row(0)}')`);
     await tab.value(`document.querySelector('${row(0)} button').focus()`);

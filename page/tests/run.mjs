@@ -20,7 +20,7 @@ const TABLET = { width: 820, height: 1180, touch: true, dark: false };
 const PHONE = { width: 390, height: 844, touch: true, dark: true };
 
 // Which checks are tried where: all in a window, and what size, touch and colours can change in the others.
-const SIZED = [...Object.keys(patterns).map((name) => `patterns.${name}`), 'columns.values', 'columns.lighting', 'columns.longLines'];
+const SIZED = ['patterns.typing', 'patterns.aNo', 'patterns.mending', 'columns.values', 'columns.lighting', 'columns.longLines'];
 const PLACES = [
     ['window', WINDOW, Object.entries(GROUPS).flatMap(([group, checks]) => Object.keys(checks).map((name) => `${group}.${name}`))],
     ['window, dark', DARK, ['looks.contrast']],

@@ -16,18 +16,28 @@ const WATCH_KEYS = `(() => {
     });
 })()`;
 
-const sorted = (times) => [...times].sort((some, other) => some - other);
+// Other work on the machine makes a time longer, never shorter: what is too long is measured again before it counts.
+async function measured(isGood, measure) {
+    let times = await measure();
+    for (let more = 2; more > 0 && !isGood(times); more -= 1) times = await measure();
+    return times;
+}
 
-async function keys(tab, what, pattern, say) {
+async function keyTimes(tab, pattern) {
     await tab.repaste('#pattern', pattern.slice(0, 256 - KEYS));
     await tab.key('Home');
     await tab.value('window.times.length = 0');
     await tab.type('d/'.repeat(KEYS / 2));
-    const times = sorted(await tab.value('window.times'));
+    const times = (await tab.value('window.times')).sort((some, other) => some - other);
     holds(times.length === KEYS, `${times.length} keys were timed`);
-    const median = times[KEYS / 2];
-    say(`${what}: ${median.toFixed(1)} ms a key, ${times.at(-1).toFixed(1)} at worst`);
-    holds(median < MOST_A_KEY, `${what} takes ${median.toFixed(1)} ms a key`);
+    return { median: times[KEYS / 2], worst: times.at(-1) };
+}
+
+async function keys(tab, what, pattern, say) {
+    const isGood = ({ median }) => median < MOST_A_KEY;
+    const times = await measured(isGood, () => keyTimes(tab, pattern));
+    say(`${what}: ${times.median.toFixed(1)} ms a key, ${times.worst.toFixed(1)} at worst`);
+    holds(isGood(times), `${what} takes ${times.median.toFixed(1)} ms a key`);
 }
 
 export async function typing(tab, { say }) {
@@ -54,13 +64,15 @@ const WATCH_BREATHS = `(() => {
 
 const COLUMN = `Array.from({ length: 5000 }, (_, line) => line % 10 === 9 ? 'berth ' + line : '03/12/' + (1000 + line) + ' 07:05').join('\\n')`;
 
-// Pastes a text, and gives how long the page took no other message meanwhile and how long it was until all was shown.
+// Pastes a text into an empty field, and gives how long the page took no other message meanwhile, and how long it was until all was shown.
 async function pasted(tab, selector, text, isDone) {
+    await tab.repaste(selector, '-');
+    await tab.until(`!(${isDone})`);
     await tab.value('window.gap = 0');
     const start = Date.now();
     await tab.repaste(selector, text);
     await tab.until(isDone);
-    return [await tab.value('window.gap'), Date.now() - start];
+    return { gap: await tab.value('window.gap'), took: Date.now() - start };
 }
 
 // The browser itself takes a while to lay out so many lines in a box, so it is asked first what a bare one takes.
@@ -69,9 +81,12 @@ export async function column(tab, { say }) {
     await tab.value(`document.body.append(Object.assign(document.createElement('textarea'), { id: 'bare', rows: 5, wrap: 'off' }))`);
     const text = await tab.value(COLUMN);
     await tab.value(WATCH_BREATHS);
-    const [bare] = await pasted(tab, '#bare', text, `document.getElementById('bare').value !== ''`);
-    const isRead = `document.getElementById('tally').textContent.startsWith('4,500 lines read, 500 refused')`;
-    const [gap, took] = await pasted(tab, '#column', text, isRead);
-    say(`5,000 lines: read after ${took} ms, ${gap.toFixed(0)} ms without a breath at most, of which a bare box takes ${bare.toFixed(0)}`);
-    holds(gap < bare + MOST_WITHOUT_A_BREATH, `5,000 lines stop the page for ${gap.toFixed(0)} ms`);
+    const isGood = ({ read, bare }) => read.gap < bare.gap + MOST_WITHOUT_A_BREATH;
+    const { read, bare } = await measured(isGood, async () => ({
+        bare: await pasted(tab, '#bare', text, `document.getElementById('bare').value.length > 1`),
+        read: await pasted(tab, '#column', text, `document.getElementById('tally').textContent === '4,500 lines read, 500 refused'`),
+    }));
+    const most = `${read.gap.toFixed(0)} ms without a breath at most`;
+    say(`5,000 lines: read after ${read.took} ms, ${most}, of which a bare box takes ${bare.gap.toFixed(0)}`);
+    holds(isGood({ read, bare }), `5,000 lines stop the page: ${most}`);
 }
