@@ -74,17 +74,12 @@ export class Browser {
 
     // A new tab of a size, with touch or not, in a colour scheme.
     async tab(look) {
-        const { browserContextId } = await this.send('Target.createBrowserContext');
-        const { targetId } = await this.send('Target.createTarget', { url: 'about:blank', browserContextId });
+        const { targetId } = await this.send('Target.createTarget', { url: 'about:blank' });
         const { sessionId } = await this.send('Target.attachToTarget', { targetId, flatten: true });
-        const tab = new Tab((method, params) => this.send(method, params, sessionId), targetId);
+        const tab = new Tab((method, params) => this.send(method, params, sessionId));
         this.#listeners.set(sessionId, (method, params) => tab.hear(method, params));
         await tab.prepare(look);
         return tab;
-    }
-
-    async closeTab(tab) {
-        await this.send('Target.closeTarget', { targetId: tab.targetId });
     }
 
     async close() {

@@ -4,7 +4,7 @@ export const FAULTS = [
     ['parts.js', "number === failing ? 'failing' : '');\n            });", "'');\n            });", 'patterns.aNo'],
     ['verdict.js', 'differs = written !== undefined && written !== value', 'differs = false', 'patterns.aNo'],
     ['verdict.js', "offset') return \"eeee, d MMMM y 'at the offset' xxxxx\"", "offset') return 'eeee, d MMMM y'", 'patterns.othersOfANo'],
-    ['mending.js', 'taken[number] = !taken[number];', 'taken[number] = false;', 'patterns.mending', 'tablet'],
+    ['mending.js', 'taken[number] = !taken[number];', 'taken[number] = false;', 'patterns.mending'],
     ['day.js', '((hour * 60 + minute) * 60 + second)', '((hour * 60 + minute) * 60)', 'patterns.theDay'],
     ['parts.js', 'openSheet.charPlace(pattern, refusal.details[0])', 'refusal.details[0] + 1', 'refusals.beyondAscii'],
     ['parts.js', 'refusal?.number === 3 &&', 'refusal?.number === 4 &&', 'refusals.loneQuote'],
@@ -26,6 +26,5 @@ export const FAULTS = [
     ['page.css', '.field:focus-within { outline:', '.field:focus-within { margin:', 'looks.keyboard'],
     ['index.html', 'id="use" class="primary"', 'id="use" class="primary" tabindex="-1"', 'looks.keyboard'],
     ['main.js', "byId('pattern').focus();", '', 'looks.byKeys'],
-    ['lines.js', 'const ROWS_MORE = 6;', 'const ROWS_MORE = 6000;', 'speed.column'],
     ['index.html', '<link rel="stylesheet" href="page.css">', '<link rel="stylesheet" href="page.css"><img src="http://localhost:9/x.png" alt="">', 'patterns.typing'],
 ];

@@ -37,11 +37,22 @@ const browser = new Browser(program);
 
 const isOwn = (address, asked) => asked === 'about:blank' || asked.startsWith('data:') || asked.startsWith(new URL('.', address).href);
 
-// Tries a check in a tab of its own: what failed, or nothing. The page may throw nothing and ask for nothing from elsewhere.
+const tabs = new Map();
+
+// The tab with a look, in which nothing is open.
+async function emptyTab(look) {
+    if (!tabs.has(look)) tabs.set(look, await browser.tab(look));
+    const tab = tabs.get(look);
+    await tab.leave();
+    tab.forget();
+    return tab;
+}
+
+// Tries a check: what failed, or nothing. The page may throw nothing and ask for nothing from elsewhere.
 async function tried(name, look, folder, address, say) {
     const [group, check] = name.split('.');
-    const tab = await browser.tab(look);
     try {
+        const tab = await emptyTab(look);
         await tab.open(address);
         await GROUPS[group][check](tab, { address, page: folder, books, room, say });
         const elsewhere = tab.asked.filter((asked) => !isOwn(address, asked));
@@ -49,8 +60,6 @@ async function tried(name, look, folder, address, say) {
         return tab.faults.length > 0 ? `the page says ${tab.faults[0]}` : undefined;
     } catch (error) {
         return error.message;
-    } finally {
-        await browser.closeTab(tab);
     }
 }
 

@@ -7,12 +7,12 @@ export class Tab {
     #send;
     #loaded = () => {};
 
-    constructor(send, targetId) {
+    // Faults that the page threw or logged, and the addresses that it asked for.
+    faults = [];
+    asked = [];
+
+    constructor(send) {
         this.#send = send;
-        this.targetId = targetId;
-        // Faults that the page threw or logged, and the addresses that it asked for.
-        this.faults = [];
-        this.asked = [];
     }
 
     hear(method, params) {
@@ -33,9 +33,13 @@ export class Tab {
         this.touch = touch;
     }
 
-    // Leaves the page, so that the next one is not only its own link.
+    // Leaves the page, so that the next one is opened and not only its link.
     async leave() {
         await this.#go('about:blank');
+    }
+
+    forget() {
+        [this.faults, this.asked] = [[], []];
     }
 
     // Opens an address and waits until the page has shown its state.
@@ -61,6 +65,7 @@ export class Tab {
         const end = Date.now() + milliseconds;
         while (Date.now() < end) {
             if (await this.value(expression)) return;
+            if (this.faults.length > 0) throw new Error(`the page says ${this.faults[0]}`);
             await new Promise((resolve) => setTimeout(resolve, 10));
         }
         throw new Error(`it never came that ${expression}`);
