@@ -80,7 +80,7 @@ const Verdict = (() => {
         return [
             ['For example on', [day]],
             ['it writes', [textShown(sheet, parts, failing, record, state.choices)]],
-            ['which reads as', cameBack(sheet, state.pattern, text, state, record)],
+            ['read back, it gives', cameBack(sheet, state.pattern, text, state, record)],
         ];
     }
 
