@@ -80,7 +80,7 @@ class Memory {
     #bytes;
 
     constructor({ memory, __heap_base, ...functions }) {
-        this.#functions = functions;
+        this.#functions = new Map(Object.entries(functions));
         this.#memory = memory;
         this.#start = Math.ceil(__heap_base.value / ALIGNED) * ALIGNED;
         this.#bytes = new Uint8Array(memory.buffer);
@@ -88,8 +88,8 @@ class Memory {
 
     /** Calls a function: a string or an array is lent as a pointer and a length, and an array then has what was altered. */
     call(name, ...lent) {
-        const called = this.#functions[name];
-        if (typeof called !== 'function') {
+        const called = this.#functions.get(name);
+        if (!called) {
             throw new TypeError(`the library has no function ${name}`);
         }
         this.#makeRoom(lent);
@@ -499,7 +499,7 @@ const LINE_READING = 3;
 const NO_LINE = 103;
 
 /** How many lines a text has: a newline ends one, and a last one without counts. */
-function newlines(bytes) {
+function countLines(bytes) {
     let count = 0;
     for (let at = 0; at < bytes.length; at = behindLine(bytes, at)) {
         count += 1;
@@ -821,7 +821,7 @@ function firstDigit(part, whereItIs) {
     return `${shownPart(part)}${whereItIs} ${part.length === 1 ? 'is a digit' : 'begins with a digit'}`;
 }
 
-/** Which digit can stand a byte further: the next part's own, or the first of the one behind that where the next can be one byte. */
+/** Which digit can stand a byte further: the next part's own, or the first of the one behind where the next can be one byte. */
 function secondDigit(sheet, disturbed, [next, behind]) {
     if (!next) {
         return null;
@@ -1040,7 +1040,7 @@ class Sheet {
 
     readList(pattern, text, currentYear, choices = {}) {
         const bytes = bytesOf(text);
-        const count = newlines(bytes);
+        const count = countLines(bytes);
         const [days, months, years] = [0, 1, 2].map(() => new Int32Array(count));
         const codes = new Uint32Array(count);
         const year = signed('currentYear', currentYear);

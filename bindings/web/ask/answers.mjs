@@ -1,5 +1,5 @@
 import { units } from '../../../dist/sheet.mjs';
-import { MOST_ROOM, agreed, asked, filled, firstAltered, own, refusedRow, sheet, writtenRow, wrote, wroteInto } from './lent.mjs';
+import { MOST_ROOM, agreed, asked, filled, firstAltered, own, refusedRow, sheet, writtenRow, wroteInto } from './lent.mjs';
 import { answerList } from './lists.mjs';
 import { answerMend } from './mending.mjs';
 import { BAD_REQUEST, Words, encoded, ofFields, wanted } from './words.mjs';
@@ -10,6 +10,10 @@ const NAME_ROOM = 21;
 const LONGEST_NAME = 20;
 /** Bytes behind an opened book, which show where one alters too many. */
 const BEHIND = 64;
+const READ_ANSWER = 48;
+const READ_STARTS = 18;
+const READ_ENDS = 33;
+const CHECK_ANSWER = 10;
 const KINDS = ['run', 'quotes', 'quoted', 'open'];
 const PART = 3;
 
@@ -108,7 +112,7 @@ function answerRead(words, date) {
         if (!book && number === (date ? 1 : 0)) {
             calls.push([date ? 'sheet_read_date' : 'sheet_read']);
         }
-        const laid = calls.map(([name, ...lent]) => readRow(asked(name, 48, ...lent, ...given)));
+        const laid = calls.map(([name, ...lent]) => readRow(asked(name, READ_ANSWER, ...lent, ...given)));
         return agreed(own(() => shownReading(sheet.read(...given, { ...choices, book }))), ...laid);
     });
 }
@@ -117,8 +121,8 @@ function readRow({ number, row }) {
     if (number !== 0) {
         return refusedRow({ number, row });
     }
-    const spans = units.map((_, unit) => `${row[18 + unit]}:${row[33 + unit]}`);
-    return ['read', ...row.subarray(0, 18), ...spans].join(' ');
+    const spans = units.map((_, unit) => `${row[READ_STARTS + unit]}:${row[READ_ENDS + unit]}`);
+    return ['read', ...row.subarray(0, READ_STARTS), ...spans].join(' ');
 }
 
 function shownReading({ taken, mask, values, spans }) {
@@ -142,9 +146,9 @@ function answerCheck(words) {
     const bytes = words.book();
     words.end();
     return withBook(bytes, () => {
-        const laid = [checkRow(asked('sheet_check_with', 10, edition === 2 ? 4 : 0, pattern, year))];
+        const laid = [checkRow(asked('sheet_check_with', CHECK_ANSWER, edition === 2 ? 4 : 0, pattern, year))];
         if (edition === 1) {
-            laid.push(checkRow(asked('sheet_check', 10, pattern, year)));
+            laid.push(checkRow(asked('sheet_check', CHECK_ANSWER, pattern, year)));
         }
         return agreed(own(() => shownVerdict(sheet.check(pattern, year, { edition }))), ...laid);
     });

@@ -4,7 +4,7 @@ import { encoded } from './words.mjs';
 const CHANGES_ROW = 512;
 const CHANGE = 4;
 
-/** A pattern is mended into lent rows, and by the function that makes its own; of that the changes are undone, and the check is asked. */
+/** A pattern is mended into lent rows, and by the module; of that the changes are undone, and the check is asked. */
 export function answerMend(words) {
     const [pattern, year] = [words.bytes(), words.signed()];
     const room = words.unsigned(MOST_ROOM);

@@ -53,7 +53,7 @@ function firstDigit(part, whereItIs) {
     return `${shownPart(part)}${whereItIs} ${part.length === 1 ? 'is a digit' : 'begins with a digit'}`;
 }
 
-/** Which digit can stand a byte further: the next part's own, or the first of the one behind that where the next can be one byte. */
+/** Which digit can stand a byte further: the next part's own, or the first of the one behind where the next can be one byte. */
 function secondDigit(sheet, disturbed, [next, behind]) {
     if (!next) {
         return null;

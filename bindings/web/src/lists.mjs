@@ -7,7 +7,7 @@ const LINE_READING = 3;
 const NO_LINE = 103;
 
 /** How many lines a text has: a newline ends one, and a last one without counts. */
-export function newlines(bytes) {
+export function countLines(bytes) {
     let count = 0;
     for (let at = 0; at < bytes.length; at = behindLine(bytes, at)) {
         count += 1;

@@ -38,7 +38,7 @@ export class Memory {
     #bytes;
 
     constructor({ memory, __heap_base, ...functions }) {
-        this.#functions = functions;
+        this.#functions = new Map(Object.entries(functions));
         this.#memory = memory;
         this.#start = Math.ceil(__heap_base.value / ALIGNED) * ALIGNED;
         this.#bytes = new Uint8Array(memory.buffer);
@@ -46,8 +46,8 @@ export class Memory {
 
     /** Calls a function: a string or an array is lent as a pointer and a length, and an array then has what was altered. */
     call(name, ...lent) {
-        const called = this.#functions[name];
-        if (typeof called !== 'function') {
+        const called = this.#functions.get(name);
+        if (!called) {
             throw new TypeError(`the library has no function ${name}`);
         }
         this.#makeRoom(lent);

@@ -5,7 +5,7 @@ import { explained } from './explaining.mjs';
 import { explainedCheck } from './explaining_checks.mjs';
 import { explainedMending } from './explaining_mending.mjs';
 import { explainedStamp } from './explaining_stamps.mjs';
-import { linesOf, newlines } from './lists.mjs';
+import { countLines, linesOf } from './lists.mjs';
 import { bytesOf, numbersOf } from './memory.mjs';
 import { Refusal, unlessAccepted } from './refusal.mjs';
 
@@ -133,7 +133,7 @@ export class Sheet {
 
     readList(pattern, text, currentYear, choices = {}) {
         const bytes = bytesOf(text);
-        const count = newlines(bytes);
+        const count = countLines(bytes);
         const [days, months, years] = [0, 1, 2].map(() => new Int32Array(count));
         const codes = new Uint32Array(count);
         const year = signed('currentYear', currentYear);

@@ -23,7 +23,8 @@ function refusalOf(asked) {
 /** The sentences of `sheet_refusal_text`, by number. */
 function wordsOfHeader() {
     const header = fileOf('c/sheet.h');
-    const numbers = new Map(Array.from(header.matchAll(/^#define (SHEET_\w+) (\d+)/gm), ([, name, number]) => [name, Number(number)]));
+    const defined = header.matchAll(/^#define (SHEET_\w+) (\d+)/gm);
+    const numbers = new Map(Array.from(defined, ([, name, number]) => [name, Number(number)]));
     return Array.from(header.matchAll(/case (SHEET_\w+): return "(.*)";/g), ([, name, words]) => [numbers.get(name), words]);
 }
 
