@@ -69,9 +69,10 @@
     function lookAt({ pattern, year, choices, fields }) {
         const parts = asked(() => sheet.split(pattern, choices));
         if (parts.refusal) return { refusal: parts.refusal };
+        const written = (text) => asked(() => sheet.write(text, fields, choices)).answer;
         const verdict = asked(() => sheet.check(pattern, year, choices));
-        const texts = asked(() => parts.answer.map((part) => sheet.write(part.text, fields, choices)));
-        const look = { parts: parts.answer, texts: texts.answer, refusal: verdict.refusal };
+        const texts = parts.answer.map((part) => written(part.text) ?? '');
+        const look = { parts: parts.answer, texts, isWritten: written(pattern) !== undefined, refusal: verdict.refusal };
         if (verdict.refusal) return look;
         if (choices.date && sheet.split(pattern).some(isOfTime)) return { ...look, unchecked: true };
         return verdict.answer.trusted ? look : { ...look, failing: verdict.answer.part, record: verdict.answer.record };

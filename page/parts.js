@@ -67,11 +67,11 @@ const Parts = (() => {
 
     // `look` has the parts with the text of each, or the refusal of the pattern; `failing` is the part that the check names.
     function show(pattern, look) {
+        const nothing = { parts: [], texts: [] };
         showField(pattern, look);
-        const written = look.texts ? look : { parts: [], texts: [] };
-        showCards(written);
-        showWritten(written);
+        showCards(look.parts ? look : nothing);
+        showWritten(look.isWritten ? look : nothing);
     }
 
-    return { show, showPieces, piece };
+    return { show };
 })();

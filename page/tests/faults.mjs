@@ -2,6 +2,7 @@
 export const FAULTS = [
     ['words.js', "2: 'month, two digits'", "2: 'month'", 'patterns.words'],
     ['parts.js', "number === failing ? 'failing' : '');\n            });", "'');\n            });", 'patterns.aNo'],
+    ['main.js', 'written(part.text)', 'written(part.text.trim())', 'patterns.written'],
     ['verdict.js', 'differs = written !== undefined && written !== value', 'differs = false', 'patterns.aNo'],
     ['verdict.js', "offset') return \"eeee, d MMMM y 'at the offset' xxxxx\"", "offset') return 'eeee, d MMMM y'", 'patterns.othersOfANo'],
     ['mending.js', 'taken[number] = !taken[number];', 'taken[number] = false;', 'patterns.mending'],

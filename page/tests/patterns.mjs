@@ -31,6 +31,16 @@ export async function words(tab) {
     }
 }
 
+// What is shown as written, part by part, is what the library writes.
+export async function written(tab) {
+    for (const pattern of ["'abc''", "''''", "'''a'", "dd''dd", "h 'o''clock'", "'at' HH", 'yyyyMMddHH', 'eeee  w  q', '\tY']) {
+        await tab.repaste('#pattern', pattern);
+        const record = '{ year: 2025, month: 12, day: 3, dayOfYear: 337, week: 49, weekday: 3, nanoseconds: 25509000120000, offset: 19800 }';
+        const text = await tab.value(`openSheet().then((sheet) => sheet.write(${JSON.stringify(pattern)}, ${record}))`);
+        same((await tab.texts('#written span')).join(''), text, `what ${pattern} writes`);
+    }
+}
+
 export async function aNo(tab) {
     await tab.retype('#pattern', 'd/M');
     within(await tab.text('#verdict-sentence'), /^No\. Part 2, M, does not come back/, 'the verdict');

@@ -26,6 +26,8 @@ export async function loneQuote(tab) {
     await tab.retype('#pattern', "dd '");
     within(await tab.text('#verdict-sentence'), /^Refused 3/, 'the verdict on a lone quote');
     same(await lit(tab), ["'"], 'what is lit up');
+    same(await tab.texts('#parts .words'), ['day, two digits', 'a space', 'a quote that opens nothing'], 'the words of the parts');
+    same(await tab.text('#written'), '', 'what is written');
 }
 
 // What is typed is never markup, and no byte is lost in showing it.
