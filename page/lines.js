@@ -109,15 +109,17 @@ const Lines = (() => {
         } catch (refusal) {
             if (!(refusal instanceof openSheet.Refusal)) throw refusal;
             const why = sheet.explain(job.pattern, line, refusal, job.choices);
-            return { shown: piecesOfRefused(line, refusal), said: [make('b', {}, String(refusal.number)), ' ', ...sentence(why)], refused: true };
+            const said = [make('b', {}, String(refusal.number)), ' ', ...sentence(why)];
+            return { shown: piecesOfRefused(line, refusal), said, isRefused: true };
         }
     }
 
     function rowOf(place, number, height) {
-        const { shown, said, refused } = answerOf(job.lines[number]);
+        const { shown, said, isRefused } = answerOf(job.lines[number]);
+        const className = isRefused ? 'row refused' : 'row';
         const row = make(
             'li',
-            { className: refused ? 'row refused' : 'row', aria: { posinset: place + 1, setsize: rowCount() }, data: { place, line: number } },
+            { className, aria: { posinset: place + 1, setsize: rowCount() }, data: { place, line: number } },
             make('span', { className: 'number' }, String(number + 1)),
             make('code', { className: 'line' }, ...shown),
             make('span', { className: 'said' }, ...said)

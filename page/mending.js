@@ -35,8 +35,8 @@ const Mending = (() => {
         const verdict = sheet.check(result, state.year, state.choices);
         const writes = [' It writes ', make('code', {}, sample(result)), '.'];
         if (verdict.trusted) return [make('strong', {}, 'Yes.'), ' Every day comes back.', ...writes];
-        const part = sheet.split(result)[verdict.part].text;
-        return [make('strong', {}, 'No.'), ' Part ', String(verdict.part), ', ', make('code', {}, part), ', still does not come back.', ...writes];
+        const part = make('code', {}, sheet.split(result)[verdict.part].text);
+        return [make('strong', {}, 'No.'), ` Part ${verdict.part}, `, part, ', still does not come back.', ...writes];
     }
 
     function showResult(sheet, state, sample) {

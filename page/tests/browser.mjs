@@ -23,6 +23,7 @@ export class Browser {
     #listeners = new Map();
     #last = 0;
     #rest = '';
+    #ended;
 
     constructor(program) {
         this.room = mkdtempSync(join(tmpdir(), 'page-test-'));
@@ -36,6 +37,7 @@ export class Browser {
     }
 
     #fail(why) {
+        this.#ended = why;
         for (const { reject } of this.#waiting.values()) reject(new Error(why));
         this.#waiting.clear();
     }
@@ -61,6 +63,7 @@ export class Browser {
     send(method, params = {}, sessionId = undefined) {
         this.#last += 1;
         const id = this.#last;
+        if (this.#ended) return Promise.reject(new Error(this.#ended));
         return new Promise((resolve, reject) => {
             const late = setTimeout(() => reject(new Error(`${method} is not answered`)), LONGEST_ANSWER);
             const settle = (how) => (answer) => {

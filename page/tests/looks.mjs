@@ -43,7 +43,7 @@ export async function contrast(tab, { address, say }) {
     for (const state of STATES) {
         await tab.leave();
         await tab.open(address + state);
-        if (await tab.value(`document.querySelector('.row button') !== null`)) await tab.value(`document.querySelector('.row button').focus()`);
+        await tab.value(`document.querySelector('.row button')?.focus()`);
         const found = await tab.value(CONTRASTS);
         holds(found.length > 40, `texts are looked at: ${found.length}`);
         holds(found[0][0] >= LEAST_CONTRAST, `contrast ${found[0][0].toFixed(2)} of ${found[0][1]}`);
@@ -52,11 +52,15 @@ export async function contrast(tab, { address, say }) {
     say(`least contrast ${least.toFixed(2)}`);
 }
 
-const TARGETS = `[...document.querySelectorAll('button, input, select, textarea')].filter((control) => control.checkVisibility()).map((control) => {
-    const isSmall = control.type === 'checkbox' || control.type === 'radio';
-    const { width, height } = (isSmall ? control.closest('label') : control).getBoundingClientRect();
-    return [Math.min(width, height), control.id || control.textContent];
-}).sort((some, other) => some[0] - other[0])`;
+const TARGETS = `(() => {
+    const controls = [...document.querySelectorAll('button, input, select, textarea')].filter((control) => control.checkVisibility());
+    const sizeOf = (control) => {
+        const isSmall = control.type === 'checkbox' || control.type === 'radio';
+        const { width, height } = (isSmall ? control.closest('label') : control).getBoundingClientRect();
+        return [Math.min(width, height), control.id || control.textContent];
+    };
+    return controls.map(sizeOf).sort((some, other) => some[0] - other[0]);
+})()`;
 
 export async function targets(tab, { address, say }) {
     await tab.leave();

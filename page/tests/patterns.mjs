@@ -15,7 +15,8 @@ export async function typing(tab) {
     same(await tab.texts('#parts .bytes'), ['d', '/', 'M'], 'the parts');
     same(await tab.texts('#parts .words'), ['day, one or two digits', 'itself', 'month, one or two digits'], 'the words of the parts');
     same(await tab.text('#written'), '3/12', 'what is written');
-    const colours = await tab.value(`[...document.querySelectorAll('#pattern-shown [data-colour]')].map((part) => getComputedStyle(part).color)`);
+    const shown = `[...document.querySelectorAll('#pattern-shown [data-colour]')]`;
+    const colours = await tab.value(`${shown}.map((part) => getComputedStyle(part).color)`);
     same(new Set(colours.slice(0, 3)).size, 3, 'the colours of d, / and M');
 }
 
@@ -33,9 +34,10 @@ export async function words(tab) {
 
 // What is shown as written, part by part, is what the library writes.
 export async function written(tab) {
+    const date = 'year: 2025, month: 12, day: 3, dayOfYear: 337, week: 49, weekday: 3';
+    const record = `{ ${date}, nanoseconds: 25509000120000, offset: 19800 }`;
     for (const pattern of ["'abc''", "''''", "'''a'", "dd''dd", "h 'o''clock'", "'at' HH", 'yyyyMMddHH', 'eeee  w  q', '\tY']) {
         await tab.repaste('#pattern', pattern);
-        const record = '{ year: 2025, month: 12, day: 3, dayOfYear: 337, week: 49, weekday: 3, nanoseconds: 25509000120000, offset: 19800 }';
         const text = await tab.value(`openSheet().then((sheet) => sheet.write(${JSON.stringify(pattern)}, ${record}))`);
         same((await tab.texts('#written span')).join(''), text, `what ${pattern} writes`);
     }
@@ -45,8 +47,10 @@ export async function aNo(tab) {
     await tab.retype('#pattern', 'd/M');
     within(await tab.text('#verdict-sentence'), /^No\. Part 2, M, does not come back/, 'the verdict');
     same(await tab.texts('#pattern-shown .failing'), ['M'], 'the part that is underlined');
-    same(await tab.value(`getComputedStyle(document.querySelector('#pattern-shown .failing')).textDecorationLine`), 'underline', 'its line');
-    same(await tab.value(`[...document.querySelectorAll('#parts .part')].map((part) => part.classList.contains('failing'))`), [false, false, true], 'its card');
+    const line = await tab.value(`getComputedStyle(document.querySelector('#pattern-shown .failing')).textDecorationLine`);
+    same(line, 'underline', 'its line');
+    const cards = await tab.value(`[...document.querySelectorAll('#parts .part')].map((part) => part.classList.contains('failing'))`);
+    same(cards, [false, false, true], 'the card that is marked');
     within(await tab.text('#failing dd:nth-of-type(1)'), /^Saturday, 23 November 2024$/, 'the day');
     same(await tab.text('#failing dd:nth-of-type(2)'), '23/11', 'its text');
     same(await tab.text('#failing .text .failing'), '11', 'what the part writes');

@@ -83,7 +83,9 @@ async function tryPlaces() {
 // The same page from a server of plain files.
 async function tryServed() {
     const server = await served(page);
-    for (const name of ['patterns.typing', 'choices.link']) tell(`served: ${name}`, await tried(name, WINDOW, page, server.address, () => {}));
+    for (const name of ['patterns.typing', 'choices.link']) {
+        tell(`served: ${name}`, await tried(name, WINDOW, page, server.address, () => {}));
+    }
     server.close();
 }
 
@@ -103,9 +105,12 @@ async function tryFaults() {
 }
 
 try {
+    await browser.send('Browser.getVersion');
     await tryPlaces();
     await tryServed();
     await tryFaults();
+} catch (error) {
+    tell('the browser', error.message);
 } finally {
     await browser.close();
     rmSync(room, { recursive: true, force: true });

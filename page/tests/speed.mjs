@@ -62,7 +62,8 @@ const WATCH_BREATHS = `(() => {
     port2.postMessage(0);
 })()`;
 
-const COLUMN = `Array.from({ length: 5000 }, (_, line) => line % 10 === 9 ? 'berth ' + line : '03/12/' + (1000 + line) + ' 07:05').join('\\n')`;
+const line = (number) => (number % 10 === 9 ? `berth ${number}` : `03/12/${1000 + number} 07:05`);
+const COLUMN = Array.from({ length: 5000 }, (_, number) => line(number)).join('\n');
 
 // Pastes a text into an empty field, and gives how long the page took no other message meanwhile, and how long it was until all was shown.
 async function pasted(tab, selector, text, isDone) {
@@ -79,12 +80,11 @@ async function pasted(tab, selector, text, isDone) {
 export async function column(tab, { say }) {
     await tab.retype('#pattern', 'dd/MM/yyyy HH:mm');
     await tab.value(`document.body.append(Object.assign(document.createElement('textarea'), { id: 'bare', rows: 5, wrap: 'off' }))`);
-    const text = await tab.value(COLUMN);
     await tab.value(WATCH_BREATHS);
     const isGood = ({ read, bare }) => read.gap < bare.gap + MOST_WITHOUT_A_BREATH;
     const { read, bare } = await measured(isGood, async () => ({
-        bare: await pasted(tab, '#bare', text, `document.getElementById('bare').value.length > 1`),
-        read: await pasted(tab, '#column', text, `document.getElementById('tally').textContent === '4,500 lines read, 500 refused'`),
+        bare: await pasted(tab, '#bare', COLUMN, `document.getElementById('bare').value.length > 1`),
+        read: await pasted(tab, '#column', COLUMN, `document.getElementById('tally').textContent === '4,500 lines read, 500 refused'`),
     }));
     const most = `${read.gap.toFixed(0)} ms without a breath at most`;
     say(`5,000 lines: read after ${read.took} ms, ${most}, of which a bare box takes ${bare.gap.toFixed(0)}`);

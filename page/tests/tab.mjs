@@ -3,6 +3,8 @@ const KEYS = { Tab: 9, Enter: 13, Space: 32, Home: 36, End: 35, ArrowDown: 40, B
 
 const late = (address) => new Promise((_, reject) => setTimeout(() => reject(new Error(`${address} is not loaded`)), 10000).unref());
 
+const thrown = ({ exception, text }) => exception?.description ?? text;
+
 export class Tab {
     #send;
     #loaded = () => {};
@@ -17,9 +19,9 @@ export class Tab {
 
     hear(method, params) {
         if (method === 'Page.loadEventFired') this.#loaded();
-        if (method === 'Runtime.exceptionThrown') this.faults.push(params.exceptionDetails.exception?.description ?? params.exceptionDetails.text);
+        if (method === 'Runtime.exceptionThrown') this.faults.push(thrown(params.exceptionDetails));
         if (method === 'Runtime.consoleAPICalled' && params.type === 'error') this.faults.push(JSON.stringify(params.args));
-        if (method === 'Log.entryAdded' && params.entry.level === 'error') this.faults.push(`${params.entry.text} ${params.entry.url ?? ''}`);
+        if (method === 'Log.entryAdded' && params.entry.level === 'error') this.faults.push(params.entry.text);
         if (method === 'Network.requestWillBeSent') this.asked.push(params.request.url);
     }
 
@@ -57,7 +59,7 @@ export class Tab {
 
     async value(expression) {
         const { result, exceptionDetails } = await this.#send('Runtime.evaluate', { expression, returnByValue: true, awaitPromise: true });
-        if (exceptionDetails) throw new Error(`${expression}: ${exceptionDetails.exception?.description ?? exceptionDetails.text}`);
+        if (exceptionDetails) throw new Error(`${expression}: ${thrown(exceptionDetails)}`);
         return result.value;
     }
 
@@ -155,7 +157,8 @@ export class Tab {
 
     // Copies a text from a field that is there for that alone, and pastes it in the place of what is in another.
     async repaste(selector, text) {
-        await this.value(`document.body.append(Object.assign(document.createElement('textarea'), { id: 'copied', value: ${JSON.stringify(text)} }))`);
+        const copied = `{ id: 'copied', value: ${JSON.stringify(text)} }`;
+        await this.value(`document.body.append(Object.assign(document.createElement('textarea'), ${copied}))`);
         await this.select('#copied');
         await this.#command('copy');
         await this.value(`document.getElementById('copied').remove()`);
