@@ -11,6 +11,7 @@ const Lines = (() => {
     const ROWS_MORE = 6;
     // A longer line is shown from a little before the place that is at fault.
     const LONGEST_SHOWN = 160;
+    const SHOWN_BEFORE = 8;
 
     // What is being read: the lines, how, and what is known of them so far.
     let job = { lines: [], codes: [], refused: [], refusal: null, pattern: '', year: 0, choices: {} };
@@ -92,7 +93,7 @@ const Lines = (() => {
     // The end of the line is shown as a mark of its own where it is what was not expected.
     function piecesOfRefused(line, refusal) {
         const place = faultOf(line, refusal);
-        const from = place > LONGEST_SHOWN ? place - 20 : 0;
+        const from = place > SHOWN_BEFORE * 2 ? place - SHOWN_BEFORE : 0;
         const character = place < line.length ? String.fromCodePoint(line.codePointAt(place)) : '';
         const fault = make('span', { className: character ? 'fault' : 'fault end' }, character);
         const behind = place + character.length;

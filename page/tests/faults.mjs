@@ -10,6 +10,7 @@ export const FAULTS = [
     ['parts.js', 'openSheet.charPlace(pattern, refusal.details[0])', 'refusal.details[0] + 1', 'refusals.beyondAscii'],
     ['parts.js', 'refusal?.number === 3 &&', 'refusal?.number === 4 &&', 'refusals.loneQuote'],
     ['elements.js', 'element.append(...children);', "element.innerHTML = children.join('');", 'refusals.markup'],
+    ['parts.js', 'pattern.slice(end), ', 'pattern.slice(end + 1), ', 'anything.anything'],
     ['main.js', '/^\\d+$/.test(year) ? Number(year) : 0', 'Number(year) || 2025', 'refusals.currentYear'],
     ['lines.js', 'return openSheet.charPlace(line, details.at(-1));', 'return details[0] + 1;', 'columns.values'],
     ['lines.js', "bytes.classList.toggle('lit', isLit);", '', 'columns.lighting', 'tablet'],

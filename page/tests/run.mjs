@@ -6,6 +6,7 @@ import { fileURLToPath, pathToFileURL } from 'node:url';
 import { Browser } from './browser.mjs';
 import { FAULTS } from './faults.mjs';
 import { served } from './served.mjs';
+import * as anything from './anything.mjs';
 import * as choices from './choices.mjs';
 import * as columns from './columns.mjs';
 import * as looks from './looks.mjs';
@@ -13,7 +14,7 @@ import * as patterns from './patterns.mjs';
 import * as refusals from './refusals.mjs';
 import * as speed from './speed.mjs';
 
-const GROUPS = { patterns, refusals, columns, choices, looks, speed };
+const GROUPS = { patterns, refusals, anything, columns, choices, looks, speed };
 const WINDOW = { width: 1280, height: 800, touch: false, dark: false };
 const DARK = { ...WINDOW, dark: true };
 const TABLET = { width: 820, height: 1180, touch: true, dark: false };
