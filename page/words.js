@@ -145,5 +145,5 @@ const Words = (() => {
 
     const capitalised = (text) => text.charAt(0).toUpperCase() + text.slice(1);
 
-    return { units: UNITS, ofPart, colourOf, ofOffset, ofValue, inOrder, listed, counted, capitalised };
+    return { units: UNITS, ofPart, colourOf, ofValue, inOrder, listed, counted, capitalised };
 })();

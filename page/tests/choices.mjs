@@ -43,6 +43,12 @@ export async function books(tab, { books: folder, room }) {
     await tab.chooseFile('#book-file', join(folder, 'dutch.lnb'));
     await tab.until(`document.getElementById('written').textContent === '3 december'`);
     same(await tab.text('#book-said'), 'Opened: januari to december.', 'a book from a file');
+    await tab.click('#send');
+    const sent = await tab.value('location.href');
+    await tab.leave();
+    await tab.open(sent);
+    same(await tab.text('#written'), '3 december', 'what is written with the book of a link');
+    same(await tab.text('#book option:checked'), 'From the link', 'the book that is chosen then');
 }
 
 // The books of the page are those of the repository.

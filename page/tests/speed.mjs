@@ -76,12 +76,13 @@ async function pasted(tab, selector, text, isDone) {
     return { gap: await tab.value('window.gap'), took: Date.now() - start };
 }
 
-// The browser itself takes a while to lay out so many lines in a box, so it is asked first what a bare one takes.
+// The browser itself takes a while to lay out so many lines in a box, so it is asked first what a bare one takes; the page may take as
+// much again, which is more than it needs, and a moment.
 export async function column(tab, { say }) {
     await tab.retype('#pattern', 'dd/MM/yyyy HH:mm');
     await tab.value(`document.body.append(Object.assign(document.createElement('textarea'), { id: 'bare', rows: 5, wrap: 'off' }))`);
     await tab.value(WATCH_BREATHS);
-    const isGood = ({ read, bare }) => read.gap < bare.gap + MOST_WITHOUT_A_BREATH;
+    const isGood = ({ read, bare }) => read.gap < 2 * bare.gap + MOST_WITHOUT_A_BREATH;
     const { read, bare } = await measured(isGood, async () => ({
         bare: await pasted(tab, '#bare', COLUMN, `document.getElementById('bare').value.length > 1`),
         read: await pasted(tab, '#column', COLUMN, `document.getElementById('tally').textContent === '4,500 lines read, 500 refused'`),
