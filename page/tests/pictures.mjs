@@ -36,6 +36,8 @@ async function take([name, look, hash, prepare = async () => {}, selector]) {
     await tab.open(address + hash);
     await tab.until(`document.getElementById('window').ariaBusy === 'false'`);
     await prepare(tab);
+    // Colours that change have changed by then.
+    await tab.value('new Promise((resolve) => setTimeout(resolve, 400))');
     const clip = selector && (await tab.value(inSight(selector)));
     const bytes = await tab.picture(clip);
     writeFileSync(join(folder, `${name}.png`), bytes);
