@@ -1,19 +1,24 @@
 // Faults that the checks have to notice: a file, what stands in it, what is put there, the check, and where it is tried if not in a window.
+const MARKUP = "for (const child of children) child.tagName ? element.append(child) : element.insertAdjacentHTML('beforeend', child);";
+
 export const FAULTS = [
     ['words.js', "2: 'month, two digits'", "2: 'month'", 'patterns.words'],
     ['parts.js', "number === failing ? 'failing' : '');\n            });", "'');\n            });", 'patterns.aNo'],
     ['main.js', 'written(part.text)', 'written(part.text.trim())', 'patterns.written'],
     ['verdict.js', 'differs = written !== undefined && written !== value', 'differs = false', 'patterns.aNo'],
     ['verdict.js', "offset') return \"eeee, d MMMM y 'at the offset' xxxxx\"", "offset') return 'eeee, d MMMM y'", 'patterns.othersOfANo'],
+    ['verdict.js', 'the letters are the ones that were meant', 'all is well', 'patterns.aYes'],
     ['mending.js', 'taken[number] = !taken[number];', 'taken[number] = false;', 'patterns.mending'],
     ['day.js', '((hour * 60 + minute) * 60 + second)', '((hour * 60 + minute) * 60)', 'patterns.theDay'],
     ['parts.js', 'openSheet.charPlace(pattern, refusal.details[0])', 'refusal.details[0] + 1', 'refusals.beyondAscii'],
+    ['parts.js', 'const longest = 256;', 'const longest = 255;', 'refusals.tooLong'],
     ['parts.js', 'refusal?.number === 3 &&', 'refusal?.number === 4 &&', 'refusals.loneQuote'],
-    ['elements.js', 'element.append(...children);', "element.innerHTML = children.join('');", 'refusals.markup'],
+    ['elements.js', 'element.append(...children);', MARKUP, 'refusals.markup'],
     ['parts.js', 'pattern.slice(end), ', 'pattern.slice(end + 1), ', 'anything.anything'],
     ['main.js', '/^\\d+$/.test(year) ? Number(year) : 0', 'Number(year) || 2025', 'refusals.currentYear'],
     ['lines.js', 'return openSheet.charPlace(line, details.at(-1));', 'return details[0] + 1;', 'columns.values'],
     ['lines.js', "bytes.classList.toggle('lit', isLit);", '', 'columns.lighting', 'tablet'],
+    ['lines.js', 'place - SHOWN_BEFORE : 0', '0 : 0', 'columns.longLines'],
     ['lines.js', '- ROWS_MORE)', '- 9999)', 'columns.scrolling'],
     ['lines.js', "? job.refused : null);", "? null : null);", 'columns.refusedAlone'],
     ['main.js', "strict: strict === '1'", 'strict: false', 'choices.switches'],

@@ -32,12 +32,14 @@ export async function loneQuote(tab) {
 
 // What is typed is never markup, and no byte is lost in showing it.
 export async function markup(tab) {
-    const pattern = `<img src=x onerror="document.title='x'">&amp;`;
-    await tab.retype('#pattern', pattern);
-    same((await tab.texts('#pattern-shown span')).join(''), `${pattern}\u200b`, 'the pattern as it is shown');
-    await tab.repaste('#column', pattern);
-    await tab.until(`document.querySelector('.row .line')`);
-    same(await tab.value(`document.querySelectorAll('img').length`), 0, 'the pictures on the page');
+    const words = '<img src=x onerror="document.title=1"><i>&amp;</i>';
+    await tab.repaste('#pattern', `'${words}'`);
+    same((await tab.texts('#pattern-shown span')).join(''), `'${words}'\u200b`, 'the pattern as it is shown');
+    same(await tab.text('#written'), words, 'what it writes');
+    await tab.retype('#pattern', '');
+    await tab.repaste('#column', words);
+    await tab.until(`document.querySelector('.row .line')?.textContent === ${JSON.stringify(words)}`);
+    same(await tab.value(`document.querySelectorAll('img, i').length`), 0, 'the markup on the page');
     await tab.repaste('#pattern', 'd/\nMM\tH\r\n');
     same(await tab.value(`document.getElementById('pattern').value`), 'd/MM\tH', 'a pattern with new lines');
     await tab.repaste('#pattern', 'd`M`');
