@@ -1,5 +1,7 @@
 import { units } from '../../../dist/sheet.mjs';
-import { MOST_ROOM, agreed, asked, filled, firstAltered, own, refusedRow, sheet, writtenRow, wroteInto } from './lent.mjs';
+import {
+    MOST_ROOM, agreed, asked, filled, firstAltered, own, preparedRow, refusedRow, rowOfBook, sheet, writtenRow, wroteInto,
+} from './lent.mjs';
 import { answerList } from './lists.mjs';
 import { answerMend } from './mending.mjs';
 import { BAD_REQUEST, Words, encoded, ofFields, wanted } from './words.mjs';
@@ -19,30 +21,36 @@ const PART = 3;
 
 const ANSWERS = {
     split: answerSplit,
-    write: (words) => answerWrite(words, false),
-    write_date: (words) => answerWrite(words, true),
-    read: (words) => answerRead(words, false),
-    read_date: (words) => answerRead(words, true),
+    write: (words, prepared) => answerWrite(words, false, prepared),
+    write_date: (words, prepared) => answerWrite(words, true, prepared),
+    read: (words, prepared) => answerRead(words, false, prepared),
+    read_date: (words, prepared) => answerRead(words, true, prepared),
     parse_offset: answerOffset,
     check: answerCheck,
     day_of: answerDay,
     day_number: answerNumber,
     book: answerBook,
     book_write: answerBookWrite,
-    list: (words) => answerList(words, withBook),
+    list: (words, prepared) => answerList(words, withBook, prepared),
     mend: answerMend,
     rfc_read: answerStamp,
     rfc_write: answerStampWrite,
 };
 
+/** The requests that may have the word `prepared` before them. */
+const BY_PREPARED = ['write', 'write_date', 'read', 'read_date', 'check', 'list'];
+
 /** A line with more bytes is no request. */
 export const LONGEST = 20000;
 
 export function answerTo(line) {
-    const words = new Words(line);
-    const first = words.word();
     try {
-        return wanted(line.length <= LONGEST && Object.hasOwn(ANSWERS, first) && ANSWERS[first])(words);
+        wanted(line.length <= LONGEST);
+        const words = new Words(line);
+        const isPrepared = words.takes('prepared');
+        const first = words.word();
+        wanted(!isPrepared || BY_PREPARED.includes(first));
+        return wanted(Object.hasOwn(ANSWERS, first) && ANSWERS[first])(words, isPrepared);
     } catch (error) {
         if (error === BAD_REQUEST) {
             return error.message;
@@ -84,7 +92,7 @@ function shownParts(parts) {
     return [`parts ${parts.length}`, ...parts.map((part) => part.join(':'))].join(' ');
 }
 
-function answerWrite(words, date) {
+function answerWrite(words, date, isPrepared) {
     const pattern = words.bytes();
     const fields = words.fields();
     const room = words.unsigned(MOST_ROOM);
@@ -92,29 +100,53 @@ function answerWrite(words, date) {
     words.end();
     return withBook(bytes, (book) => {
         const out = filled(room);
-        const [name, lent] = book
-            ? ['sheet_write_by', [date ? 1 : 0, book.row]]
-            : [date ? 'sheet_write_date' : 'sheet_write', []];
-        const row = asked(name, 2, ...lent, pattern, ...ofFields(fields), out);
-        const text = () => wroteInto(room, Buffer.from(sheet.write(pattern, fields, { date, book })));
-        return agreed(writtenRow(row, out), own(text));
+        const [name, ...lent] = writer(pattern, date, book, isPrepared);
+        const row = asked(name, 2, ...lent, ...ofFields(fields), out);
+        const text = () => {
+            return isPrepared
+                ? sheet.prepare(pattern, { date }).write(fields, { book })
+                : sheet.write(pattern, fields, { date, book });
+        };
+        return agreed(writtenRow(row, out), own(() => wroteInto(room, Buffer.from(text()))));
     });
 }
 
-function answerRead(words, date) {
-    const given = [words.bytes(), words.bytes(), words.signed()];
+/** The function that writes, and what it is lent before the fields. */
+function writer(pattern, date, book, isPrepared) {
+    if (isPrepared) {
+        return ['sheet_prepared_write', rowOfBook(book), preparedRow(pattern, date)];
+    }
+    return book ? ['sheet_write_by', date ? 1 : 0, book.row, pattern] : [date ? 'sheet_write_date' : 'sheet_write', pattern];
+}
+
+function answerRead(words, date, isPrepared) {
+    const [pattern, text, year] = [words.bytes(), words.bytes(), words.signed()];
     const choices = { date, strict: words.takes('strict'), edition: words.edition() };
     const bytes = words.book();
     words.end();
     const number = (date ? 1 : 0) + (choices.strict ? 2 : 0) + (choices.edition === 2 ? 4 : 0);
     return withBook(bytes, (book) => {
-        const calls = book ? [['sheet_read_by', number, book.row]] : [['sheet_read_with', number]];
-        if (!book && number === (date ? 1 : 0)) {
-            calls.push([date ? 'sheet_read_date' : 'sheet_read']);
-        }
-        const laid = calls.map(([name, ...lent]) => readRow(asked(name, READ_ANSWER, ...lent, ...given)));
-        return agreed(own(() => shownReading(sheet.read(...given, { ...choices, book }))), ...laid);
+        const calls = isPrepared
+            ? [['sheet_prepared_read', number, rowOfBook(book), preparedRow(pattern, date)]]
+            : readers(pattern, number, book);
+        const laid = calls.map(([name, ...lent]) => readRow(asked(name, READ_ANSWER, ...lent, text, year)));
+        const reading = () => {
+            return isPrepared
+                ? sheet.prepare(pattern, { date }).read(text, year, { ...choices, book })
+                : sheet.read(pattern, text, year, { ...choices, book });
+        };
+        return agreed(own(() => shownReading(reading())), ...laid);
     });
+}
+
+/** The functions that read, each with what it is lent before the text; without a choice but for the pair two do the same. */
+function readers(pattern, number, book) {
+    const ofPairs = ['sheet_read', 'sheet_read_date'];
+    if (book) {
+        return [['sheet_read_by', number, book.row, pattern]];
+    }
+    const withChoices = ['sheet_read_with', number, pattern];
+    return number < ofPairs.length ? [withChoices, [ofPairs[number], pattern]] : [withChoices];
 }
 
 function readRow({ number, row }) {
@@ -141,17 +173,30 @@ function answerOffset(words) {
     );
 }
 
-function answerCheck(words) {
+function answerCheck(words, isPrepared) {
     const [pattern, year, edition] = [words.bytes(), words.signed(), words.edition()];
     const bytes = words.book();
     words.end();
     return withBook(bytes, () => {
-        const laid = [checkRow(asked('sheet_check_with', CHECK_ANSWER, edition === 2 ? 4 : 0, pattern, year))];
-        if (edition === 1) {
-            laid.push(checkRow(asked('sheet_check', CHECK_ANSWER, pattern, year)));
-        }
-        return agreed(own(() => shownVerdict(sheet.check(pattern, year, { edition }))), ...laid);
+        const calls = isPrepared ? preparedChecks(pattern, edition) : checks(pattern, edition);
+        const laid = calls.map(([name, ...lent]) => checkRow(asked(name, CHECK_ANSWER, ...lent, year)));
+        const verdict = () => {
+            return isPrepared ? sheet.prepare(pattern).check(year, { edition }) : sheet.check(pattern, year, { edition });
+        };
+        return agreed(own(() => shownVerdict(verdict())), ...laid);
     });
+}
+
+/** The functions that check, each with what it is lent before the year. */
+function checks(pattern, edition) {
+    return edition === 2
+        ? [['sheet_check_with', 4, pattern]]
+        : [['sheet_check_with', 0, pattern], ['sheet_check', pattern]];
+}
+
+/** For either pair that can be prepared. */
+function preparedChecks(pattern, edition) {
+    return [false, true].map((date) => ['sheet_prepared_check', edition === 2 ? 4 : 0, preparedRow(pattern, date)]);
 }
 
 function checkRow({ number, row }) {
@@ -219,11 +264,11 @@ function answerBookWrite(words) {
     wanted(names.every((name) => name.length <= 255));
     words.end();
     const out = filled(room);
-    const laid = writtenRow(asked('sheet_book_write', 2, rowOf(names), out), out);
+    const laid = writtenRow(asked('sheet_book_write', 2, rowOfNames(names), out), out);
     return agreed(laid, own(() => wroteInto(room, sheet.writeBook(sheet.makeBook(names)))));
 }
 
-function rowOf(names) {
+function rowOfNames(names) {
     const row = new Uint8Array(BOOK_ROW);
     names.forEach((name, k) => {
         row[NAME_ROOM * k] = name.length;

@@ -8,6 +8,8 @@ const MARK = -(2n ** 63n);
 /** Their details are the part and the place. */
 const OF_A_PART = [8, 9, 10, 11, 15, 19];
 
+const PREPARED_ROW = 259;
+
 export const MOST_ROOM = 4096;
 export const NO_ROOM = 5;
 
@@ -34,6 +36,17 @@ export function marked(entries) {
 export function asked(name, entries, ...lent) {
     const row = marked(entries);
     return { number: sheet.call(name, ...lent, row), row };
+}
+
+export function rowOfBook(book) {
+    return book ? book.row : new Uint8Array(0);
+}
+
+/** The row of a prepared pattern, which a refused one has too. */
+export function preparedRow(pattern, date) {
+    const row = new BigUint64Array(PREPARED_ROW);
+    sheet.call('sheet_prepare', date ? 1 : 0, pattern, row, marked(2));
+    return row;
 }
 
 /** The line of a refusal, whose details are followed by zeros; where the row has something else, all of it. */

@@ -37,6 +37,7 @@ const WORDS = new Map([
     [102, 'the bytes are no opened book'],
     [103, 'no line is left at that place'],
     [104, 'the changes do not fit the pattern'],
+    [105, 'the row is no prepared pattern'],
 ]);
 
 /** From here on a number has no details. */

@@ -1,19 +1,18 @@
-import { dayOf, partOf, readingOf, textOf, units, verdictOf } from './answers.mjs';
+import { dayOf, partOf, textOf, units } from './answers.mjs';
 import { BOOK_ROW, Book, LONGEST_BOOK, rowOfNames } from './book.mjs';
-import { entry, fieldsInOrder, numberOf, signed, unsigned, unsigned64 } from './choices.mjs';
+import { entry, numberOf, signed, unsigned, unsigned64 } from './choices.mjs';
 import { explained } from './explaining.mjs';
 import { explainedCheck } from './explaining_checks.mjs';
 import { explainedMending } from './explaining_mending.mjs';
 import { explainedStamp } from './explaining_stamps.mjs';
-import { countLines, linesOf } from './lists.mjs';
+import { asked, checkedBy, listedBy, readBy, rowOfBook, written, writtenBy } from './jobs.mjs';
+import { linesOf } from './lists.mjs';
 import { bytesOf, numbersOf } from './memory.mjs';
+import { Prepared } from './prepared.mjs';
 import { Refusal, unlessAccepted } from './refusal.mjs';
 
-const LONGEST_PATTERN = 256;
-const BYTES_A_PATTERN_BYTE = 8;
+const LONGEST_MENDED = 256;
 const LONGEST_STAMP = 35;
-const READ_ANSWER = 48;
-const CHECK_ANSWER = 10;
 const DAY_ANSWER = 6;
 const STAMP_ANSWER = 6;
 const SPLIT_PARTS = 768;
@@ -21,13 +20,6 @@ const UNITS_ROW = 256;
 const CHANGES_ROW = 512;
 const CHANGE = 4;
 const MISFIT = 104;
-
-/** In the place of an opened book: the English names. */
-const NO_BOOK = new Uint8Array(0);
-
-function rowOfBook(book) {
-    return book ? book.row : NO_BOOK;
-}
 
 /** Groups of so many entries, as numbers. */
 function* inGroups(row, size, count) {
@@ -47,30 +39,13 @@ export class Sheet {
         return this.#memory.call(name, ...lent);
     }
 
-    /** Calls a function whose last argument is its answer, of so many entries, and answers that. */
-    #asked(name, entries, ...lent) {
-        const answer = new BigInt64Array(entries);
-        unlessAccepted(this.#memory.call(name, ...lent, answer), answer);
-        return answer;
-    }
-
-    /** Calls a function that lays bytes into an output of so many, and answers them. */
-    #written(name, room, ...lent) {
-        const out = new Uint8Array(room);
-        const [length] = this.#asked(name, 2, ...lent, out);
-        return out.subarray(0, Number(length));
-    }
-
     write(pattern, fields, choices = {}) {
-        const room = BYTES_A_PATTERN_BYTE * Math.min(pattern.length, LONGEST_PATTERN);
-        const given = [numberOf(choices), rowOfBook(choices.book), pattern, ...fieldsInOrder(fields)];
-        return textOf(this.#written('sheet_write_by', room, ...given));
+        const lent = [numberOf(choices), rowOfBook(choices.book), pattern];
+        return writtenBy(this.#memory, 'sheet_write_by', pattern.length, lent, fields);
     }
 
     read(pattern, text, currentYear, choices = {}) {
-        const year = signed('currentYear', currentYear);
-        const given = [numberOf(choices), rowOfBook(choices.book), pattern, text, year];
-        return readingOf(this.#asked('sheet_read_by', READ_ANSWER, ...given));
+        return readBy(this.#memory, 'sheet_read_by', pattern, text, currentYear, choices);
     }
 
     wasRead({ mask }, unit) {
@@ -78,8 +53,7 @@ export class Sheet {
     }
 
     check(pattern, currentYear, { edition } = {}) {
-        const year = signed('currentYear', currentYear);
-        return verdictOf(this.#asked('sheet_check_with', CHECK_ANSWER, numberOf({ edition }), pattern, year));
+        return checkedBy(this.#memory, 'sheet_check_with', pattern, currentYear, edition);
     }
 
     split(pattern, { date = false } = {}) {
@@ -92,10 +66,10 @@ export class Sheet {
     }
 
     mend(pattern, currentYear, { edition } = {}) {
-        const out = new Uint8Array(LONGEST_PATTERN);
+        const out = new Uint8Array(LONGEST_MENDED);
         const row = new BigInt64Array(CHANGES_ROW);
         const year = signed('currentYear', currentYear);
-        const [length, count] = this.#asked('sheet_mend', 2, numberOf({ edition }), pattern, year, out, row);
+        const [length, count] = asked(this.#memory, 'sheet_mend', 2, numberOf({ edition }), pattern, year, out, row);
         const changes = Array.from(inGroups(row, CHANGE, Number(count)), ([place, byte, before, after]) => {
             return { place, byte: String.fromCharCode(byte), before, after };
         });
@@ -107,7 +81,7 @@ export class Sheet {
         const row = BigInt64Array.from(changes.flatMap(({ place, byte, before, after }) => {
             return [place, byte.charCodeAt(0), before, after].map((number) => entry('a number of a change', number));
         }));
-        const undone = this.#written('sheet_undo', bytes.length, bytes, row);
+        const undone = written(this.#memory, 'sheet_undo', bytes.length, bytes, row);
         return typeof pattern === 'string' ? textOf(undone) : undone;
     }
 
@@ -123,23 +97,16 @@ export class Sheet {
     }
 
     dayOf(number) {
-        return dayOf(this.#asked('sheet_day', DAY_ANSWER, signed('number', number)));
+        return dayOf(asked(this.#memory, 'sheet_day', DAY_ANSWER, signed('number', number)));
     }
 
     dayNumber(year, month, day) {
         const given = [signed('year', year), unsigned('month', month), unsigned('day', day)];
-        return Number(this.#asked('sheet_day_number', 2, ...given)[0]);
+        return Number(asked(this.#memory, 'sheet_day_number', 2, ...given)[0]);
     }
 
     readList(pattern, text, currentYear, choices = {}) {
-        const bytes = bytesOf(text);
-        const count = countLines(bytes);
-        const [days, months, years] = [0, 1, 2].map(() => new Int32Array(count));
-        const codes = new Uint32Array(count);
-        const year = signed('currentYear', currentYear);
-        const given = [numberOf(choices), rowOfBook(choices.book), pattern, bytes, year];
-        this.#asked('sheet_read_list', 2, ...given, days, months, years, codes);
-        return { days, months, years, codes };
+        return listedBy(this.#memory, 'sheet_read_list', pattern, text, currentYear, choices);
     }
 
     lines(pattern, text, currentYear, choices = {}) {
@@ -148,11 +115,11 @@ export class Sheet {
     }
 
     parseOffset(text) {
-        return Number(this.#asked('sheet_parse_offset', 2, text)[0]);
+        return Number(asked(this.#memory, 'sheet_parse_offset', 2, text)[0]);
     }
 
     readStamp(text) {
-        const row = this.#asked('sheet_rfc_read', STAMP_ANSWER, text);
+        const row = asked(this.#memory, 'sheet_rfc_read', STAMP_ANSWER, text);
         const [year, month, day, nanoseconds, offset, unknown] = numbersOf(row, 0, STAMP_ANSWER);
         return { year, month, day, nanoseconds, offset, unknown: unknown === 1 };
     }
@@ -160,11 +127,11 @@ export class Sheet {
     writeStamp({ year, month, day, nanoseconds, offset, unknown = false }) {
         const given = [signed('year', year), unsigned('month', month), unsigned('day', day)];
         given.push(unsigned64('nanoseconds', nanoseconds), signed('offset', offset), unknown ? 1 : 0);
-        return textOf(this.#written('sheet_rfc_write', LONGEST_STAMP, ...given));
+        return textOf(written(this.#memory, 'sheet_rfc_write', LONGEST_STAMP, ...given));
     }
 
     readBook(bytes) {
-        return new Book(this.#written('sheet_book_read', BOOK_ROW, bytes));
+        return new Book(written(this.#memory, 'sheet_book_read', BOOK_ROW, bytes));
     }
 
     makeBook(names) {
@@ -174,11 +141,15 @@ export class Sheet {
     }
 
     writeBook(book) {
-        return this.#written('sheet_book_write', LONGEST_BOOK, rowOfBook(book));
+        return written(this.#memory, 'sheet_book_write', LONGEST_BOOK, rowOfBook(book));
     }
 
     englishBook() {
         return this.readBook(this.writeBook(null));
+    }
+
+    prepare(pattern, choices = {}) {
+        return new Prepared(this.#memory, pattern, choices);
     }
 
     explain(pattern, text, refusal, choices = {}) {

@@ -23,6 +23,7 @@ function functionsOf(object) {
 
 test('has just the functions that are declared', () => {
     assert.deepEqual([...functionsOf(sheet)].sort(), [...declared('Sheet')].sort());
+    assert.deepEqual([...functionsOf(sheet.prepare('d'))].sort(), [...declared('Prepared')].sort());
 });
 
 test('the library has every function of the header, and asks for none', async () => {
