@@ -1,2 +1,2 @@
 mod Line
-mod Stored
+pub mod Stored

@@ -21,4 +21,5 @@ pub mod Lists
 pub mod Mending
 pub mod StampGrammar
 pub mod Stamps
+pub mod Prepared
 pub mod Promises

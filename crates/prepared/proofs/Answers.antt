@@ -14,7 +14,7 @@ use Rattle.meaning.specs.declared.Refusal.{Refusal}
 use Rattle.meaning.specs.declared.Refusal.the-variants.{NoRoom}
 use Rattle.meaning.specs.declared.Wrote.{Wrote}
 use Rattle.meaning.specs.declared.Wrote.the-variants as wrote
-use Rattle.words.specs.Prepared.{writeStepsCheck, writeSteps, outputSteps}
+use Rattle.meaning.specs.Prepared.{writeStepsCheck, writeSteps, outputSteps}
 
 module _ (book : Book) (ss : List Step) (f : Fields) (out : List ℕ) where
   abbrev pub Writes : Wrote → List ℕ → Type 0

@@ -3,12 +3,10 @@ use mathlib.Core.List.{List, [], _∷_, map}
 use mathlib.Core.Path.{_≡_, refl, ap, _∙_}
 use Prim.Native.Nat.{ℕ, _<_}
 use native.Mathlib.Omega.{arith}
-use lib.IntN.{ℤ, pos, natAbs}
-use lib.ListN.{length, getD, List·getD-map}
-use Rattle.laws.proofs.DayNumbers.{is-short}
+use lib.IntN.{ℤ, natAbs}
+use lib.ListN.{length}
 use Rattle.laws.proofs.Values.{value-short, few-months}
-use Rattle.laws.specs.CalendarLine.{Short}
-use Rattle.meaning.specs.Answers.{_else_, answerBy, patternCheck, currentYearCheck, textCheck}
+use Rattle.meaning.specs.Answers.{_else_, patternCheck, currentYearCheck, textCheck}
 use Rattle.meaning.specs.Lists.{Rows, lines, cell, codeOf, laid, readLines, listCheck, readList, listRows, rowsBy}
 use Rattle.meaning.specs.Names.{Book}
 use Rattle.meaning.specs.OpenedBooks.{bookIn}
@@ -28,8 +26,9 @@ use Rattle.meaning.specs.declared.Refusal.{Refusal}
 use Rattle.trust.proofs.Turns.{shown-failing}
 use Rattle.trust.proofs.Verdicts.{verdict-says}
 use Rattle.trust.specs.Check.{firstFailing, shown, verdictBy, verdictOf}
-use Rattle.words.specs.Prepared.{writeStepsCheck, writeSteps, outputSteps, readSteps, listStepsCheck, readLinesSteps, readListSteps, listRowsSteps, narrow, narrowed}
+use Rattle.meaning.specs.Prepared.{writeStepsCheck, writeSteps, outputSteps, readSteps, listStepsCheck, readLinesSteps, readListSteps, listRowsSteps, narrowed}
 use Rattle.words.specs.Rows.{checkedIn, stepsHeld}
+use Rattle.prepared.proofs.NarrowCells.{narrow-same, cell-narrowed, code-narrowed}
 use Rattle.prepared.specs.PreparedRows.{unmetOf}
 use Rattle.prepared.specs.Stands.{Stands}
 use Rattle.prepared.specs.Verdicts.{unmetHeld}
@@ -81,9 +80,6 @@ module _ (choices : Choices) (p row : List ℕ) (stands : Stands (choices .pair)
 
 -- the rows of a list: no value of a pattern is too wide for them, with the names of any lent book
 
-narrow-same : (z : ℤ) → Short z → narrow z ≡ z
-narrow-same z h = rw (is-short z h)
-
 module _ (choices : Choices) (p row : List ℕ) (stands : Stands (choices .pair) p row) (book : List ℕ) (current : ℤ) where
   wide : List ℕ → Reading
   wide line = read choices (bookIn book) p line current
@@ -91,15 +87,8 @@ module _ (choices : Choices) (p row : List ℕ) (stands : Stands (choices .pair)
   narrow-cell : (unit : ParseUnit) → unitNumber unit < 14 → (line : List ℕ) → cell unit (narrowed (wide line)) ≡ cell unit (wide line)
   unfolding wide
   narrow-cell unit h line =
-      List·getD-map narrow (wide line .values) (unitNumber unit) (pos 0)
-      ∙ narrow-same _ (value-short choices (bookIn book) (few-months book) p line current (unitNumber unit) h)
-
-  code-number : (checked : Checked) (a b : List ℤ) → answerBy checked a .number ≡ answerBy checked b .number
-  code-number Fine a b = refl
-  code-number (Refused why) a b = refl
-
-  narrow-code : (r : Reading) → codeOf (narrowed r) ≡ codeOf r
-  narrow-code r = code-number (r .checked) _ _
+      cell-narrowed unit (wide line)
+      ∙ narrow-same (cell unit (wide line)) (value-short choices (bookIn book) (few-months book) p line current (unitNumber unit) h)
 
   cells-so : {B : Type 0} (f : Reading → B) → ((line : List ℕ) → f (narrowed (wide line)) ≡ f (wide line)) → (ls : List (List ℕ))
       → map f (map (λ line. narrowed (readSteps (checkedIn row) choices (bookIn book) (stepsHeld row) line current)) ls)
@@ -115,7 +104,7 @@ module _ (choices : Choices) (p row : List ℕ) (stands : Stands (choices .pair)
       let days = cells-so (cell DayOfMonth) (narrow-cell DayOfMonth (omega arith)) (lines s) in
       let months = cells-so (cell Month) (narrow-cell Month (omega arith)) (lines s) in
       let years = cells-so (cell Year) (narrow-cell Year (omega arith)) (lines s) in
-      let codes = cells-so codeOf (λ line. narrow-code (wide line)) (lines s) in
+      let codes = cells-so codeOf (λ line. code-narrowed (wide line)) (lines s) in
       rw (days, months, years, codes)
 
   rows-by-so : (checked : Checked) (s : List ℕ) (rows : Rows)

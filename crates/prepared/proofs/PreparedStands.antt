@@ -99,3 +99,13 @@ module _ (pair : Pair) (p old : List ℕ) (long : 259 ≤ length old) where
 pub prepared-stands : (pair : Pair) (p old : List ℕ) → 259 ≤ length old → length p < 9223372036854775808 → Stands pair p (preparedRow pair p old)
 unfolding preparedRow
 prepared-stands pair p old long small = stands-by pair p old long (patternCheck p) refl small
+
+-- what the mark of an accepted pattern's row adds
+pub prepared-mark : (pair : Pair) (p old : List ℕ) {row : List ℕ} → 259 ≤ length old → patternCheck p ≡ Fine → row ≡ preparedRow pair p old
+    → mark row ≡ tag + length (packed pair p)
+unfolding preparedRow
+prepared-mark pair p old long fine e =
+    let ws = packed pair p in
+    let w = worded old ws (heldBy p) in
+    let is : _ ≡ acceptedRow ws (heldBy p) (foundOf p) old = rw fine at e in
+    ap mark is ∙ headed-so w (tag + length ws) (xorFrom (xorFrom (foundOf p) ws) (heldBy p)) (foundOf p) (omega (arith, worded-length old ws (heldBy p))) .marked

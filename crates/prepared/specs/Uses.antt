@@ -17,7 +17,7 @@ use Rattle.meaning.specs.declared.Verdict.{Verdict}
 use Rattle.rows.specs.Rows.{inRow}
 use Rattle.trust.specs.Check.{shown, verdictBy}
 use Rattle.words.specs.Packing.{packed}
-use Rattle.words.specs.Prepared.{writeSteps, outputSteps, readSteps, readListSteps, listRowsSteps}
+use Rattle.meaning.specs.Prepared.{writeSteps, outputSteps, readSteps, readListSteps, listRowsSteps}
 use Rattle.words.specs.Rows.{checkedIn, stepsHeld}
 use Rattle.prepared.specs.Stands.{isPrepared}
 use Rattle.prepared.specs.Verdicts.{unmetHeld}

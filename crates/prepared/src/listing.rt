@@ -10,7 +10,7 @@ ghost use Rattle.meaning.specs.Whole.{unitNumber};
 ghost use Rattle.prepared.specs.Uses.{preparedListed, preparedRows};
 ghost use Rattle.rows.specs.Rows.{inRow, Given};
 ghost use Rattle.words.specs.Pieces.{stepsOf};
-ghost use Rattle.words.specs.Prepared.{listRowsSteps, listStepsCheck, narrow, readLinesSteps, readListSteps};
+ghost use Rattle.meaning.specs.Prepared.{listRowsSteps, listStepsCheck, narrow, readLinesSteps, readListSteps};
 use crate::opening::Opened;
 use crate::opening::open;
 use crate::reading::read_words;

@@ -6,7 +6,7 @@ ghost use Rattle.meaning.specs.OpenedBooks.{bookIn};
 ghost use Rattle.prepared.specs.Uses.{preparedRead};
 ghost use Rattle.rows.specs.Rows.{inRow, Given};
 ghost use Rattle.words.specs.Pieces.{stepsOf};
-ghost use Rattle.words.specs.Prepared.{readSteps};
+ghost use Rattle.meaning.specs.Prepared.{readSteps};
 use crate::opening::Opened;
 use crate::opening::open;
 use crate::reading::read_words;

@@ -13,7 +13,7 @@ ghost use Rattle.meaning.specs.declared.Checked.the-variants.{Fine};
 ghost use Rattle.prepared.specs.Written.{wordText, wordsText, behindText, matchedText, twoMore, plainYear, numbersOf, Small, isQuick, quickText, otherText};
 ghost use Rattle.words.specs.Fields as field;
 ghost use Rattle.words.specs.Pieces.{heldBytes, mostOf, stepsOf};
-ghost use Rattle.words.specs.Prepared.{writeSteps, outputSteps};
+ghost use Rattle.meaning.specs.Prepared.{writeSteps, outputSteps};
 use crate::measuring::held_length;
 use crate::measuring::words_length;
 use digits::laying::put_byte;

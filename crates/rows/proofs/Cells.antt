@@ -36,7 +36,7 @@ taken-cell a b c values behind n k h =
     let l : k < length (values ++ behind) = omega (arith, length-append values behind) in
     rw e (List·getD-append (values ++ behind) (replicate n (pos 0)) (pos 0) k l ∙ List·getD-append values behind (pos 0) k h)
 
-few-details : (why : Refusal) → length (details why) ≤ 2
+pub few-details : (why : Refusal) → length (details why) ≤ 2
 few-details why =
     subst (λ (ds : List ℤ). length ds ≤ 2) (tells-details why refl)
     (when-is (λ (more : List ℤ). length (detailOf (told why .first) ∷ more) ≤ 2) (told why .two) (λ _. omega arith) (λ _. omega arith))

@@ -4,5 +4,4 @@ pub mod Joins
 pub mod Laying
 pub mod Packing
 pub mod Pieces
-pub mod Prepared
 pub mod Rows

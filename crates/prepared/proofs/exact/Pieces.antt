@@ -32,7 +32,7 @@ module _ (row ws : List ℕ) (i : ℕ) (there : i < length ws) where
   abbrev pieces : List Piece
   pieces = piecesIn (getD ws i 0)
 
-  word-steps : stepsOf row (drop i ws) ≡ stepsIn row (getD ws i 0) ++ stepsOf row (drop (i + 1) ws)
+  pub word-steps : stepsOf row (drop i ws) ≡ stepsIn row (getD ws i 0) ++ stepsOf row (drop (i + 1) ws)
   unfolding stepsOf
   word-steps = rw (drop-cons ws i 0 there, add-one i)
 

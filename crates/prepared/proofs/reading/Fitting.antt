@@ -15,7 +15,7 @@ use Rattle.rows.proofs.Fits.{text-fits, walk-fits, read-by-fits}
 use Rattle.rows.specs.Fits.{NumberFits, ReadFits}
 use Rattle.words.proofs.pieces.Codes.{few-pieces}
 use Rattle.words.specs.Pieces.{piecesIn, pieceStep, stepsIn, stepsOf}
-use Rattle.words.specs.Prepared.{readSteps}
+use Rattle.meaning.specs.Prepared.{readSteps}
 
 pub steps-read : (choices : Choices) (book : Book) (ss : List Step) (s : List ℕ) (current : ℤ) → currentYearCheck (choices .edition) current ≡ Fine
     → readSteps Fine choices book ss s current ≡ readBy (textCheck s) (walk choices book (natAbs current) 0 0 ss s [])

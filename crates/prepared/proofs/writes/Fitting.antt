@@ -17,7 +17,7 @@ use Rattle.rows.proofs.WriteFits.{fields-fit, wrote-fits}
 use Rattle.rows.proofs.entries.Fits.{else-fits, unless-fits}
 use Rattle.rows.specs.Fits.{NumberFits, CheckedFits, WroteFits}
 use Rattle.words.specs.Pieces.{mostOf, stepsOf}
-use Rattle.words.specs.Prepared.{writeStepsCheck, writeSteps}
+use Rattle.meaning.specs.Prepared.{writeStepsCheck, writeSteps}
 use Rattle.prepared.proofs.Bounds.{words-fit}
 use Rattle.prepared.proofs.opening.Sums.{most-small}
 

@@ -5,7 +5,7 @@ use denote.Ref.{now}
 use mir.Syntax.{w32}
 use mir.ValLaws.{toZ-ofZ}
 use Rattle.prepared.proofs.opening.OpenedRows.{opened-nothing, opened-refusal, opened-words, prepared-given, unprepared-given, tail-length}
-use Rattle.words.specs.Prepared.{readSteps}
+use Rattle.meaning.specs.Prepared.{readSteps}
 use borrow.Author.Needs.{needs}
 use Rattle.prepared.proofs.reads.read.Statement.{statement}
 use Rattle.prepared.proofs.reads.read.Tie as tie

@@ -4,7 +4,7 @@ use denote.Ref.{now}
 use mir.Syntax.{w32}
 use mir.ValLaws.{toZ-ofZ}
 use Rattle.rows.proofs.Fits.{year-fits}
-use Rattle.words.specs.Prepared.{readSteps}
+use Rattle.meaning.specs.Prepared.{readSteps}
 use borrow.Author.Needs.{needs}
 use Rattle.prepared.proofs.reads.read_in_year.Statement.{statement}
 use Rattle.prepared.proofs.reads.read_in_year.Tie as tie

@@ -6,7 +6,7 @@ use denote.Ref.{now}
 use lib.ListN.{length, take, length-take}
 use Rattle.prepared.proofs.opening.OpenedRows.{opened-nothing, opened-refusal, opened-words, prepared-given, unprepared-given, tail-length}
 use Rattle.prepared.proofs.writes.Fitting.{write-fits}
-use Rattle.words.specs.Prepared.{writeStepsCheck, writeSteps, outputSteps}
+use Rattle.meaning.specs.Prepared.{writeStepsCheck, writeSteps, outputSteps}
 use Rattle.words.specs.Rows.{tail}
 use borrow.Author.Needs.{needs}
 use Rattle.prepared.proofs.writes.write.Statement.{statement}
