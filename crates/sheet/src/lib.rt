@@ -4,7 +4,7 @@ pub mod listed;
 pub mod mends;
 pub mod named;
 pub mod numbers;
-pub mod prepared;
+pub mod prepares;
 pub mod stamped;
 
 ghost use Rattle.meaning.specs.Names.{english};
