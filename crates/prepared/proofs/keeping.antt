@@ -1,2 +1,3 @@
 pub mod Moving
 pub mod Passing
+pub mod Rows

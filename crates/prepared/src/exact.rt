@@ -1,18 +1,21 @@
-// Reading piece by piece: every text is read or refused here as the definitions say, whatever the words are.
+// Reading piece by piece, straight into the row: every text is read or refused here as the definitions say, whatever the words are.
 ghost use mathlib.Core.List.{[], map};
 ghost use mathlib.Core.Path.{_≡_};
 ghost use Prim.Native.Nat.{_+_, _-_, _≤_, _%_, min};
 ghost use lib.ListN.{length, take, drop, replicate};
+ghost use Rattle.meaning.specs.Answers.{refused, readAnswer};
 ghost use Rattle.meaning.specs.OpenedBooks.{bookIn};
 ghost use Rattle.meaning.specs.Reading.{literalRead, readStep};
 ghost use Rattle.meaning.specs.Whole.{walk, walkReading};
 ghost use Rattle.parse.specs.Literals.{comparedFrom};
 ghost use Rattle.parse.specs.Steps.{partAt};
+ghost use Rattle.rows.specs.Fits.{NumberFits};
+ghost use Rattle.rows.specs.Rows.{inRow, Given};
 ghost use Rattle.words.specs.Pieces.{heldBytes, pieceStep, stepsOf};
+use crate::keeping::finish;
+use crate::keeping::keep;
 use meaning::Carried;
-use meaning::Checked;
 use meaning::Choices;
-use meaning::Reading;
 use meaning::Refusal;
 use meaning::Trouble;
 use parse::cursor::Cursor;
@@ -21,9 +24,8 @@ use parse::literals::Compared;
 use parse::literals::compare;
 use parse::rule::parse_rule;
 use parse::steps::pass;
-use reader::record::no_reading;
-use reader::record::unit_number;
-use reader::walk::refused_in;
+use rows::answers::give_refusal;
+use rows::entries::lay_zeros;
 use rules::step::Step;
 use words::pieces::Piece;
 use words::pieces::piece_count;
@@ -127,6 +129,18 @@ pub fn read_piece(
     }
 }
 
+fn refused_in(trouble: Trouble, part: usize, place: usize, answer: &mut [i64]) -> u32
+    requires { ⌜ (48 ≤ length (now answer)) × NumberFits part × NumberFits place ⌝ }
+    ensures { λ r. ⌜ Given (inRow 48 (refused (Refusal.InPart trouble part place))) (now (answer .entry)) (now (answer .exit)) r ⌝ }
+{
+    let why = Refusal::InPart {
+        trouble,
+        part,
+        place,
+    };
+    give_refusal(why, 48, answer)
+}
+
 // All pieces of all words in order; the first that can't be read refuses the whole, and so does what a strict reading leaves.
 pub fn read_pieces(
     choices: Choices,
@@ -135,14 +149,12 @@ pub fn read_pieces(
     used: usize,
     text: &[u8],
     current_year: u32,
-) -> Reading
-    requires { ⌜ used ≤ length (now tail) ⌝ }
-    requires { ⌜ length (now text) ≤ 2048 ⌝ }
-    ensures { λ r. ⌜ r ≡ walkReading (walk choices (bookIn (now (book .entry))) «current_year» 0 0 (stepsOf (now (tail .entry)) (take used (now (tail .entry)))) (now (text .entry)) []) ⌝ }
+    answer: &mut [i64],
+) -> u32
+    requires { ⌜ (used ≤ length (now tail)) × (length (now text) ≤ 2048) × (48 ≤ length (now answer)) ⌝ }
+    ensures { λ r. ⌜ Given (inRow 48 (readAnswer (walkReading (walk choices (bookIn (now (book .entry))) «current_year» 0 0 (stepsOf (now (tail .entry)) (take used (now (tail .entry)))) (now (text .entry)) [])))) (now (answer .entry)) (now (answer .exit)) r ⌝ }
 {
-    let mut values = [0i64; 15];
-    let mut starts = [0u16; 15];
-    let mut ends = [0u16; 15];
+    lay_zeros(48, answer, 0);
     let mut mask: u16 = 0;
     let mut at = 0;
     let mut part = 0;
@@ -158,32 +170,24 @@ pub fn read_pieces(
         let piece = piece_in(w, k);
         let cursor = Cursor { at };
         match read_piece(choices, book, piece, tail, current_year, text, cursor) {
-            PartRead::Stopped { trouble, place } => return refused_in(part, trouble, place),
+            PartRead::Stopped { trouble, place } => return refused_in(trouble, part, place, answer),
             PartRead::Got { carried, next } => {
                 let start = at;
                 at = next.at;
                 if let Carried::Value(unit, value) = carried {
-                    let u = unit_number(unit);
-                    values[u] = value;
-                    starts[u] = start as u16;
-                    ends[u] = at as u16;
-                    mask = mask | (1u16 << u);
+                    let kept = keep(unit, value, start, at, mask, answer);
+                    mask = kept.mask;
                 }
             }
         }
         part += 1;
         k += 1;
     }
-    if choices.strict && at < text.len() {
-        return no_reading(Checked::Refused(Refusal::TextLeft(at)));
+    if choices.strict {
+        if at < text.len() {
+            return give_refusal(Refusal::TextLeft(at), 48, answer);
+        }
     }
-    Reading {
-        checked: Checked::Fine,
-        taken: at,
-        values,
-        mask,
-        units: u16::count_ones(mask),
-        starts,
-        ends,
-    }
+    finish(at, mask, answer);
+    0
 }

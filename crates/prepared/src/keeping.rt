@@ -69,3 +69,13 @@ pub fn pass_behind(choices: Choices, w: u64, text: &[u8], at: usize) -> usize
     }
     pass_byte(choices.strict, b, text, at)
 }
+
+// The bytes read, the mask, and how many units that is.
+pub fn finish(at: usize, mask: u16, answer: &mut [i64])
+    requires { ⌜ (48 ≤ length (now answer)) × (at ≤ 2048) ⌝ }
+    ensures { λ _. ⌜ now (answer .exit) ≡ quick.counted at mask (now (answer .entry)) ⌝ }
+{
+    answer[0] = at as i64;
+    answer[1] = mask as i64;
+    answer[2] = u16::count_ones(mask) as i64;
+}

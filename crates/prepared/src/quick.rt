@@ -1,23 +1,29 @@
 // Reading straight into the row: a text that goes the plain way is read here, word by word. Where it can't be read this gives up, and
 // exact tells why.
 ghost use mathlib.Core.Bool.{true};
-ghost use mathlib.Core.List.{[], _∷_};
+ghost use mathlib.Core.List.{List, [], _∷_};
 ghost use mathlib.Core.Path.{_≡_};
-ghost use Prim.Native.Nat.{_≤_};
+ghost use Prim.Native.Nat.{ℕ, _≤_};
 ghost use lib.ListN.{length, take, drop};
 ghost use Rattle.meaning.specs.OpenedBooks.{bookIn};
 ghost use Rattle.prepared.specs.Quick as quick;
+ghost use Rattle.words.specs.Fields as field;
 ghost use Rattle.words.specs.Pieces as pieces;
 use crate::exact::read_piece;
 use crate::keeping::LOST;
 use crate::keeping::Moved;
+use crate::keeping::finish;
 use crate::keeping::keep;
+use crate::keeping::pass_behind;
 use crate::plain::hot_word;
 use meaning::Carried;
 use meaning::Choices;
 use parse::cursor::Cursor;
 use parse::cursor::PartRead;
+use parse::rule::parse_rule;
 use rows::entries::lay_zeros;
+use words::coding::rule_in;
+use words::fields::code;
 use words::pieces::Piece;
 use words::pieces::piece_count;
 use words::pieces::piece_in;
@@ -95,6 +101,44 @@ fn quick_pieces(
     Moved { next, mask: read }
 }
 
+// A symbol that is not one of those, and the byte behind it.
+fn quick_rule(
+    choices: Choices,
+    book: &[u8],
+    w: u64,
+    current_year: u32,
+    text: &[u8],
+    at: usize,
+    mask: u16,
+    answer: &mut [i64],
+) -> Moved
+    requires { ⌜ (field.code w ≡ 22) × quick.Ready (now text) at (now answer) ⌝ }
+    ensures { λ r. ⌜ ((row : List ℕ) → quick.Quick choices (bookIn (now (book .entry))) «current_year» (pieces.stepsIn row w) (now (text .entry)) at mask (now (answer .entry)) (now (answer .exit)) r) ⌝ }
+{
+    let edition = choices.edition;
+    let cursor = Cursor { at };
+    match parse_rule(edition, book, rule_in(w), current_year, text, cursor) {
+        PartRead::Stopped {
+            trouble: _,
+            place: _,
+        } => Moved { next: LOST, mask },
+        PartRead::Got { carried, next } => {
+            let end = next.at;
+            let behind = pass_behind(choices, w, text, end);
+            match carried {
+                Carried::Nothing => Moved { next: behind, mask },
+                Carried::Value(unit, value) => {
+                    let kept = keep(unit, value, at, end, mask, answer);
+                    Moved {
+                        next: behind,
+                        mask: kept.mask,
+                    }
+                }
+            }
+        }
+    }
+}
+
 // A word: at once if it goes the plain way, else by its pieces.
 fn quick_word(
     choices: Choices,
@@ -114,17 +158,10 @@ fn quick_word(
     if moved.next <= 2048 {
         return moved;
     }
+    if code(w) == 22 {
+        return quick_rule(choices, book, w, current_year, text, at, mask, answer);
+    }
     quick_pieces(choices, book, w, tail, current_year, text, at, mask, answer)
-}
-
-// The bytes read, the mask, and how many units that is.
-fn finish(at: usize, mask: u16, answer: &mut [i64])
-    requires { ⌜ (48 ≤ length (now answer)) × (at ≤ 2048) ⌝ }
-    ensures { λ _. ⌜ now (answer .exit) ≡ quick.counted at mask (now (answer .entry)) ⌝ }
-{
-    answer[0] = at as i64;
-    answer[1] = mask as i64;
-    answer[2] = u16::count_ones(mask) as i64;
 }
 
 // All words in order; whether the text was read.

@@ -26,7 +26,7 @@ use parse::step::parse_step;
 use pattern::parts::next_part;
 use rules::step::step_of;
 
-pub fn refused_in(part: usize, trouble: Trouble, place: usize) -> Reading
+fn refused_in(part: usize, trouble: Trouble, place: usize) -> Reading
     ensures { λ r. ⌜ r ≡ readingOf (Checked.Refused (Refusal.InPart trouble part place)) 0 [] ⌝ }
 {
     no_reading(Checked::Refused(Refusal::InPart {

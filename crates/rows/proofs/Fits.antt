@@ -88,7 +88,7 @@ module _ (choices : Choices) (book : Book) (current : ℕ) where
       part-fits i at (length s) (readStep choices book current step s) _ (omega arith) k (within-step choices book current step s)
       (λ n c l. walk-fits (suc i) (at + n) ss (drop n s) _ (omega arith) (omega (arith, length-drop n s)))
 
-pub read-by-fits : (checked : Checked) (w : Walk) → CheckedFits checked → WalkFits w → ReadFits (readBy checked w)
+read-by-fits : (checked : Checked) (w : Walk) → CheckedFits checked → WalkFits w → ReadFits (readBy checked w)
 read-by-fits Fine (walked taken gave) h k = (k, tt)
 read-by-fits Fine (refusedAt checked) h k = (omega arith, k)
 read-by-fits (Refused why) w h k = (omega arith, h)

@@ -36,7 +36,7 @@ fn give_values(reading: Reading, row: &mut [i64]) -> u32
     0
 }
 
-pub fn give_reading(reading: Reading, row: &mut [i64]) -> u32
+fn give_reading(reading: Reading, row: &mut [i64]) -> u32
     requires { ⌜ (48 ≤ length (now row)) × ReadFits reading ⌝ }
     ensures { λ r. ⌜ Given (inRow 48 (readAnswer reading)) (now (row .entry)) (now (row .exit)) r ⌝ }
 {

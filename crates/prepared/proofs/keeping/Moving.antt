@@ -11,7 +11,7 @@ use lib.Seq.{set-append-left, drop-set-lt}
 use Rattle.meaning.specs.Names.{Book}
 use Rattle.meaning.specs.Readers.{got}
 use Rattle.meaning.specs.Reading.{readStep}
-use Rattle.meaning.specs.Whole.{Gave, walk, unitNumber, lastOf, readingOf}
+use Rattle.meaning.specs.Whole.{Gave, unitNumber, lastOf, readingOf}
 use Rattle.meaning.specs.Writing.{Step}
 use Rattle.meaning.specs.declared.Carried.{Carried}
 use Rattle.meaning.specs.declared.Carried.the-variants.{Nothing, Value}

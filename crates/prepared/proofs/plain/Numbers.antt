@@ -2,7 +2,7 @@
 use mathlib.Core.Bool.{true, false}
 use mathlib.Core.List.{List, [], _∷_, _++_}
 use mathlib.Core.Path.{_≡_, refl, sym}
-use Prim.Native.Nat.{ℕ, suc, _+_, _-_, _*_, _≤_, _<_}
+use Prim.Native.Nat.{ℕ, suc, _+_, _-_, _≤_, _<_}
 use native.Mathlib.Omega.{arith}
 use lib.IntN.{pos}
 use lib.ListN.{length, getD, drop, length-drop, drop-of-length-le}
@@ -14,7 +14,7 @@ use Rattle.laws.proofs.Years.{no-minus, run-of-digits, year-carried}
 use Rattle.laws.proofs.Tests.{by-test}
 use Rattle.meaning.specs.Bytes.{when, isDigit, digitAt}
 use Rattle.meaning.specs.Names.{Book, english}
-use Rattle.meaning.specs.Numerals.{allDigits, decimal, numberOf}
+use Rattle.meaning.specs.Numerals.{allDigits, decimal}
 use Rattle.meaning.specs.Readers.{got}
 use Rattle.meaning.specs.Reading.{mostRead, minusFirst, digitRun, readRule, readStep}
 use Rattle.meaning.specs.Writing.{field}

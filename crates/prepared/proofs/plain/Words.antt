@@ -1,15 +1,14 @@
 -- Words that are read at once: their steps, and what is kept of them.
 use mathlib.Core.Bool.{false}
 use mathlib.Core.List.{List, [], _∷_, _++_, map}
-use mathlib.Core.Path.{_≡_, refl, sym, _∙_}
+use mathlib.Core.Path.{_≡_, refl}
 use Prim.Native.Nat.{ℕ, _+_, _≤_, _<_}
 use native.Mathlib.Omega.{arith}
-use lib.IntN.{ℤ, pos}
+use lib.IntN.{ℤ}
 use lib.ListN.{length, drop}
 use Rattle.meaning.specs.Names.{Book}
 use Rattle.meaning.specs.Readers.{got}
 use Rattle.meaning.specs.Reading.{readStep}
-use Rattle.meaning.specs.Whole.{Gave}
 use Rattle.meaning.specs.Writing.{Step, literal, field}
 use Rattle.meaning.specs.declared.Carried.{Carried}
 use Rattle.meaning.specs.declared.Carried.the-variants.{Nothing}
@@ -23,7 +22,7 @@ use Rattle.words.specs.Fields.{code, slot, firstByte, secondByte, lastByte}
 use Rattle.words.specs.Pieces.{pieceStep, shortIn, behind, piecesOfCode, stepsIn}
 use Rattle.prepared.proofs.keeping.Moving.{moves-to, moves-then, kept-nothing, kept-then}
 use Rattle.prepared.proofs.keeping.Passing.{moves-byte}
-use Rattle.prepared.specs.Quick.{gaveOne, Moves, Kept, Quick, Hot, Behind, Passed, Between}
+use Rattle.prepared.specs.Quick.{gaveOne, Kept, Hot, Behind, Passed, Between}
 use Rattle.prepared.specs.declared.keeping.Moved.{Moved}
 
 -- the steps of a word, by its code

@@ -4,7 +4,7 @@ use borrow.Author.Tests.{leb-true, leb-false}
 use denote.Ref.{now}
 use lib.ListN.{length, length-map}
 use mathlib.Core.Logic.{⊎-elim}
-use mathlib.Core.Path.{_≡_, sym, _∙_}
+use mathlib.Core.Path.{sym, _∙_}
 use Prim.Native.Nat.{_-_, _%_}
 use native.Mathlib.Omega.{arith}
 use Rattle.prepared.proofs.exact.Literals.{lowBytes, unseen-passes, short-passes, same-passes, differs-stops}

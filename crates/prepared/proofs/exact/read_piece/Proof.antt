@@ -1,7 +1,6 @@
 -- Each kind of piece has its reader.
 use borrow.Author.Needs.{needs}
 use denote.Ref.{now}
-use mathlib.Core.Path.{_≡_, sym, _∙_}
 use Rattle.meaning.specs.Reading.{readStep}
 use Rattle.words.specs.Pieces.{pieceStep}
 use Rattle.prepared.proofs.exact.Literals.{held-part}

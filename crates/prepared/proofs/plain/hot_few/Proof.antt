@@ -1,12 +1,11 @@
 -- One digit is there, or two, and the byte behind.
 use borrow.Author.Needs.{needs}
-use mathlib.Core.Path.{_≡_, refl, sym, _∙_}
+use mathlib.Core.Path.{refl}
 use mir.Facts.{toZ-pos}
 use mir.Syntax.{w64}
-use Prim.Native.Nat.{_+_, _≤_, _<_}
+use Prim.Native.Nat.{_+_}
 use native.Mathlib.Omega.{arith}
 use denote.Ref.{now}
-use lib.ListN.{length}
 use Rattle.rules.specs.ShortRules.{shortRule}
 use Rattle.words.specs.Fields.{slot}
 use Rattle.words.specs.Pieces.{shortIn}

@@ -4,7 +4,7 @@ use borrow.Author.Tests.{ltb-false}
 use mathlib.Core.List.{List, [], _++_}
 use mathlib.Core.Logic.{⊎-elim, inl, inr}
 use mathlib.Core.Path.{_≡_, refl, sym, _∙_}
-use Prim.Native.Nat.{ℕ, _+_, _-_, _≤_, _<_}
+use Prim.Native.Nat.{ℕ, _+_, _-_, _≤_}
 use native.Mathlib.Omega.{arith}
 use denote.Ref.{now}
 use lib.ListN.{length, getD, take, drop}
@@ -13,7 +13,8 @@ use Rattle.meaning.specs.OpenedBooks.{bookIn}
 use Rattle.meaning.specs.Whole.{Gave, walk}
 use Rattle.words.specs.Pieces.{stepsIn, stepsOf}
 use Rattle.prepared.proofs.exact.Pieces.{words-done}
-use Rattle.prepared.proofs.quick.Rows.{zero-row, no-mask, beyond-row, word-on, counted-row, beyond-counted}
+use Rattle.prepared.proofs.keeping.Rows.{zero-row, no-mask, beyond-row, counted-row, beyond-counted}
+use Rattle.prepared.proofs.quick.Pieces.{word-on}
 use Rattle.prepared.specs.Quick.{rowOf, maskOf}
 use Rattle.prepared.proofs.quick.quick_words.Statement.{statement}
 use Rattle.prepared.proofs.quick.quick_words.Tie as tie

@@ -11,8 +11,8 @@ use Rattle.meaning.specs.Answers.{textCheck}
 use Rattle.meaning.specs.OpenedBooks.{bookIn}
 use Rattle.meaning.specs.Whole.{walk}
 use Rattle.words.specs.Pieces.{stepsOf}
-use Rattle.prepared.proofs.reading.Fitting.{steps-read}
-use Rattle.prepared.proofs.reading.Over.{given-quick, given-over}
+use Rattle.prepared.proofs.reading.Checked.{steps-read}
+use Rattle.prepared.proofs.keeping.Rows.{given-quick, given-over}
 use Rattle.prepared.proofs.reading.read_words.Statement.{statement}
 use Rattle.prepared.proofs.reading.read_words.Tie as tie
 
@@ -33,9 +33,7 @@ returns c =
     (given-quick (whole .0) (whole .1) (s .pre .1) (whole .3))
 
 read-exactly-requires : tie.Need-read-exactly-requires
-read-exactly-requires c κs =
-    let s = c .before .before .before .before .before .before .before .before in
-    (s .pre .0, omega (arith, c .before .before .before .read-quickly .kept .1 .1 .1 .1 .1 .1 .0, s .pre .1), rw (toZ-ofZ w32 (s .args .year) (s .fits .year)) (s .pre .2))
+read-exactly-requires c κs = let s = c .before .before .before .before .before .before .before .before in (s .pre .0, omega (arith, c .before .before .before .read-quickly .kept .1 .1 .1 .1 .1 .1 .0, s .pre .1))
 
 same-length-2 : tie.Need-same-length-2
 same-length-2 c = search needs
@@ -48,11 +46,10 @@ returns-2 c =
     let book = bookIn (now (a .book)) in
     let ss = stepsOf tail (take (a .used) tail) in
     let text = now (a .text) in
-    let same = steps-read (a .choices) book ss text (a .year) (s .pre .2) in
     let quick = c .before .before .before .before .before .read-quickly in
-    rw same
+    rw (steps-read (a .choices) book ss text (a .year) (s .pre .2))
     (given-over (textCheck text) (walk (a .choices) book (natAbs (a .year)) 0 0 ss text []) (s .pre .1) (omega (arith, quick .kept .1 .1 .1 .1 .1 .1 .0)) (quick .ensures .0 .beyond)
-    (rw (toZ-ofZ w32 (a .year) (s .fits .year), same) at (c .before .read-exactly .ensures)))
+    (rw (toZ-ofZ w32 (a .year) (s .fits .year)) at (c .before .read-exactly .ensures)))
 
 pub read-words-spec : {M : Type 1} → statement M
 read-words-spec =

@@ -5,8 +5,8 @@ use mir.Syntax.{w64}
 use native.Mathlib.Omega.{arith}
 use lib.Count.{ones, ones-le}
 use lib.ListN.{length-set}
-use Rattle.prepared.proofs.quick.finish.Statement.{statement}
-use Rattle.prepared.proofs.quick.finish.Tie as tie
+use Rattle.prepared.proofs.keeping.finish.Statement.{statement}
+use Rattle.prepared.proofs.keeping.finish.Tie as tie
 
 cast-answer : tie.Need-cast-answer
 cast-answer c = search needs

@@ -1,19 +1,46 @@
--- A row laid over a row: what a quick reading laid, and what is laid over one that was given up.
+-- The row of a reading: zeros before the first part, the counts behind the last; and a row laid over a row.
 use mathlib.Core.List.{List, [], _++_}
 use mathlib.Core.Path.{_≡_, refl, sym, _∙_}
 use Prim.Native.Nat.{ℕ, _+_, _-_, _≤_}
 use native.Mathlib.Omega.{arith}
 use lib.IntN.{ℤ, pos}
 use lib.ListN.{length, drop, replicate, length-append, length-replicate}
-use lib.Seq.{sets-eq}
+use lib.Seq.{sets, sets-eq, drop-at}
 use Rattle.meaning.specs.Answers.{refused, readAnswer, details}
-use Rattle.meaning.specs.Whole.{Gave, Walk, walked, refusedAt, readingOf, readBy}
+use Rattle.meaning.specs.Whole.{Gave, Walk, walked, refusedAt, lastOf, bits, readingOf, readBy}
 use Rattle.meaning.specs.declared.Checked.{Checked}
 use Rattle.meaning.specs.declared.Checked.the-variants.{Fine, Refused}
 use Rattle.meaning.specs.declared.Refusal.{Refusal}
+use Rattle.reader.proofs.record.Units.{units-counted}
 use Rattle.rows.proofs.Cells.{few-details}
 use Rattle.rows.specs.Rows.{inRow, laid, Given}
+use Rattle.prepared.specs.Quick.{rowOf, maskOf, counted}
 
+row-long : (gave : List Gave) → length (rowOf gave) ≡ 48
+unfolding rowOf
+row-long gave = refl
+
+pub beyond-row : (gave : List Gave) {row rest : List ℤ} → row ≡ rowOf gave ++ rest → drop 48 row ≡ rest
+beyond-row gave {row} {rest} e = rw e (drop-at (rowOf gave) rest 48 (row-long gave))
+
+-- before the first word
+pub zero-row : (old : List ℤ) {row : List ℤ} → 48 ≤ length old → row ≡ sets old 0 (replicate 48 (pos 0)) → row ≡ rowOf [] ++ drop 48 old
+unfolding rowOf lastOf
+zero-row old h e = e ∙ sets-eq (replicate 48 (pos 0)) old 0 (omega arith)
+
+pub no-mask : 0 ≡ maskOf []
+unfolding maskOf lastOf bits
+no-mask = refl
+
+-- behind the last
+pub counted-row : (at : ℕ) (gave : List Gave) (rest : List ℤ) → counted at (maskOf gave) (rowOf gave ++ rest) ≡ readAnswer (readingOf Fine at gave) .values ++ rest
+unfolding rowOf maskOf
+counted-row at gave rest = rw (units-counted gave)
+
+pub beyond-counted : (at : ℕ) (gave : List Gave) {row rest : List ℤ} → row ≡ readAnswer (readingOf Fine at gave) .values ++ rest → drop 48 row ≡ rest
+beyond-counted at gave {row} {rest} e = rw e (drop-at (readAnswer (readingOf Fine at gave) .values) rest 48 refl)
+
+-- numbers laid over the start of a row
 laid-all : (v old : List ℤ) → length v ≡ 48 → 48 ≤ length old → laid v old ≡ v ++ drop 48 old
 laid-all v old long h =
     let all : 0 + length v ≡ 48 = omega (arith, long) in
