@@ -4,6 +4,7 @@ pub mod Fits
 mod Halves
 mod ListFits
 mod MendFits
+pub mod PreparedDoors
 pub mod Rooms
 mod StampFits
 mod Untrusted
