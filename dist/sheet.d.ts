@@ -9,6 +9,9 @@
 /** A pattern or a text: a string, which is lent as UTF-8, or bytes. */
 export type Text = string | Uint8Array;
 
+/** Bytes, or the entries of a row. */
+export type Lent = Uint8Array | BigInt64Array | BigUint64Array | Int32Array | Uint32Array;
+
 /** What can be read. `period` is 0 before noon and 1 from noon on, `offset` is in seconds east of UTC. */
 export type Unit =
     | 'year' | 'month' | 'dayOfMonth' | 'dayOfYear' | 'hour' | 'period' | 'periodHour' | 'minute' | 'second'
@@ -202,14 +205,32 @@ export class Refusal extends Error {
     private constructor();
     /** Always `Refusal`. */
     readonly name: 'Refusal';
-    /** 1 to 30, as the table of the specification has them; 104 where changes do not fit a pattern. */
+    /** 1 to 30, as the specification's table has them; 104 where changes do not fit a pattern, 105 where a row is not prepared. */
     readonly number: number;
-    /** What is told with the number: one or two numbers, none for 104. */
+    /** What is told with the number: one or two numbers, none from 100 on. */
     readonly details: readonly number[];
     /** What the number says, in words that need no details. */
     readonly text: string;
     /** The same with the details, in one sentence. */
     readonly message: string;
+}
+
+/**
+ * A pattern that is prepared: it is split, and the rule of each of its parts is chosen, once. It is prepared for one pair; whether
+ * a reading is strict, its edition and its book are chosen at each use.
+ */
+export interface Prepared {
+    readonly pattern: string;
+    /** What {@link Sheet.call} is lent in the place of the pattern. */
+    readonly row: BigUint64Array;
+    /** As {@link Sheet.write}. */
+    write(fields: Fields, choices?: BookChoice): string;
+    /** As {@link Sheet.read}. */
+    read(text: Text, currentYear: number, choices?: Omit<ReadChoices, 'date'>): Reading;
+    /** As {@link Sheet.check}, which is of patterns with time symbols, whichever pair was prepared. */
+    check(currentYear: number, choices?: EditionChoice): Verdict;
+    /** As {@link Sheet.readList}. */
+    readList(text: Text, currentYear: number, choices?: Omit<ReadChoices, 'date'>): Columns;
 }
 
 /**
@@ -288,6 +309,9 @@ export interface Sheet {
     /** The book of the names that are used without one. */
     englishBook(): Book;
 
+    /** Prepares a pattern, for one that is used again and again. Refuses with 1, 2 or 3. */
+    prepare(pattern: Text, choices?: PairChoice): Prepared;
+
     /**
      * Says of a text that was refused, by the same pattern and choices, what stood there and what was wanted: `` `dd` needs two
      * digits, found `3/` ``. A refusal that is not of a part is said as its message says it.
@@ -313,10 +337,10 @@ export interface Sheet {
 
     /**
      * Calls a function of `sheet.h` by its name, and gives back the number that it returned. A pointer and its length are one
-     * argument: a string or a `Uint8Array` for bytes, a `BigInt64Array`, `Int32Array` or `Uint32Array` for a row. What the
+     * argument: a string or a `Uint8Array` for bytes, for a row an array of its type, such as a `BigInt64Array`. What the
      * function alters is altered in the array that was given. A number of 64 bits is a bigint.
      */
-    call(name: string, ...lent: (number | bigint | string | Uint8Array | BigInt64Array | Int32Array | Uint32Array)[]): number;
+    call(name: string, ...lent: (number | bigint | string | Lent)[]): number;
 }
 
 /**

@@ -2,8 +2,9 @@
  *
  * What is lent. A pattern or a text is bytes with their number and needs no zero byte at its end. Text goes to `out`, numbers
  * go to the rows `answer`, `parts`, `units` and `changes`, which are aligned as int64_t is, and those of a list to the rows `days`,
- * `months`, `years` and `codes`, aligned as int32_t is. An opened book is bytes too. What a function may alter must overlap nothing
- * else that it is lent. Nothing is kept after the return, and no memory is asked for.
+ * `months`, `years` and `codes`, aligned as int32_t is. An opened book is bytes too, and a prepared pattern a row of uint64_t, aligned
+ * as those are. What a function may alter must overlap nothing else that it is lent. Nothing is kept after the return, and no memory
+ * is asked for.
  *
  * Lengths. A length says how many bytes or entries stand behind the pointer, and never more, not even where the pattern or the
  * text is too long and will be refused. A null pointer with the length 0 is an empty slice. What is proved of the functions is
@@ -15,13 +16,14 @@
  *
  * What is returned. SHEET_ACCEPTED; or the number of a refusal, 1 to 30; or SHEET_ROW_TOO_SMALL where a row has fewer entries than
  * the function asks for, SHEET_NO_SUCH_CHOICE where a number stands for no choices or for no mark, SHEET_NO_BOOK where bytes are
- * lent as an opened book that are none, SHEET_NO_LINE where a text has no line at a place, or SHEET_MISFIT where changes do not
- * fit a pattern: then nothing is altered.
+ * lent as an opened book that are none, SHEET_NO_LINE where a text has no line at a place, SHEET_MISFIT where changes do not fit a
+ * pattern, or SHEET_NOT_PREPARED where a row is lent as a prepared pattern that is none: then nothing is altered.
  *
  * What is altered. Accepted, the first entries of `answer`, as many as the function asks for, are what its comment says, and a
  * writer, sheet_mend and sheet_undo alter so many bytes of `out` as they answer, as sheet_book_read does of `book`, and
  * sheet_read_list so many entries of each of its rows. Refused, the entries of `answer` are the refusal's details, then zeros, and
- * nothing else is altered; sheet_read_line says first where the line is. Nothing behind them ever is.
+ * nothing else is altered, but that sheet_prepare prepares a refused pattern too; sheet_read_line says first where the line is.
+ * Nothing behind them ever is.
  *
  * Parts of a pattern and places in a pattern or a text are counted from 0. docs/SPECIFICATION.md says what a pattern means.
  */
@@ -73,6 +75,9 @@ extern "C" {
 /* The longest stamp that is written, in bytes: so many are always enough for sheet_rfc_write. */
 #define SHEET_LONGEST_STAMP 35
 
+/* A prepared pattern, in entries of uint64_t, which are 2,072 bytes. */
+#define SHEET_PREPARED_ROW 259
+
 /* How many entries each function asks for in `answer`, sheet_split in `parts`, sheet_units in `units` and sheet_mend in
  * `changes`. */
 #define SHEET_WRITE_ANSWER 2
@@ -93,6 +98,7 @@ extern "C" {
 #define SHEET_UNDO_ANSWER 2
 #define SHEET_RFC_READ_ANSWER 6
 #define SHEET_RFC_WRITE_ANSWER 2
+#define SHEET_PREPARE_ANSWER 2
 
 /* What is returned. Behind a refusal stand its details, which are the first one or two entries of `answer`. */
 #define SHEET_ACCEPTED 0
@@ -131,6 +137,7 @@ extern "C" {
 #define SHEET_NO_BOOK 102        /* bytes that are no opened book: likewise */
 #define SHEET_NO_LINE 103        /* a place at or behind the end of the text, where no line is left: likewise */
 #define SHEET_MISFIT 104         /* a row that holds no changes, or one that does not fit the pattern: likewise */
+#define SHEET_NOT_PREPARED 105   /* a row that is no prepared pattern: never prepared, cut short, or damaged: likewise */
 
 /* The choices of a reading, which are added: dates alone; a strict reading; the second edition. */
 #define SHEET_DATE_PAIR 1
@@ -315,6 +322,55 @@ uint32_t sheet_check(const uint8_t *pattern, size_t pattern_len, int32_t year, i
 uint32_t sheet_check_with(uint32_t choices, const uint8_t *pattern, size_t pattern_len, int32_t year, int64_t *answer,
                           size_t answer_len);
 
+/* Prepares a pattern: lays into `row` all that has to be known of it, so that a pattern that is used again and again is split and
+ * looked up once. It is done for one pair: SHEET_DATE_PAIR among the choices is for dates alone, and the other choices make no
+ * difference, as they are made where the prepared pattern is used. What was prepared is then lent to each call, and may be to
+ * several at once. It is the numbers of the row and nothing else: it may be copied, and kept as long as one likes by the same
+ * version of the library.
+ * A pattern that is refused is prepared all the same: each use of it gives that refusal, in its place in the order.
+ * SHEET_NO_SUCH_CHOICE, then SHEET_ROW_TOO_SMALL, for `row` or `answer`, come before all refusals, and nothing is altered.
+ * Answers: how many entries of `row` the pattern's steps take, 256 at most, and 0. All SHEET_PREPARED_ROW entries may be altered.
+ * Refuses: 1, 2, 3. */
+uint32_t sheet_prepare(uint32_t choices, const uint8_t *pattern, size_t pattern_len, uint64_t *row, size_t row_len,
+                       int64_t *answer, size_t answer_len);
+
+/* Writes a record by a prepared pattern, with the names of an opened book: as sheet_write_by does by the pattern and for the pair
+ * that were prepared. An empty `book` stands for the English names.
+ * For a `book` of any other size than 0 and SHEET_BOOK_ROW bytes SHEET_NO_BOOK is returned, then SHEET_ROW_TOO_SMALL for `answer`,
+ * then SHEET_NOT_PREPARED for a `row` that is too short, that does not begin as a prepared one, or whose check word does not fit its
+ * other entries. A row that has a right one though no one prepared it is answered by what its entries say, and as safely; it may write
+ * any bytes, and more than SHEET_LONGEST_TEXT of them.
+ * Answers: as sheet_write.
+ * Refuses: as sheet_write. */
+uint32_t sheet_prepared_write(const uint8_t *book, size_t book_len, const uint64_t *row, size_t row_len, int32_t year,
+                              uint32_t month, uint32_t day, uint32_t doy, uint32_t week, uint32_t wday, uint64_t nanos,
+                              int32_t offset, uint8_t *out, size_t out_len, int64_t *answer, size_t answer_len);
+
+/* Reads a text by a prepared pattern: as sheet_read_by does by the pattern and for the pair that were prepared, with the strictness
+ * and the edition of the choices. SHEET_DATE_PAIR added makes no difference.
+ * For a number that is no sum of choices SHEET_NO_SUCH_CHOICE is returned, then the same as by sheet_prepared_write.
+ * Answers: as sheet_read.
+ * Refuses: as sheet_read_with. */
+uint32_t sheet_prepared_read(uint32_t choices, const uint8_t *book, size_t book_len, const uint64_t *row, size_t row_len,
+                             const uint8_t *text, size_t text_len, int32_t year, int64_t *answer, size_t answer_len);
+
+/* Says whether the pattern that was prepared can be trusted to read back what it wrote: as sheet_check_with, by the same choices. The
+ * check is of the pair with time symbols, whichever was prepared.
+ * SHEET_NO_SUCH_CHOICE, as of sheet_check_with, SHEET_ROW_TOO_SMALL and SHEET_NOT_PREPARED come in this order.
+ * Answers: as sheet_check.
+ * Refuses: as sheet_check_with. */
+uint32_t sheet_prepared_check(uint32_t choices, const uint64_t *row, size_t row_len, int32_t year, int64_t *answer,
+                              size_t answer_len);
+
+/* Reads a list by a prepared pattern: as sheet_read_list, each line as sheet_prepared_read reads a text, with the same choices. For
+ * other numbers and rows the same is returned as by that.
+ * Answers: as sheet_read_list.
+ * Refuses: as sheet_read_list. */
+uint32_t sheet_prepared_read_list(uint32_t choices, const uint8_t *book, size_t book_len, const uint64_t *row, size_t row_len,
+                                  const uint8_t *text, size_t text_len, int32_t year, int32_t *days, size_t days_len,
+                                  int32_t *months, size_t months_len, int32_t *years, size_t years_len, uint32_t *codes,
+                                  size_t codes_len, int64_t *answer, size_t answer_len);
+
 /* Mends a pattern to which sheet_check_with, by the same choices, says no, so that it says yes, and lists what was altered. One to
  * which it says yes stays as it is, and its list is empty.
  *   - In the first edition a single M becomes MM. In both, yy becomes yyyy, five or six y become seven, and a quoted part that
@@ -407,6 +463,7 @@ static inline const char *sheet_refusal_text(uint32_t number) {
     case SHEET_NO_BOOK: return "the bytes are no opened book";
     case SHEET_NO_LINE: return "no line is left at that place";
     case SHEET_MISFIT: return "the changes do not fit the pattern";
+    case SHEET_NOT_PREPARED: return "the row is no prepared pattern";
     default: return "no such number";
     }
 }

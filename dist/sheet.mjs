@@ -182,6 +182,7 @@ const WORDS = new Map([
     [102, 'the bytes are no opened book'],
     [103, 'no line is left at that place'],
     [104, 'the changes do not fit the pattern'],
+    [105, 'the row is no prepared pattern'],
 ]);
 
 /** From here on a number has no details. */
@@ -536,6 +537,92 @@ function lineOf(number, start, line, code, answer) {
         reading: code === 0 ? readingOf(reading) : null,
         refusal: code === 0 ? null : new Refusal(code, detailsOf(code, reading)),
     };
+}
+
+const LONGEST_PATTERN = 256;
+const BYTES_A_PATTERN_BYTE = 8;
+const READ_ANSWER = 48;
+const CHECK_ANSWER = 10;
+
+/** In the place of an opened book: the English names. */
+const NO_BOOK = new Uint8Array(0);
+
+function rowOfBook(book) {
+    return book ? book.row : NO_BOOK;
+}
+
+/** Calls a function whose last argument is its answer, of so many entries, and answers that. */
+function asked(memory, name, entries, ...lent) {
+    const answer = new BigInt64Array(entries);
+    unlessAccepted(memory.call(name, ...lent, answer), answer);
+    return answer;
+}
+
+/** Calls a function that lays bytes into an output of so many, and answers them. */
+function written(memory, name, room, ...lent) {
+    const out = new Uint8Array(room);
+    const [length] = asked(memory, name, 2, ...lent, out);
+    return out.subarray(0, Number(length));
+}
+
+/** What is written by a pattern of a length, lent to the function before the fields. */
+function writtenBy(memory, name, length, lent, fields) {
+    const room = BYTES_A_PATTERN_BYTE * Math.min(length, LONGEST_PATTERN);
+    return textOf(written(memory, name, room, ...lent, ...fieldsInOrder(fields)));
+}
+
+/** What a text is read as by a pattern, or by the row of a prepared one. */
+function readBy(memory, name, pattern, text, currentYear, choices) {
+    const year = signed('currentYear', currentYear);
+    const given = [numberOf(choices), rowOfBook(choices.book), pattern, text, year];
+    return readingOf(asked(memory, name, READ_ANSWER, ...given));
+}
+
+/** What the check says of a pattern, or of a prepared one. */
+function checkedBy(memory, name, pattern, currentYear, edition) {
+    const year = signed('currentYear', currentYear);
+    return verdictOf(asked(memory, name, CHECK_ANSWER, numberOf({ edition }), pattern, year));
+}
+
+/** What a list is read as by a pattern, or by a prepared one. */
+function listedBy(memory, name, pattern, text, currentYear, choices) {
+    const bytes = bytesOf(text);
+    const count = countLines(bytes);
+    const [days, months, years] = [0, 1, 2].map(() => new Int32Array(count));
+    const codes = new Uint32Array(count);
+    const year = signed('currentYear', currentYear);
+    const given = [numberOf(choices), rowOfBook(choices.book), pattern, bytes, year];
+    asked(memory, name, 2, ...given, days, months, years, codes);
+    return { days, months, years, codes };
+}
+
+const PREPARED_ROW = 259;
+
+class Prepared {
+    #memory;
+
+    constructor(memory, pattern, { date }) {
+        this.#memory = memory;
+        this.pattern = textOf(bytesOf(pattern));
+        this.row = new BigUint64Array(PREPARED_ROW);
+        asked(memory, 'sheet_prepare', 2, numberOf({ date }), pattern, this.row);
+    }
+
+    write(fields, { book } = {}) {
+        return writtenBy(this.#memory, 'sheet_prepared_write', this.pattern.length, [rowOfBook(book), this.row], fields);
+    }
+
+    read(text, currentYear, { strict, edition, book } = {}) {
+        return readBy(this.#memory, 'sheet_prepared_read', this.row, text, currentYear, { strict, edition, book });
+    }
+
+    check(currentYear, { edition } = {}) {
+        return checkedBy(this.#memory, 'sheet_prepared_check', this.row, currentYear, edition);
+    }
+
+    readList(text, currentYear, { strict, edition, book } = {}) {
+        return listedBy(this.#memory, 'sheet_prepared_read_list', this.row, text, currentYear, { strict, edition, book });
+    }
 }
 
 /** How far a part reads, and whether it is disturbed, does not depend on the current year. */
@@ -914,11 +1001,8 @@ function outOfRange(bytes) {
     return null;
 }
 
-const LONGEST_PATTERN = 256;
-const BYTES_A_PATTERN_BYTE = 8;
+const LONGEST_MENDED = 256;
 const LONGEST_STAMP = 35;
-const READ_ANSWER = 48;
-const CHECK_ANSWER = 10;
 const DAY_ANSWER = 6;
 const STAMP_ANSWER = 6;
 const SPLIT_PARTS = 768;
@@ -926,13 +1010,6 @@ const UNITS_ROW = 256;
 const CHANGES_ROW = 512;
 const CHANGE = 4;
 const MISFIT = 104;
-
-/** In the place of an opened book: the English names. */
-const NO_BOOK = new Uint8Array(0);
-
-function rowOfBook(book) {
-    return book ? book.row : NO_BOOK;
-}
 
 /** Groups of so many entries, as numbers. */
 function* inGroups(row, size, count) {
@@ -952,30 +1029,13 @@ class Sheet {
         return this.#memory.call(name, ...lent);
     }
 
-    /** Calls a function whose last argument is its answer, of so many entries, and answers that. */
-    #asked(name, entries, ...lent) {
-        const answer = new BigInt64Array(entries);
-        unlessAccepted(this.#memory.call(name, ...lent, answer), answer);
-        return answer;
-    }
-
-    /** Calls a function that lays bytes into an output of so many, and answers them. */
-    #written(name, room, ...lent) {
-        const out = new Uint8Array(room);
-        const [length] = this.#asked(name, 2, ...lent, out);
-        return out.subarray(0, Number(length));
-    }
-
     write(pattern, fields, choices = {}) {
-        const room = BYTES_A_PATTERN_BYTE * Math.min(pattern.length, LONGEST_PATTERN);
-        const given = [numberOf(choices), rowOfBook(choices.book), pattern, ...fieldsInOrder(fields)];
-        return textOf(this.#written('sheet_write_by', room, ...given));
+        const lent = [numberOf(choices), rowOfBook(choices.book), pattern];
+        return writtenBy(this.#memory, 'sheet_write_by', pattern.length, lent, fields);
     }
 
     read(pattern, text, currentYear, choices = {}) {
-        const year = signed('currentYear', currentYear);
-        const given = [numberOf(choices), rowOfBook(choices.book), pattern, text, year];
-        return readingOf(this.#asked('sheet_read_by', READ_ANSWER, ...given));
+        return readBy(this.#memory, 'sheet_read_by', pattern, text, currentYear, choices);
     }
 
     wasRead({ mask }, unit) {
@@ -983,8 +1043,7 @@ class Sheet {
     }
 
     check(pattern, currentYear, { edition } = {}) {
-        const year = signed('currentYear', currentYear);
-        return verdictOf(this.#asked('sheet_check_with', CHECK_ANSWER, numberOf({ edition }), pattern, year));
+        return checkedBy(this.#memory, 'sheet_check_with', pattern, currentYear, edition);
     }
 
     split(pattern, { date = false } = {}) {
@@ -997,10 +1056,10 @@ class Sheet {
     }
 
     mend(pattern, currentYear, { edition } = {}) {
-        const out = new Uint8Array(LONGEST_PATTERN);
+        const out = new Uint8Array(LONGEST_MENDED);
         const row = new BigInt64Array(CHANGES_ROW);
         const year = signed('currentYear', currentYear);
-        const [length, count] = this.#asked('sheet_mend', 2, numberOf({ edition }), pattern, year, out, row);
+        const [length, count] = asked(this.#memory, 'sheet_mend', 2, numberOf({ edition }), pattern, year, out, row);
         const changes = Array.from(inGroups(row, CHANGE, Number(count)), ([place, byte, before, after]) => {
             return { place, byte: String.fromCharCode(byte), before, after };
         });
@@ -1012,7 +1071,7 @@ class Sheet {
         const row = BigInt64Array.from(changes.flatMap(({ place, byte, before, after }) => {
             return [place, byte.charCodeAt(0), before, after].map((number) => entry('a number of a change', number));
         }));
-        const undone = this.#written('sheet_undo', bytes.length, bytes, row);
+        const undone = written(this.#memory, 'sheet_undo', bytes.length, bytes, row);
         return typeof pattern === 'string' ? textOf(undone) : undone;
     }
 
@@ -1028,23 +1087,16 @@ class Sheet {
     }
 
     dayOf(number) {
-        return dayOf(this.#asked('sheet_day', DAY_ANSWER, signed('number', number)));
+        return dayOf(asked(this.#memory, 'sheet_day', DAY_ANSWER, signed('number', number)));
     }
 
     dayNumber(year, month, day) {
         const given = [signed('year', year), unsigned('month', month), unsigned('day', day)];
-        return Number(this.#asked('sheet_day_number', 2, ...given)[0]);
+        return Number(asked(this.#memory, 'sheet_day_number', 2, ...given)[0]);
     }
 
     readList(pattern, text, currentYear, choices = {}) {
-        const bytes = bytesOf(text);
-        const count = countLines(bytes);
-        const [days, months, years] = [0, 1, 2].map(() => new Int32Array(count));
-        const codes = new Uint32Array(count);
-        const year = signed('currentYear', currentYear);
-        const given = [numberOf(choices), rowOfBook(choices.book), pattern, bytes, year];
-        this.#asked('sheet_read_list', 2, ...given, days, months, years, codes);
-        return { days, months, years, codes };
+        return listedBy(this.#memory, 'sheet_read_list', pattern, text, currentYear, choices);
     }
 
     lines(pattern, text, currentYear, choices = {}) {
@@ -1053,11 +1105,11 @@ class Sheet {
     }
 
     parseOffset(text) {
-        return Number(this.#asked('sheet_parse_offset', 2, text)[0]);
+        return Number(asked(this.#memory, 'sheet_parse_offset', 2, text)[0]);
     }
 
     readStamp(text) {
-        const row = this.#asked('sheet_rfc_read', STAMP_ANSWER, text);
+        const row = asked(this.#memory, 'sheet_rfc_read', STAMP_ANSWER, text);
         const [year, month, day, nanoseconds, offset, unknown] = numbersOf(row, 0, STAMP_ANSWER);
         return { year, month, day, nanoseconds, offset, unknown: unknown === 1 };
     }
@@ -1065,11 +1117,11 @@ class Sheet {
     writeStamp({ year, month, day, nanoseconds, offset, unknown = false }) {
         const given = [signed('year', year), unsigned('month', month), unsigned('day', day)];
         given.push(unsigned64('nanoseconds', nanoseconds), signed('offset', offset), unknown ? 1 : 0);
-        return textOf(this.#written('sheet_rfc_write', LONGEST_STAMP, ...given));
+        return textOf(written(this.#memory, 'sheet_rfc_write', LONGEST_STAMP, ...given));
     }
 
     readBook(bytes) {
-        return new Book(this.#written('sheet_book_read', BOOK_ROW, bytes));
+        return new Book(written(this.#memory, 'sheet_book_read', BOOK_ROW, bytes));
     }
 
     makeBook(names) {
@@ -1079,11 +1131,15 @@ class Sheet {
     }
 
     writeBook(book) {
-        return this.#written('sheet_book_write', LONGEST_BOOK, rowOfBook(book));
+        return written(this.#memory, 'sheet_book_write', LONGEST_BOOK, rowOfBook(book));
     }
 
     englishBook() {
         return this.readBook(this.writeBook(null));
+    }
+
+    prepare(pattern, choices = {}) {
+        return new Prepared(this.#memory, pattern, choices);
     }
 
     explain(pattern, text, refusal, choices = {}) {
