@@ -51,7 +51,8 @@ extern "C" {
 #define SHEET_BYTES_A_PATTERN_BYTE 8
 
 /* No call takes more bytes of the stack. As measured on x86-64, a write takes 1,272 at most, with names, a read 1,560,
- * a list 1,912, sheet_day 1,632, which lays a table, opening or writing a book 928, and the other functions 320 at most. */
+ * a list 1,912, by a prepared pattern 1,144, 1,112 and 1,592, sheet_day 1,632, which lays a table, opening or writing a book 928, and
+ * the other functions 352 at most. */
 #define SHEET_MOST_STACK 2048
 
 /* But for sheet_mend and sheet_undo, which hold a list of changes, and take 8,576 and 8,328 as measured. */
