@@ -1,4 +1,5 @@
-//! Links the archive of the library `sheet`: the one that SHEET_ARCHIVE names, or else one that tools/archive makes.
+//! Links the archive of the library `sheet`: the one that SHEET_ARCHIVE names, or else the one that ships for the target of this
+//! build, or else one that tools/archive makes.
 
 use std::env;
 use std::path::{Path, PathBuf};
@@ -8,18 +9,20 @@ fn main() {
     let top = folder("CARGO_MANIFEST_DIR").join("../..");
     let out = folder("OUT_DIR");
     println!("cargo:rerun-if-env-changed=SHEET_ARCHIVE");
-    match given() {
-        Some(archive) => rerun_if_changed(&archive),
+    let mut archiver = Command::new(top.join("tools/archive"));
+    match given().or_else(|| shipped(&top)) {
+        Some(archive) => {
+            rerun_if_changed(&archive);
+            archiver.env("SHEET_ARCHIVE", archive);
+        }
         None => {
             same_machine();
-            for source in ["crates", "crates.txt", "tools/archive"] {
+            for source in ["crates", "crates.txt", "tools/archive", "tools/module"] {
                 rerun_if_changed(&top.join(source));
             }
         }
     }
-    let made = Command::new(top.join("tools/archive"))
-        .arg(out.join("libsheet.a"))
-        .status();
+    let made = archiver.arg(out.join("libsheet.a")).status();
     if !made.is_ok_and(|status| status.success()) {
         stop("there is no archive of the library: tools/archive made none, and SHEET_ARCHIVE names none by its full path");
     }
@@ -43,6 +46,13 @@ fn given() -> Option<PathBuf> {
         ));
     }
     Some(archive)
+}
+
+/// The archive of dist/ for the target of this build, where there is one.
+fn shipped(top: &Path) -> Option<PathBuf> {
+    let target = env::var("TARGET").expect("cargo sets it");
+    let archive = top.join("dist").join(target).join("libsheet.a");
+    archive.is_file().then_some(archive)
 }
 
 /// tools/archive makes an archive for the machine that it runs on.
