@@ -18,7 +18,7 @@ use Rattle.rows.proofs.entries.Fits.{else-fits, unless-fits}
 use Rattle.rows.specs.Fits.{NumberFits, CheckedFits, WroteFits}
 use Rattle.words.specs.Pieces.{mostOf, stepsOf}
 use Rattle.meaning.specs.Prepared.{writeStepsCheck, writeSteps}
-use Rattle.prepared.proofs.Bounds.{words-fit}
+use Rattle.word_writer.proofs.Bounds.{words-fit}
 use Rattle.prepared.proofs.opening.Sums.{most-small}
 
 most-all : (ws : List ℕ) → mostOf ws ≤ 542 * length ws
