@@ -139,7 +139,7 @@ pub fn read_list(
     match open(row) {
         Opened::Nothing => 105,
         Opened::Refused(why) => give_refusal(why, 2, answer),
-        Opened::Words { used, most: _ } => list_in_year(
+        Opened::Words { used } => list_in_year(
             choices,
             book,
             &row[3..259],

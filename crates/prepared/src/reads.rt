@@ -50,7 +50,7 @@ pub fn read(
     match open(row) {
         Opened::Nothing => 105,
         Opened::Refused(why) => give_refusal(why, 48, answer),
-        Opened::Words { used, most: _ } => read_in_year(
+        Opened::Words { used } => read_in_year(
             choices,
             book,
             &row[3..259],

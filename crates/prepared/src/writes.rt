@@ -19,9 +19,6 @@ pub fn write(book: &[u8], row: &[u64], f: Fields, out: &mut [u8], answer: &mut [
     match open(row) {
         Opened::Nothing => 105,
         Opened::Refused(why) => give_refusal(why, 2, answer),
-        Opened::Words { used, most } => give_wrote(
-            write_words(book, &row[3..259], used, most, f, out),
-            answer,
-        ),
+        Opened::Words { used } => give_wrote(write_words(book, &row[3..259], used, f, out), answer),
     }
 }

@@ -2,9 +2,9 @@
 use mathlib.Core.Bool.{Bool, true, false}
 use mathlib.Core.List.{List, [], _∷_}
 use mathlib.Core.Path.{_≡_}
-use Prim.Native.Nat.{ℕ, _+_, _≤_, _<_, max}
+use Prim.Native.Nat.{ℕ, _+_, _*_, _≤_, _<_, max}
 use native.Mathlib.Omega.{arith}
-use lib.Dec.{eqb}
+use lib.Dec.{eqb, leb}
 use lib.ListN.{length, length-append, length-take, length-replicate}
 use borrow.Author.Tests.{le-leb, eqb-true, eqb-false}
 use Rattle.format.proofs.step.Texts.{short-small}
@@ -135,6 +135,15 @@ code-most w = omega arith
 count-most : (w : ℕ) → 29 ≤ code w → mostBytes w ≡ code w + count w
 unfolding mostBytes
 count-most w h = rw (le-leb 29 (code w) h)
+
+pub most-small : (w : ℕ) → mostBytes w ≤ 542
+unfolding mostBytes
+most-small w = by-test (leb 29 (code w)) (λ e. rw e (omega arith)) (λ e. rw e (omega arith))
+
+pub most-all : (ws : List ℕ) → mostOf ws ≤ 542 * length ws
+unfolding mostOf
+most-all [] = omega arith
+most-all (w ∷ ws) = omega (arith, most-small w, most-all ws)
 
 module _ (row tail : List ℕ) (f : Fields) (fine : fieldsCheck f ≡ Fine) where
   pub word-fits : (w : ℕ) → length (texts (bookIn row) f (stepsIn tail w)) ≤ mostBytes w

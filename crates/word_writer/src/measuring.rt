@@ -7,7 +7,7 @@ ghost use Rattle.meaning.specs.Writing.{signedText};
 ghost use Rattle.meaning.specs.declared.Checked.the-variants.{Fine};
 ghost use Rattle.word_writer.specs.Written.{wordText, wordsText, behindText, heldText};
 ghost use Rattle.words.specs.Fields as field;
-ghost use Rattle.words.specs.Pieces.{heldBytes, mostOf};
+ghost use Rattle.words.specs.Pieces.{heldBytes, mostBytes, mostOf};
 use digits::padded::padded_length;
 use format::lengths::rule_length;
 use format::lengths::year_length;
@@ -21,6 +21,27 @@ use words::fields::is_lost;
 use words::fields::last_byte;
 use words::fields::slot;
 use words::pieces::short_in;
+
+fn most_bytes(w: u64) -> usize
+    ensures { λ r. ⌜ r ≡ mostBytes w ⌝ }
+{
+    let bytes = code(w) as usize;
+    if 29 <= bytes { bytes + count(w) } else { bytes }
+}
+
+// The bytes that words write at most, with any book and for any record.
+pub fn most_of(words: &[u64]) -> usize
+    requires { ⌜ length (now words) ≤ 256 ⌝ }
+    ensures { λ r. ⌜ r ≡ mostOf (now (words .entry)) ⌝ }
+{
+    let mut most = 0;
+    let mut i = 0;
+    while i < words.len() {
+        most += most_bytes(words[i]);
+        i += 1;
+    }
+    most
+}
 
 fn behind_length(w: u64) -> usize
     ensures { λ r. ⌜ (r ≡ length (behindText w)) × (r ≤ 1) ⌝ }
@@ -82,11 +103,11 @@ fn word_length(book: &[u8], tail: &[u64], w: u64, f: Fields) -> usize
     }
 }
 
-// The first so many words of a row, whose texts are no longer than a number can say.
-pub fn words_length(book: &[u8], tail: &[u64], used: usize, most: usize, f: Fields) -> usize
+// The first so many words of a row.
+pub fn words_length(book: &[u8], tail: &[u64], used: usize, f: Fields) -> usize
     requires { ⌜ fieldsCheck f ≡ Fine ⌝ }
     requires { ⌜ used ≤ length (now tail) ⌝ }
-    requires { ⌜ most ≡ mostOf (take used (now tail)) ⌝ }
+    requires { ⌜ used ≤ 256 ⌝ }
     ensures { λ r. ⌜ r ≡ length (wordsText (now (book .entry)) (now (tail .entry)) f (take used (now (tail .entry)))) ⌝ }
 {
     let mut n = 0;

@@ -12,9 +12,10 @@ ghost use Rattle.meaning.specs.Writing.{signedText};
 ghost use Rattle.meaning.specs.declared.Checked.the-variants.{Fine};
 ghost use Rattle.word_writer.specs.Written.{wordText, wordsText, behindText, matchedText, twoMore, plainYear, numbersOf, Small, isQuick, quickText, otherText};
 ghost use Rattle.words.specs.Fields as field;
-ghost use Rattle.words.specs.Pieces.{heldBytes, mostOf, stepsOf};
+ghost use Rattle.words.specs.Pieces.{heldBytes, stepsOf};
 ghost use Rattle.meaning.specs.Prepared.{writeSteps, outputSteps};
 use crate::measuring::held_length;
+use crate::measuring::most_of;
 use crate::measuring::words_length;
 use digits::laying::put_byte;
 use digits::laying::put_times;
@@ -255,25 +256,18 @@ fn put_words(book: &[u8], tail: &[u64], used: usize, f: Fields, out: &mut [u8]) 
     at
 }
 
-// Writes a record by words, of which the most bytes are known. A refused write alters no byte. The text is measured where that many do not fit.
-pub fn write_words(
-    book: &[u8],
-    tail: &[u64],
-    used: usize,
-    most: usize,
-    f: Fields,
-    out: &mut [u8],
-) -> Wrote
+// Writes a record by words. A refused write alters no byte. The text is measured where the bytes that the words write at most do not fit.
+pub fn write_words(book: &[u8], tail: &[u64], used: usize, f: Fields, out: &mut [u8]) -> Wrote
     requires { ⌜ used ≤ length (now tail) ⌝ }
-    requires { ⌜ most ≡ mostOf (take used (now tail)) ⌝ }
+    requires { ⌜ used ≤ 256 ⌝ }
     ensures { λ r. ⌜ (r ≡ writeSteps Fine (bookIn (now (book .entry))) (stepsOf (now (tail .entry)) (take used (now (tail .entry)))) f (now (out .entry))) × (now (out .exit) ≡ outputSteps Fine (bookIn (now (book .entry))) (stepsOf (now (tail .entry)) (take used (now (tail .entry)))) f (now (out .entry))) ⌝ }
 {
     let checked = fields_check(f);
     if let Checked::Refused(why) = checked {
         return Wrote::Refused(why);
     }
-    if out.len() < most {
-        let n = words_length(book, tail, used, most, f);
+    if out.len() < most_of(&tail[..used]) {
+        let n = words_length(book, tail, used, f);
         if out.len() < n {
             return Wrote::Refused(Refusal::NoRoom(n));
         }

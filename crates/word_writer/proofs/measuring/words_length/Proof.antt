@@ -1,22 +1,22 @@
 -- What is counted and the text of the words that are left are as long as the whole text, which is no longer than its most.
 use Prim.Native.Nat.{_+_, _-_}
 use denote.Ref.{now}
-use lib.ListN.{length, take, drop, getD, length-append}
+use lib.ListN.{length, take, drop, getD, length-append, length-take}
 use mathlib.Core.Path.{_≡_}
 use native.Mathlib.Omega.{arith}
 use Rattle.meaning.specs.OpenedBooks.{bookIn}
-use Rattle.word_writer.proofs.Bounds.{words-fit}
+use Rattle.word_writer.proofs.Bounds.{words-fit, most-all}
 use Rattle.word_writer.proofs.Texts.{next-word, no-word}
 use Rattle.word_writer.proofs.measuring.words_length.Statement.{statement}
 use Rattle.word_writer.proofs.measuring.words_length.Tie as tie
 use Rattle.word_writer.specs.Written.{wordText, wordsText}
 
 abbrev Inv-loop : tie.InvT-loop
-Inv-loop book tail used most f n₀ i₀ n i =
+Inv-loop book tail used f n₀ i₀ n i =
     n + length (wordsText book tail f (drop i (take used tail))) ≡ length (wordsText book tail f (take used tail))
 
 abbrev μ-loop : tie.MeasureT-loop
-μ-loop book tail used most f n₀ i₀ n i = used - i
+μ-loop book tail used f n₀ i₀ n i = used - i
 
 -- the whole text is as long as what is counted, the next word's and that of the words behind it
 parted : (c : tie.In-loop Inv-loop μ-loop) →
@@ -52,8 +52,9 @@ add-n c =
       parted turn,
       c .word-length .ensures,
       words-fit (now (a .book)) (now (a .tail)) (a .f) (start .pre .0) (take (a .used) (now (a .tail))),
+      most-all (take (a .used) (now (a .tail))),
+      length-take (a .used) (now (a .tail)),
       start .pre .1 .1,
-      start .fits .most,
     )
 
 add-i : tie.Need-add-i Inv-loop μ-loop

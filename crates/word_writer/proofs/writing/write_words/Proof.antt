@@ -2,7 +2,8 @@
 use Prim.Native.Nat.{_≤_}
 use borrow.Author.Needs.{needs}
 use denote.Ref.{now}
-use lib.ListN.{length, take}
+use lib.ListN.{length, take, length-take}
+use lib.Seq.{length-take-le}
 use mathlib.Core.Logic.{⊎-elim}
 use mathlib.Core.Path.{_≡_, sym, ap, _∙_}
 use native.Mathlib.Omega.{arith}
@@ -22,14 +23,14 @@ fine c = sym (c .before .before .fields-check .ensures) ∙ c .enum-told .given 
 
 -- the text fits, by its length or since the most that the words can write does
 fits : (c : tie.Joined1) →
-    let a = c .before .before .before .before .before .before .before .args in
+    let a = c .before .before .before .before .before .before .before .before .before .args in
     length (wordsText (now (a .book)) (now (a .tail)) (a .f) (take (a .used) (now (a .tail)))) ≤ length (now (a .out))
 fits c =
-    let start = c .before .before .before .before .before .before .before in
+    let start = c .before .before .before .before .before .before .before .before .before in
     let a = start .args in
     ⊎-elim
     (λ w. omega (arith, w .1 .ensures, w .2 .left))
-    (λ w. omega (arith, w .left, start .pre .1, words-fit (now (a .book)) (now (a .tail)) (a .f) (fine (c .before)) (take (a .used) (now (a .tail)))))
+    (λ w. omega (arith, w .left, c .before .most-of .ensures, words-fit (now (a .book)) (now (a .tail)) (a .f) (fine (c .before .before .before)) (take (a .used) (now (a .tail)))))
     (c .if1 .came)
 
 fields-check-requires : tie.Need-fields-check-requires
@@ -46,20 +47,34 @@ returns c =
 enum-told : tie.Need-enum-told
 enum-told c = search needs
 
+slice-aggregate-most-of : tie.Need-slice-aggregate-most-of
+slice-aggregate-most-of c =
+    let start = c .before .before .before .before .before .before .before in
+    sym (length-take-le (start .args .used) (now (start .args .tail)) (start .pre .0))
+
+most-of-requires : tie.Need-most-of-requires
+most-of-requires c κs =
+    let start = c .before .before .before .before .before .before .before in
+    omega (arith, length-take (start .args .used) (now (start .args .tail)))
+
 words-length-requires : tie.Need-words-length-requires
 words-length-requires c κs =
-    let start = c .before .before .before .before .before .before .before in
-    (fine (c .before), (start .pre .0, start .pre .1))
+    let told = c .before .before .before in
+    let start = told .before .before .before .before .before .before in
+    (fine told, (start .pre .0, start .pre .1))
 
 returns-2 : tie.Need-returns-2
 returns-2 c =
-    let told = c .before .before .before in
+    let told = c .before .before .before .before .before in
     let a = told .before .before .before .before .before .before .args in
     let n = c .before .words-length .ensures in
     rw n (no-room (bookIn (now (a .book))) (stepsOf (now (a .tail)) (take (a .used) (now (a .tail)))) (a .f) (now (a .out)) (fine told) (omega (arith, n, c .if2 .taken)))
 
 put-words-requires : tie.Need-put-words-requires
-put-words-requires c κs = (fine (c .before .before), (c .before .before .before .before .before .before .before .before .pre .0, fits (c .before)))
+put-words-requires c κs =
+    let joined = c .before in
+    let told = joined .before .before .before in
+    (fine told, (told .before .before .before .before .before .before .pre .0, fits joined))
 
 same-length : tie.Need-same-length
 same-length c = search needs
@@ -67,9 +82,10 @@ same-length c = search needs
 returns-3 : tie.Need-returns-3
 returns-3 c =
     let joined = c .before .before .before .before in
-    let a = joined .before .before .before .before .before .before .before .args in
+    let told = joined .before .before .before in
+    let a = told .before .before .before .before .before .before .args in
     let laid = c .before .before .put-words .ensures in
-    let room = with-room (bookIn (now (a .book))) (stepsOf (now (a .tail)) (take (a .used) (now (a .tail)))) (a .f) (now (a .out)) (fine (joined .before)) (fits joined) in
+    let room = with-room (bookIn (now (a .book))) (stepsOf (now (a .tail)) (take (a .used) (now (a .tail)))) (a .f) (now (a .out)) (fine told) (fits joined) in
     (ap wrote.Length (laid .end ∙ omega arith) ∙ room .0, laid .held ∙ room .1)
 
 pub write-words-spec : {M : Type 1} → statement M
@@ -80,6 +96,8 @@ write-words-spec =
     enum-known-checked
     returns
     enum-told
+    slice-aggregate-most-of
+    most-of-requires
     words-length-requires
     returns-2
     put-words-requires

@@ -3,29 +3,24 @@ use native.Mathlib.Omega.{arith}
 use borrow.Author.Needs.{needs}
 use borrow.Author.Tests.{le-leb, lt-leb}
 use Rattle.words.specs.Pieces.{mostBytes}
-use Rattle.prepared.proofs.opening.most_bytes.Statement.{statement}
-use Rattle.prepared.proofs.opening.most_bytes.Tie as tie
+use Rattle.word_writer.proofs.measuring.most_bytes.Statement.{statement}
+use Rattle.word_writer.proofs.measuring.most_bytes.Tie as tie
 
--- src/opening.rt:27:17
 code-requires : tie.Need-code-requires
 code-requires c κs = search needs
 
--- src/opening.rt:28:30
 count-requires : tie.Need-count-requires
 count-requires c κs = search needs
 
--- src/opening.rt:28:22
 add-result : tie.Need-add-result
 add-result c = search needs
 
--- src/opening.rt:24:1
 returns : tie.Need-returns
 unfolding mostBytes
 returns c =
     let e = c .before .before .code .ensures in
     rw (← e, le-leb _ _ (c .before .if1 .taken)) (omega (arith, c .count .ensures .0))
 
--- src/opening.rt:24:1
 returns-2 : tie.Need-returns-2
 unfolding mostBytes
 returns-2 c =
