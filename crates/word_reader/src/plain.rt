@@ -59,20 +59,19 @@ fn few_at(most: u8, text: &[u8], at: usize) -> Digits
     requires { ⌜ at < length (now text) ⌝ }
     ensures { λ r. ⌜ r ≡ shortDigits 1 most (drop at (now (text .entry))) ⌝ }
 {
-    let a = digit(text[at]);
-    if a == 100 {
+    if !is_digit(text[at]) {
         return NONE;
     }
+    let a = (text[at] - b'0') as u32;
     if most == 1 {
         return Digits { size: a, taken: 1 };
     }
     if text.len() <= at + 1 {
         return Digits { size: a, taken: 1 };
     }
-    let b = digit(text[at + 1]);
-    if b < 10 {
+    if is_digit(text[at + 1]) {
         return Digits {
-            size: a * 10 + b,
+            size: a * 10 + (text[at + 1] - b'0') as u32,
             taken: 2,
         };
     }

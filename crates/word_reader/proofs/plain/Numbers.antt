@@ -1,9 +1,10 @@
 -- Digits that stand at a place are the number that its rule reads there.
 use mathlib.Core.Bool.{true, false}
 use mathlib.Core.List.{List, [], _∷_, _++_}
-use mathlib.Core.Path.{_≡_, refl, sym}
-use Prim.Native.Nat.{ℕ, suc, _+_, _-_, _≤_, _<_}
+use mathlib.Core.Path.{_≡_, refl}
+use Prim.Native.Nat.{ℕ, suc, _+_, _-_, _*_, _≤_, _<_}
 use native.Mathlib.Omega.{arith}
+use lib.Dec.{eqb}
 use lib.IntN.{pos}
 use lib.ListN.{length, getD, drop, length-drop, drop-of-length-le}
 use lib.Seq.{drop-cons}
@@ -26,7 +27,7 @@ use Rattle.meaning.specs.declared.Numeral.the-variants.{Year}
 use Rattle.meaning.specs.declared.ParseUnit.the-variants as unit
 use Rattle.parse.proofs.rule.Within.{within-step}
 use Rattle.parse.proofs.short.Taken.{digits-read}
-use Rattle.parse.specs.ShortReads.{digitFirst, found, secondDigits, shortDigits}
+use Rattle.parse.specs.ShortReads.{found, secondDigits, shortDigits}
 use Rattle.parse.specs.declared.short.Digits.{Digits}
 use Rattle.rules.specs.ShortRules.{shortQuantity, shortUnit, shortMost, shortRule}
 use Rattle.rules.specs.Steps.{longYear}
@@ -150,19 +151,45 @@ module _ (choices : Choices) (book : Book) (current k : ℕ) (few : k ≤ 4) (te
 
 -- one digit, as the code has it
 
-pub digit-small : (b : ℕ) {r : ℕ} → r ≡ when (isDigit b) (b - 48) 100 → (r ≡ 100 → ⊥) → r < 10
-digit-small b told n =
-    by-test (isDigit b) (λ e. omega (arith, rw e at told, digit-bounds b e .1)) (λ e. absurd (n (rw e at told)))
-
 pub digit-there : (b : ℕ) {r : ℕ} → r ≡ when (isDigit b) (b - 48) 100 → r < 10 → (isDigit b ≡ true) × (r ≡ b - 48)
 digit-there b told small =
     by-test (isDigit b) (λ e. (e, rw e at told)) (λ e. absurd (omega (arith, rw e at told)))
 
-pub digit-first : (text : List ℕ) (at : ℕ) {r : ℕ} → at < length text → r ≡ when (isDigit (getD text at 0)) (getD text at 0 - 48) 100 → digitFirst (drop at text) ≡ r
-digit-first text at h told = rw (drop-cons text at 0 h) (sym told)
+-- none, one by itself, or what follows it too
 
-pub digit-none : (text : List ℕ) (at : ℕ) → length text ≤ at → digitFirst (drop at text) ≡ 100
-digit-none text at h = rw (drop-of-length-le text {i = at} h)
+module _ (most : ℕ) (text : List ℕ) (at : ℕ) (there : at < length text) where
+  pub few-none : isDigit (getD text at 0) ≡ false → found 100 0 ≡ shortDigits 1 most (drop at text)
+  unfolding shortDigits
+  few-none e = rw (drop-cons text at 0 there, e)
+
+  module _ (first : isDigit (getD text at 0) ≡ true) where
+    some : eqb (getD text at 0 - 48) 100 ≡ false
+    some = ne-eqb (getD text at 0 - 48) 100 (λ e. omega (arith, e, digit-bounds (getD text at 0) first .1))
+
+    pub few-one : most ≡ 1 → found (getD text at 0 - 48) 1 ≡ shortDigits 1 most (drop at text)
+    unfolding shortDigits
+    few-one e = rw (drop-cons text at 0 there, first, some, e)
+
+    module _ (more : most ≡ 1 → ⊥) where
+      pub few-last : length text ≤ at + 1 → found (getD text at 0 - 48) 1 ≡ shortDigits 1 most (drop at text)
+      unfolding shortDigits secondDigits
+      few-last h =
+          let next : suc at ≡ at + 1 = omega arith in
+          rw (drop-cons text at 0 there, first, some, ne-eqb most 1 more, next, drop-of-length-le text {i = at + 1} h)
+
+      pub few-alone : at + 1 < length text → isDigit (getD text (at + 1) 0) ≡ false → found (getD text at 0 - 48) 1 ≡ shortDigits 1 most (drop at text)
+      unfolding shortDigits secondDigits
+      few-alone h e =
+          let next : suc at ≡ at + 1 = omega arith in
+          rw (drop-cons text at 0 there, first, some, ne-eqb most 1 more, next, drop-cons text (at + 1) 0 h, e)
+
+      pub few-both : at + 1 < length text → isDigit (getD text (at + 1) 0) ≡ true
+          → found ((getD text at 0 - 48) * 10 + (getD text (at + 1) 0 - 48)) 2 ≡ shortDigits 1 most (drop at text)
+      unfolding shortDigits secondDigits
+      few-both h e =
+          let next : suc at ≡ at + 1 = omega arith in
+          let small = lt-ltb (getD text (at + 1) 0 - 48) 10 (omega (arith, digit-bounds (getD text (at + 1) 0) e .1)) in
+          rw (drop-cons text at 0 there, first, some, ne-eqb most 1 more, next, drop-cons text (at + 1) 0 h, e, small)
 
 pub free-there : (text : List ℕ) (at : ℕ) → at < length text → isDigit (getD text at 0) ≡ false → digitAt 0 (drop at text) ≡ false
 unfolding digitAt
