@@ -5,7 +5,7 @@ use mathlib.Core.Path.{_≡_}
 use Prim.Native.Nat.{ℕ, _+_, _-_, _*_, _≤_, _<_}
 use lib.Count.{ones}
 use lib.IntN.{ℤ, pos}
-use lib.ListN.{length, getD, drop, set}
+use lib.ListN.{length, getD, take, drop, set, replicate}
 use Rattle.meaning.specs.Answers.{readAnswer}
 use Rattle.meaning.specs.Bytes.{isDigit, digitAt}
 use Rattle.meaning.specs.Names.{Book}
@@ -83,6 +83,10 @@ Between strict w text first second = Passed strict (firstByte w) text first × P
 
 abbrev pub Row : Type 0
 Row = List ℤ
+
+-- the counts and the values of a row are zeros
+abbrev pub Cleared : List ℤ → Type 0
+Cleared row = take 18 row ≡ replicate 18 (pos 0)
 
 -- the counts in front of a row
 abbrev pub counted : ℕ → ℕ → List ℤ → List ℤ

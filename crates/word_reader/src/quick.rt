@@ -164,7 +164,7 @@ fn quick_word(
     quick_pieces(choices, book, w, tail, current_year, text, at, mask, answer)
 }
 
-// All words in order; whether the text was read.
+// All words in order, in a row whose counts and values are zeros; whether the text was read.
 pub fn quick_words(
     choices: Choices,
     book: &[u8],
@@ -174,10 +174,10 @@ pub fn quick_words(
     current_year: u32,
     answer: &mut [i64],
 ) -> bool
-    requires { ⌜ (used ≤ length (now tail)) × (48 ≤ length (now answer)) × (length (now text) ≤ 2048) ⌝ }
+    requires { ⌜ (used ≤ length (now tail)) × (48 ≤ length (now answer)) × (length (now text) ≤ 2048) × quick.Cleared (now answer) ⌝ }
     ensures { λ r. ⌜ quick.Whole choices (bookIn (now (book .entry))) «current_year» (pieces.stepsOf (now (tail .entry)) (take used (now (tail .entry)))) (now (text .entry)) (now (answer .entry)) (now (answer .exit)) r ⌝ }
 {
-    lay_zeros(48, answer, 0);
+    lay_zeros(30, answer, 18);
     let mut at = 0;
     let mut mask: u16 = 0;
     let mut i = 0;

@@ -19,6 +19,7 @@ use meaning::Checked;
 use meaning::Choices;
 use reader::checks::text_check;
 use rows::answers::give_refusal;
+use rows::entries::lay_zeros;
 
 // Every text, refused ones too.
 fn read_exactly(
@@ -40,6 +41,7 @@ fn read_exactly(
 }
 
 // A text that passes 6 and 7, if its words can be read; whether they were.
+// The counts and values are cleared here, the places by quick_words: a whole row at once would be a call.
 fn read_quickly(
     choices: Choices,
     book: &[u8],
@@ -52,6 +54,7 @@ fn read_quickly(
     requires { ⌜ (used ≤ length (now tail)) × (48 ≤ length (now answer)) ⌝ }
     ensures { λ r. ⌜ Whole choices (bookIn (now (book .entry))) (natAbs year) (stepsOf (now (tail .entry)) (take used (now (tail .entry)))) (now (text .entry)) (now (answer .entry)) (now (answer .exit)) r × (r ≡ true → textCheck (now (text .entry)) ≡ Checked.Fine) ⌝ }
 {
+    lay_zeros(18, answer, 0);
     match text_check(text) {
         Checked::Fine => quick_words(choices, book, tail, used, text, size(year), answer),
         Checked::Refused(_) => false,

@@ -1,20 +1,24 @@
 -- The row of a reading: zeros before the first part, the counts behind the last; and a row laid over a row.
+use mathlib.Core.Bool.{Bool}
 use mathlib.Core.List.{List, [], _++_}
-use mathlib.Core.Path.{_≡_, refl, sym, _∙_}
+use mathlib.Core.Path.{_≡_, refl, ap, sym, _∙_}
 use Prim.Native.Nat.{ℕ, _+_, _-_, _≤_}
 use native.Mathlib.Omega.{arith}
 use lib.IntN.{ℤ, pos}
 use lib.ListN.{length, drop, replicate, length-append, length-replicate}
-use lib.Seq.{sets, sets-eq, drop-at}
+use lib.Seq.{sets, sets-eq, drop-at, drop-drop}
 use Rattle.meaning.specs.Answers.{refused, readAnswer, details}
+use Rattle.meaning.specs.Names.{Book}
 use Rattle.meaning.specs.Whole.{Gave, Walk, walked, refusedAt, lastOf, bits, readingOf, readBy}
+use Rattle.meaning.specs.Writing.{Step}
 use Rattle.meaning.specs.declared.Checked.{Checked}
 use Rattle.meaning.specs.declared.Checked.the-variants.{Fine, Refused}
+use Rattle.meaning.specs.declared.Choices.{Choices}
 use Rattle.meaning.specs.declared.Refusal.{Refusal}
 use Rattle.reader.proofs.record.Units.{units-counted}
 use Rattle.rows.proofs.Cells.{few-details}
 use Rattle.rows.specs.Rows.{inRow, laid, Given}
-use Rattle.word_reader.specs.Quick.{rowOf, maskOf, counted}
+use Rattle.word_reader.specs.Quick.{rowOf, maskOf, Cleared, counted, Whole}
 
 row-long : (gave : List Gave) → length (rowOf gave) ≡ 48
 unfolding rowOf
@@ -27,6 +31,21 @@ beyond-row gave {row} {rest} e = rw e (drop-at (rowOf gave) rest 48 (row-long ga
 pub zero-row : (old : List ℤ) {row : List ℤ} → 48 ≤ length old → row ≡ sets old 0 (replicate 48 (pos 0)) → row ≡ rowOf [] ++ drop 48 old
 unfolding rowOf lastOf
 zero-row old h e = e ∙ sets-eq (replicate 48 (pos 0)) old 0 (omega arith)
+
+-- the same in two parts
+pub cleared-row : (old : List ℤ) {row : List ℤ} → 48 ≤ length old → row ≡ sets old 0 (replicate 18 (pos 0)) → Cleared row × (drop 48 row ≡ drop 48 old)
+cleared-row old h e =
+    let whole = e ∙ sets-eq (replicate 18 (pos 0)) old 0 (omega arith) in
+    (rw whole, rw whole (drop-drop 30 18 old))
+
+pub zero-places : (old : List ℤ) {row : List ℤ} → 48 ≤ length old → Cleared old → row ≡ sets old 18 (replicate 30 (pos 0)) → row ≡ rowOf [] ++ drop 48 old
+unfolding rowOf lastOf
+zero-places old h clear e = e ∙ sets-eq (replicate 30 (pos 0)) old 18 (omega arith) ∙ ap (λ (counts : List ℤ). counts ++ replicate 30 (pos 0) ++ drop 48 old) clear
+
+pub whole-over : {choices : Choices} {book : Book} {current : ℕ} {ss : List Step} {text : List ℕ} {old mid new : List ℤ} {r : Bool} → drop 48 mid ≡ drop 48 old
+    → Whole choices book current ss text mid new r → Whole choices book current ss text old new r
+whole-over e whole =
+    record { beyond = whole .beyond ∙ e; reads = λ h. let read = whole .reads h in (read .0, read .1, read .2, rw e at (read .3)) }
 
 pub no-mask : 0 ≡ maskOf []
 unfolding maskOf lastOf bits

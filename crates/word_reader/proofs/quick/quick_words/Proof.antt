@@ -13,7 +13,7 @@ use Rattle.meaning.specs.OpenedBooks.{bookIn}
 use Rattle.meaning.specs.Whole.{Gave, walk}
 use Rattle.words.specs.Pieces.{stepsIn, stepsOf}
 use Rattle.word_reader.proofs.exact.Pieces.{words-done}
-use Rattle.word_reader.proofs.keeping.Rows.{zero-row, no-mask, beyond-row, counted-row, beyond-counted}
+use Rattle.word_reader.proofs.keeping.Rows.{zero-places, no-mask, beyond-row, counted-row, beyond-counted}
 use Rattle.word_reader.proofs.quick.Pieces.{word-on}
 use Rattle.word_reader.specs.Quick.{rowOf, maskOf}
 use Rattle.word_reader.proofs.quick.quick_words.Statement.{statement}
@@ -39,7 +39,7 @@ lay-zeros-requires c κs = omega (arith, c .before .before .before .before .pre 
 loop-holds : tie.Need-loop-holds Inv-loop μ-loop
 loop-holds c =
     let s = c .before .before .before .before .before .before in
-    let zeros = zero-row (now (s .args .answer)) (s .pre .1) (c .before .lay-zeros .ensures) in
+    let zeros = zero-places (now (s .args .answer)) (s .pre .1) (s .pre .3) (c .before .lay-zeros .ensures) in
     ([], 0, refl, rw (sym (beyond-row [] zeros)) at zeros, no-mask, omega arith, refl, omega arith)
 
 mul-w : tie.Need-mul-w Inv-loop μ-loop
@@ -62,7 +62,7 @@ returns c =
     let s = c .before .before .before .before .before .before .before .before .before .before .before .before .before .before in
     let L = c .before .before .before .before .before .before .before .loop in
     let q = c .before .before .before .quick-word .ensures in
-    record { beyond = q .beyond ∙ beyond-row (L .inv .0) (L .inv .3) ∙ beyond-row [] (zero-row (now (s .args .answer)) (s .pre .1) (c .before .before .before .before .before .before .before .before .before .lay-zeros .ensures)); reads = λ h. true-is-not-false (sym h) }
+    record { beyond = q .beyond ∙ beyond-row (L .inv .0) (L .inv .3) ∙ beyond-row [] (zero-places (now (s .args .answer)) (s .pre .1) (s .pre .3) (c .before .before .before .before .before .before .before .before .before .lay-zeros .ensures)); reads = λ h. true-is-not-false (sym h) }
 
 add-i : tie.Need-add-i Inv-loop μ-loop
 add-i c = omega (arith, c .before .before .before .before .before .before .loop-test .taken, c .before .before .before .before .before .before .before .before .before .before .before .before .before .before .pre .0)
@@ -98,7 +98,7 @@ returns-2 : tie.Need-returns-2 Inv-loop μ-loop
 returns-2 c =
     let s = c .before .before .before .before .before .before .before .before .before .before in
     let L = c .before .before .before .loop in
-    record { beyond = beyond-row (L .inv .0) (L .inv .3) ∙ beyond-row [] (zero-row (now (s .args .answer)) (s .pre .1) (c .before .before .before .before .before .lay-zeros .ensures)); reads = λ h. true-is-not-false (sym h) }
+    record { beyond = beyond-row (L .inv .0) (L .inv .3) ∙ beyond-row [] (zero-places (now (s .args .answer)) (s .pre .1) (s .pre .3) (c .before .before .before .before .before .lay-zeros .ensures)); reads = λ h. true-is-not-false (sym h) }
 
 finish-requires : tie.Need-finish-requires Inv-loop μ-loop
 finish-requires c κs =
@@ -120,7 +120,7 @@ returns-3 c =
     let gave = L .inv .0 in
     let none-left = ⊎-elim (λ t. inr (ltb-false (L .at) (length text) (t .1 .left))) (λ e. inl (e .left)) (c .before .before .before .if2 .came) in
     let ends = words-done (a .choices) (bookIn (now (a .book))) (a .current-year) tail text (a .used) (s .pre .0) gave (L .inv .1) (L .at) (L .i) 0 (m .loop-test .left) none-left in
-    let zeros = beyond-row [] (zero-row (now (s .args .answer)) (s .pre .1) (c .before .before .before .before .before .before .before .lay-zeros .ensures)) in
+    let zeros = beyond-row [] (zero-places (now (s .args .answer)) (s .pre .1) (s .pre .3) (c .before .before .before .before .before .before .before .lay-zeros .ensures)) in
     let row = rw (L .inv .3, L .inv .4, counted-row (L .at) gave (drop 48 _), zeros) at (c .before .finish .ensures) in
     record { beyond = beyond-counted (L .at) gave row; reads = λ h. (L .at, gave, sym (L .inv .2) ∙ ends, row) }
 
