@@ -33,6 +33,11 @@ maskOf gave = readingOf Fine 0 gave .mask
 abbrev pub gaveOne : Carried → ℕ → ℕ → List Gave
 gaveOne c from to = record { carried = c; start = from; end = to } ∷ []
 
+-- what three give that have a byte between: one that ends at a place, and two of two bytes
+abbrev pub gaveThree : Carried → Carried → Carried → ℕ → ℕ → List Gave
+gaveThree a b c at end =
+    gaveOne c (end + 4) (end + 6) ++ (gaveOne Nothing (end + 3) (end + 4) ++ (gaveOne b (end + 1) (end + 3) ++ (gaveOne Nothing end (end + 1) ++ gaveOne a at end)))
+
 -- steps are read from a place to the next, and these are what they give, the newest first
 pub record Moves (choices : Choices) (book : Book) (current : ℕ) (ss : List Step) (text : List ℕ) (at next : ℕ) (gs : List Gave) : Type 0 where
   pub inside : next ≤ length text

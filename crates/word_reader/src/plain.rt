@@ -2,6 +2,7 @@
 ghost use mathlib.Core.Bool.{true};
 ghost use mathlib.Core.Path.{_≡_};
 ghost use Prim.Native.Nat.{_+_, _-_, _≤_, _<_};
+ghost use lib.IntN.{pos};
 ghost use lib.ListN.{length, drop};
 ghost use Rattle.meaning.specs.Bytes.{when, isDigit};
 ghost use Rattle.parse.specs.ShortReads.{shortDigits};
@@ -12,6 +13,7 @@ use crate::keeping::Moved;
 use crate::keeping::keep;
 use crate::keeping::pass_behind;
 use crate::keeping::pass_byte;
+use meaning::Carried;
 use meaning::Choices;
 use meaning::ParseUnit;
 use numerals::is_digit;
@@ -209,6 +211,52 @@ fn all_below(a: u32, b: u32, c: u32) -> bool
     c < 100
 }
 
+// The units of three numbers.
+struct Units {
+    first: ParseUnit,
+    second: ParseUnit,
+    third: ParseUnit,
+}
+
+const TIME: Units = Units {
+    first: ParseUnit::Hour,
+    second: ParseUnit::Minute,
+    third: ParseUnit::Second,
+};
+
+const DATE: Units = Units {
+    first: ParseUnit::Year,
+    second: ParseUnit::Month,
+    third: ParseUnit::DayOfMonth,
+};
+
+// Keeps three numbers: one that ends at a place, and behind it two of two digits with a byte before each.
+fn keep_three(
+    units: Units,
+    a: u32,
+    b: u32,
+    c: u32,
+    at: usize,
+    end: usize,
+    next: usize,
+    mask: u16,
+    answer: &mut [i64],
+) -> Moved
+    requires { ⌜ (48 ≤ length (now answer)) × (at ≤ end) × (end + 6 ≤ 2048) ⌝ }
+    ensures { λ r. ⌜ (r .next ≡ next) × quick.Kept (quick.gaveThree (Carried.Value (units .first) (pos a)) (Carried.Value (units .second) (pos b)) (Carried.Value (units .third) (pos c)) at end) (now (answer .entry)) (now (answer .exit)) mask (r .mask) × (drop 48 (now (answer .exit)) ≡ drop 48 (now (answer .entry))) ⌝ }
+{
+    let first = units.first;
+    let second = units.second;
+    let third = units.third;
+    let one = keep(first, a as i64, at, end, mask, answer);
+    let two = keep(second, b as i64, end + 1, end + 3, one.mask, answer);
+    let all = keep(third, c as i64, end + 4, end + 6, two.mask, answer);
+    Moved {
+        next,
+        mask: all.mask,
+    }
+}
+
 // Three numbers: the hour, the minute and the second.
 fn hot_time(
     choices: Choices,
@@ -221,44 +269,24 @@ fn hot_time(
     requires { ⌜ (field.code w ≡ 10) × quick.Ready (now text) at (now answer) ⌝ }
     ensures { λ r. ⌜ quick.Hot choices w (now (text .entry)) at mask (now (answer .entry)) (now (answer .exit)) r ⌝ }
 {
-    let end = at + 8;
-    if text.len() < end {
+    let end = at + 2;
+    if text.len() < end + 6 {
         return Moved { next: LOST, mask };
     }
     let hour = two_at(text, at);
-    let minute = two_at(text, at + 3);
-    let second = two_at(text, at + 6);
+    let minute = two_at(text, end + 1);
+    let second = two_at(text, end + 4);
     if !all_below(hour, minute, second) {
         return Moved { next: LOST, mask };
     }
-    if !between(choices.strict, w, text, at + 2, at + 5) {
+    if !between(choices.strict, w, text, end, end + 3) {
         return Moved { next: LOST, mask };
     }
-    let next = pass_behind(choices, w, text, end);
+    let next = pass_behind(choices, w, text, end + 6);
     if 2048 < next {
         return Moved { next: LOST, mask };
     }
-    let one = keep(ParseUnit::Hour, hour as i64, at, at + 2, mask, answer);
-    let two = keep(
-        ParseUnit::Minute,
-        minute as i64,
-        at + 3,
-        at + 5,
-        one.mask,
-        answer,
-    );
-    let all = keep(
-        ParseUnit::Second,
-        second as i64,
-        at + 6,
-        end,
-        two.mask,
-        answer,
-    );
-    Moved {
-        next,
-        mask: all.mask,
-    }
+    keep_three(TIME, hour, minute, second, at, end, next, mask, answer)
 }
 
 // Three numbers: the year of four digits, the month and the day.
@@ -273,44 +301,24 @@ fn hot_date(
     requires { ⌜ (field.code w ≡ 15) × quick.Ready (now text) at (now answer) ⌝ }
     ensures { λ r. ⌜ quick.Hot choices w (now (text .entry)) at mask (now (answer .entry)) (now (answer .exit)) r ⌝ }
 {
-    let end = at + 10;
-    if text.len() < end {
+    let end = at + 4;
+    if text.len() < end + 6 {
         return Moved { next: LOST, mask };
     }
     let year = year_at(text, at);
-    let month = two_at(text, at + 5);
-    let day = two_at(text, at + 8);
+    let month = two_at(text, end + 1);
+    let day = two_at(text, end + 4);
     if !all_below(year / 100, month, day) {
         return Moved { next: LOST, mask };
     }
-    if !between(choices.strict, w, text, at + 4, at + 7) {
+    if !between(choices.strict, w, text, end, end + 3) {
         return Moved { next: LOST, mask };
     }
-    let next = pass_behind(choices, w, text, end);
+    let next = pass_behind(choices, w, text, end + 6);
     if 2048 < next {
         return Moved { next: LOST, mask };
     }
-    let one = keep(ParseUnit::Year, year as i64, at, at + 4, mask, answer);
-    let two = keep(
-        ParseUnit::Month,
-        month as i64,
-        at + 5,
-        at + 7,
-        one.mask,
-        answer,
-    );
-    let all = keep(
-        ParseUnit::DayOfMonth,
-        day as i64,
-        at + 8,
-        end,
-        two.mask,
-        answer,
-    );
-    Moved {
-        next,
-        mask: all.mask,
-    }
+    keep_three(DATE, year, month, day, at, end, next, mask, answer)
 }
 
 // A byte by itself.

@@ -22,7 +22,7 @@ use Rattle.words.specs.Fields.{code, slot, firstByte, secondByte, lastByte}
 use Rattle.words.specs.Pieces.{pieceStep, shortIn, behind, piecesOfCode, stepsIn}
 use Rattle.word_reader.proofs.keeping.Moving.{moves-to, moves-then, kept-nothing, kept-then}
 use Rattle.word_reader.proofs.keeping.Passing.{moves-byte}
-use Rattle.word_reader.specs.Quick.{gaveOne, Kept, Hot, Behind, Passed, Between}
+use Rattle.word_reader.specs.Quick.{gaveOne, gaveThree, Kept, Hot, Behind, Passed, Between}
 use Rattle.word_reader.specs.declared.keeping.Moved.{Moved}
 
 -- the steps of a word, by its code
@@ -96,29 +96,23 @@ module _ (choices : Choices) (w : ℕ) (text : List ℕ) (a b c : Rule) (steps :
   abbrev Reads : Rule → ℕ → ℕ → Carried → Type 0
   Reads rule at n carried = (book : Book) (current : ℕ) → readStep choices book current (field rule) (drop at text) ≡ got n carried
 
-  pub hot-three : (at end₁ start₂ end₂ start₃ end₃ mask : ℕ) {old row₁ row₂ new : List ℤ} {mask₁ mask₂ : ℕ} (r : Moved) {n₁ n₂ n₃ : ℕ} {c₁ c₂ c₃ : Carried}
-      → end₁ ≡ at + n₁ → start₂ ≡ end₁ + 1 → end₂ ≡ start₂ + n₂ → start₃ ≡ end₂ + 1 → end₃ ≡ start₃ + n₃ → end₃ ≤ length text
-      → Reads a at n₁ c₁ → Reads b start₂ n₂ c₂ → Reads c start₃ n₃ c₃ → Between (choices .strict) w text end₁ end₂ → Behind choices w text end₃ (r .next)
-      → Kept (gaveOne c₁ at end₁) old row₁ mask mask₁ → Kept (gaveOne c₂ start₂ end₂) row₁ row₂ mask₁ mask₂ → Kept (gaveOne c₃ start₃ end₃) row₂ new mask₂ (r .mask)
-      → drop 48 new ≡ drop 48 old → r .next ≤ 2048 → Hot choices w text at mask old new r
-  hot-three at end₁ start₂ end₂ start₃ end₃ mask {new = new} r {c₁ = c₁} {c₂ = c₂} {c₃ = c₃} e₁ s₂ e₂ s₃ e₃ inside first second third between back k₁ k₂ k₃ beyond small =
+  pub hot-three : (at end mask : ℕ) {old new : List ℤ} (r : Moved) {n : ℕ} {c₁ c₂ c₃ : Carried} → end ≡ at + n → end + 6 ≤ length text
+      → Reads a at n c₁ → Reads b (end + 1) 2 c₂ → Reads c (end + 4) 2 c₃ → Between (choices .strict) w text end (end + 3) → Behind choices w text (end + 6) (r .next)
+      → Kept (gaveThree c₁ c₂ c₃ at end) old new mask (r .mask) → drop 48 new ≡ drop 48 old → r .next ≤ 2048 → Hot choices w text at mask old new r
+  hot-three at end mask {new = new} r {c₁ = c₁} {c₂ = c₂} {c₃ = c₃} e inside first second third between back kept beyond small =
       record {
         lost = λ k. absurd (omega arith);
         quick = λ book current row.
             let last = back book current row in
-            let m₁ = moves-to choices book current text at end₁ (field a) (omega arith) e₁ (first book current) in
-            let b₁ = moves-byte choices book current text end₁ start₂ (firstByte w) s₂ (between .0) in
-            let m₂ = moves-to choices book current text start₂ end₂ (field b) (omega arith) e₂ (second book current) in
-            let b₂ = moves-byte choices book current text end₂ start₃ (secondByte w) s₃ (between .1) in
-            let m₃ = moves-to choices book current text start₃ end₃ (field c) (omega arith) e₃ (third book current) in
+            let m₁ = moves-to choices book current text at end (field a) (omega arith) e (first book current) in
+            let b₁ = moves-byte choices book current text end (end + 1) (firstByte w) refl (between .0) in
+            let m₂ = moves-to choices book current text (end + 1) (end + 3) (field b) (omega arith) (omega arith) (second book current) in
+            let b₂ = moves-byte choices book current text (end + 3) (end + 4) (secondByte w) (omega arith) (between .1) in
+            let m₃ = moves-to choices book current text (end + 4) (end + 6) (field c) (omega arith) (omega arith) (third book current) in
             let two = moves-then choices book current text (moves-then choices book current text m₁ b₁) m₂ in
             let all = moves-then choices book current text (moves-then choices book current text two b₂) m₃ in
             record {
               beyond = beyond;
-              reads = λ k. (
-                last .0 ++ (gaveOne c₃ start₃ end₃ ++ (gaveOne Nothing end₂ start₃ ++ (gaveOne c₂ start₂ end₂ ++ (gaveOne Nothing end₁ start₂ ++ gaveOne c₁ at end₁)))),
-                rw (steps row) (moves-then choices book current text all (last .1)),
-                kept-then (kept-then (kept-then (kept-then (kept-then k₁ kept-nothing) k₂) kept-nothing) k₃) (last .2 new (r .mask)),
-              );
+              reads = λ k. (last .0 ++ gaveThree c₁ c₂ c₃ at end, rw (steps row) (moves-then choices book current text all (last .1)), kept-then kept (last .2 new (r .mask)));
             };
       }

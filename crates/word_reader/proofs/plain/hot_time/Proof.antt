@@ -1,9 +1,7 @@
 -- All digits are there, and the bytes.
 use borrow.Author.Needs.{needs}
 use borrow.Author.Tests.{not-false}
-use mathlib.Core.Path.{refl, _∙_}
-use mir.Facts.{toZ-pos}
-use mir.Syntax.{w64}
+use mathlib.Core.Path.{refl}
 use Prim.Native.Nat.{_+_, _≤_}
 use native.Mathlib.Omega.{arith}
 use denote.Ref.{now}
@@ -16,25 +14,28 @@ use Rattle.word_reader.proofs.plain.hot_time.Statement.{statement}
 use Rattle.word_reader.proofs.plain.hot_time.Tie as tie
 
 add-end : tie.Need-add-end
-add-end c = omega (arith, c .before .pre .1 .1, c .before .pre .1 .2)
+add-end c = search needs
+
+add-if1 : tie.Need-add-if1
+add-if1 c = search needs
 
 returns : tie.Need-returns
 returns c = hot-lost (omega arith)
 
 two-at-requires : tie.Need-two-at-requires
-two-at-requires c κs = omega (arith, c .if1 .left)
+two-at-requires c κs = search needs
 
 add-two-at : tie.Need-add-two-at
-add-two-at c = omega (arith, c .before .if1 .left)
+add-two-at c = search needs
 
 two-at-requires-2 : tie.Need-two-at-requires-2
-two-at-requires-2 c κs = omega (arith, c .before .if1 .left)
+two-at-requires-2 c κs = search needs
 
 add-two-at-2 : tie.Need-add-two-at-2
-add-two-at-2 c = omega (arith, c .before .before .if1 .left)
+add-two-at-2 c = search needs
 
 two-at-requires-3 : tie.Need-two-at-requires-3
-two-at-requires-3 c κs = omega (arith, c .before .before .if1 .left)
+two-at-requires-3 c κs = search needs
 
 all-below-requires : tie.Need-all-below-requires
 all-below-requires c κs = search needs
@@ -43,98 +44,56 @@ returns-2 : tie.Need-returns-2
 returns-2 c = hot-lost (omega arith)
 
 add-between : tie.Need-add-between
-add-between c = omega (arith, c .before .before .before .before .before .if1 .left)
-
-add-between-2 : tie.Need-add-between-2
-add-between-2 c = omega (arith, c .before .before .before .before .before .if1 .left)
+add-between c = search needs
 
 between-requires : tie.Need-between-requires
-between-requires c κs = c .before .before .before .before .before .before .before .pre .1 .2
+between-requires c κs = search needs
 
 returns-3 : tie.Need-returns-3
 returns-3 c = hot-lost (omega arith)
 
+add-pass-behind : tie.Need-add-pass-behind
+add-pass-behind c = search needs
+
 pass-behind-requires : tie.Need-pass-behind-requires
-pass-behind-requires c κs = omega (arith, c .before .before .before .before .before .before .before .if1 .left)
+pass-behind-requires c κs = search needs
 
 returns-4 : tie.Need-returns-4
 returns-4 c = hot-lost (omega arith)
 
-cast-keep : tie.Need-cast-keep
-cast-keep c = search needs
-
-add-keep : tie.Need-add-keep
-add-keep c = omega (arith, c .before .before .before .before .before .before .before .before .before .if1 .left)
-
-keep-requires : tie.Need-keep-requires
-keep-requires c κs =
-    let s = c .before .before .before .before .before .before .before .before .before .before .before .before in
-    let there = c .before .before .before .before .before .before .before .before .before .before .if1 .left in
-    (s .pre .1 .0, omega (arith, there, s .pre .1 .2), omega (arith, there, s .pre .1 .2))
-
-cast-keep-2 : tie.Need-cast-keep-2
-cast-keep-2 c = search needs
-
-add-keep-2 : tie.Need-add-keep-2
-add-keep-2 c = omega (arith, c .before .before .before .before .before .before .before .before .before .before .before .before .if1 .left)
-
-add-keep-3 : tie.Need-add-keep-3
-add-keep-3 c = omega (arith, c .before .before .before .before .before .before .before .before .before .before .before .before .if1 .left)
-
-keep-requires-2 : tie.Need-keep-requires-2
-keep-requires-2 c κs =
-    let s = c .before .before .before .before .before .before .before .before .before .before .before .before .before .before .before in
-    let there = c .before .before .before .before .before .before .before .before .before .before .before .before .before .if1 .left in
-    (omega (arith, c .before .before .keep .kept .1 .1 .1 .1 .1 .0, s .pre .1 .0), omega (arith, there, s .pre .1 .2), omega (arith, there, s .pre .1 .2))
-
-cast-keep-3 : tie.Need-cast-keep-3
-cast-keep-3 c = search needs
-
-add-keep-4 : tie.Need-add-keep-4
-add-keep-4 c = omega (arith, c .before .before .before .before .before .before .before .before .before .before .before .before .before .before .before .if1 .left, c .before .before .before .before .before .before .before .before .before .before .before .before .before .before .before .before .before .pre .1 .2)
-
-keep-requires-3 : tie.Need-keep-requires-3
-keep-requires-3 c κs =
-    let s = c .before .before .before .before .before .before .before .before .before .before .before .before .before .before .before .before .before .before in
-    let there = c .before .before .before .before .before .before .before .before .before .before .before .before .before .before .before .before .if1 .left in
-    (omega (arith, c .before .before .before .before .before .keep .kept .1 .1 .1 .1 .1 .0, c .before .before .keep2 .kept .1 .1 .1 .1 .1 .0, s .pre .1 .0), omega (arith, there, s .pre .1 .2), omega (arith, there, s .pre .1 .2))
+keep-three-requires : tie.Need-keep-three-requires
+keep-three-requires c κs = search needs
 
 same-length : tie.Need-same-length
 same-length c = search needs
 
 returns-5 : tie.Need-returns-5
 returns-5 c =
-    let s = c .before .before .before .before .before .before .before .before .before .before .before .before .before .before .before .before .before .before .before .before in
+    let s = c .before .before .before .before .before .before .before .before .before .before .before .before .before .before in
     let a = s .args in
     let text = now (a .text) in
-    let at = a .at in
-    let hour = c .before .before .before .before .before .before .before .before .before .before .before .before .before .before .before .before .before .two-at in
-    let minute = c .before .before .before .before .before .before .before .before .before .before .before .before .before .before .before .before .two-at2 in
-    let second = c .before .before .before .before .before .before .before .before .before .before .before .before .before .before .before .two-at3 in
-    let below = c .before .before .before .before .before .before .before .before .before .before .before .before .before .before .all-below .ensures (not-false _ (c .before .before .before .before .before .before .before .before .before .before .before .before .before .if2 .left)) in
-    let there : at + 8 ≤ length text = omega (arith, c .before .before .before .before .before .before .before .before .before .before .before .before .before .before .before .before .before .before .if1 .left) in
-    let bytes = c .before .before .before .before .before .before .before .before .before .before .before .before .between .ensures (not-false _ (c .before .before .before .before .before .before .before .before .before .before .before .if3 .left)) in
-    let back = c .before .before .before .before .before .before .before .before .before .before .pass-behind .ensures (c .before .before .before .before .before .before .before .before .before .if4 .left) in
-    let one = c .before .before .before .before .before .before .before .keep .ensures in
-    let two = c .before .before .before .before .keep2 .ensures in
-    let three = c .before .keep3 .ensures in
+    let end = a .at + 2 in
+    let hour = c .before .before .before .before .before .before .before .before .before .before .before .two-at in
+    let minute = c .before .before .before .before .before .before .before .before .before .before .two-at2 in
+    let second = c .before .before .before .before .before .before .before .before .before .two-at3 in
+    let below = c .before .before .before .before .before .before .before .before .all-below .ensures (not-false _ (c .before .before .before .before .before .before .before .if2 .left)) in
+    let there : end + 6 ≤ length text = c .before .before .before .before .before .before .before .before .before .before .before .before .if1 .left in
+    let bytes = c .before .before .before .before .before .before .between .ensures (not-false _ (c .before .before .before .before .before .if3 .left)) in
+    let back = c .before .before .before .before .pass-behind .ensures (c .before .before .before .if4 .left) in
+    let kept = c .before .keep-three .ensures in
     hot-three (a .choices) (a .w) text (shortRule short.Hour 2) (shortRule short.Minute 2) (shortRule short.Second 2) (λ row. time-steps (a .w) row (s .pre .0))
-    at (at + 2) (at + 3) (at + 5) (at + 6) (at + 8) (a .mask) (record { next = c .before .before .before .before .before .before .before .before .before .before .pass-behind .result; mask = c .before .keep3 .result .mask }) {n₁ = 2} {n₂ = 2} {n₃ = 2}
-    refl (omega arith) (omega arith) (omega arith) (omega arith) there
-    (λ book current. two-got (a .choices) book current short.Hour text at (hour .result) (omega (arith, there)) (hour .ensures (below .0)))
-    (λ book current. two-got (a .choices) book current short.Minute text (at + 3) (minute .result) (omega (arith, there)) (minute .ensures (below .1)))
-    (λ book current. two-got (a .choices) book current short.Second text (at + 6) (second .result) (omega (arith, there)) (second .ensures (below .2)))
-    bytes back
-    (rw (toZ-pos w64 {n = hour .result} (omega (arith, below .0))) at (one .1))
-    (rw (toZ-pos w64 {n = minute .result} (omega (arith, below .1))) at (two .1))
-    (rw (toZ-pos w64 {n = second .result} (omega (arith, below .2))) at (three .1))
-    (three .2 ∙ two .2 ∙ one .2) (c .before .before .before .before .before .before .before .before .before .if4 .left)
+    (a .at) end (a .mask) (c .before .keep-three .result) {n = 2} refl there
+    (λ book current. two-got (a .choices) book current short.Hour text (a .at) (hour .result) (omega (arith, there)) (hour .ensures (below .0)))
+    (λ book current. two-got (a .choices) book current short.Minute text (end + 1) (minute .result) (omega (arith, there)) (minute .ensures (below .1)))
+    (λ book current. two-got (a .choices) book current short.Second text (end + 4) (second .result) (omega (arith, there)) (second .ensures (below .2)))
+    bytes (rw (kept .0) back) (kept .1) (kept .2) (omega (arith, kept .0, c .before .before .before .if4 .left))
 
 pub hot-time-spec : {M : Type 1} → statement M
 hot-time-spec =
     tie.close
     (tie.spec
     add-end
+    add-if1
     returns
     two-at-requires
     add-two-at
@@ -144,20 +103,11 @@ hot-time-spec =
     all-below-requires
     returns-2
     add-between
-    add-between-2
     between-requires
     returns-3
+    add-pass-behind
     pass-behind-requires
     returns-4
-    cast-keep
-    add-keep
-    keep-requires
-    cast-keep-2
-    add-keep-2
-    add-keep-3
-    keep-requires-2
-    cast-keep-3
-    add-keep-4
-    keep-requires-3
+    keep-three-requires
     same-length
     returns-5)
