@@ -59,6 +59,11 @@ pub record Hot (choices : Choices) (w : ℕ) (text : List ℕ) (at mask : ℕ) (
   pub lost : 2048 < r .next → new ≡ old
   pub quick : (book : Book) (current : ℕ) (row : List ℕ) → Quick choices book current (stepsIn row w) text at mask old new r
 
+-- the same with one book
+pub record Named (choices : Choices) (book : Book) (w : ℕ) (text : List ℕ) (at mask : ℕ) (old new : List ℤ) (r : Moved) : Type 0 where
+  pub lost : 2048 < r .next → new ≡ old
+  pub quick : (current : ℕ) (row : List ℕ) → Quick choices book current (stepsIn row w) text at mask old new r
+
 -- the byte behind all else is passed over, which keeps nothing
 abbrev pub Behind : Choices → ℕ → List ℕ → ℕ → ℕ → Type 0
 Behind choices w text at next = (book : Book) (current : ℕ) (row : List ℕ)

@@ -15,6 +15,7 @@ use crate::keeping::Moved;
 use crate::keeping::finish;
 use crate::keeping::keep;
 use crate::keeping::pass_behind;
+use crate::named::hot_name;
 use crate::plain::hot_word;
 use meaning::Carried;
 use meaning::Choices;
@@ -159,6 +160,10 @@ fn quick_word(
         return moved;
     }
     if code(w) == 22 {
+        let named = hot_name(choices, book, w, text, at, mask, answer);
+        if named.next <= 2048 {
+            return named;
+        }
         return quick_rule(choices, book, w, current_year, text, at, mask, answer);
     }
     quick_pieces(choices, book, w, tail, current_year, text, at, mask, answer)

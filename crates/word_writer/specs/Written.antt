@@ -2,16 +2,16 @@
 -- numbers of a record by their places.
 use mathlib.Core.Bool.{Bool, true, false}
 use mathlib.Core.List.{List, [], _∷_, _++_}
-use Prim.Native.Nat.{ℕ, _-_, _<_}
+use Prim.Native.Nat.{ℕ, _+_, _-_, _<_}
 use lib.Dec.{eqb, ltb}
 use lib.IntN.{natAbs}
 use lib.ListN.{length, getD, take, replicate}
 use Rattle.meaning.specs.Bytes.{when, both, digits, num}
 use Rattle.meaning.specs.OpenedBooks.{bookIn}
-use Rattle.meaning.specs.Writing.{isNegative, quantityOf, nameText, signedText, texts}
+use Rattle.meaning.specs.Writing.{isNegative, quantityOf, placeOf, nameText, signedText, texts}
 use Rattle.meaning.specs.declared.Fields.{Fields}
 use Rattle.meaning.specs.declared.Quantity.the-variants.{Month, Day, Hour0To23, Minute, Second}
-use Rattle.words.specs.Coding.{listIn}
+use Rattle.words.specs.Coding.{listIn, firstSpelled}
 use Rattle.words.specs.Fields.{code, slot, count, from, isLost, firstByte, secondByte, lastByte, item}
 use Rattle.words.specs.Pieces.{heldBytes, stepsIn, stepsOf}
 
@@ -28,6 +28,10 @@ behindText w = when (eqb (lastByte w) 0) [] (lastByte w ∷ [])
 -- a name that is matched, and the byte behind it
 abbrev pub matchedText : List ℕ → Fields → ℕ → List ℕ
 matchedText book f w = nameText (bookIn book) (listIn (item w)) f ++ behindText w
+
+-- the number of a record's name among those that are spelled
+abbrev pub spelledName : Fields → ℕ → ℕ
+spelledName f w = firstSpelled w + placeOf (listIn (item w)) f
 
 -- behind the first of three numbers
 abbrev pub twoMore : List ℕ → List ℕ → ℕ → List ℕ

@@ -8,9 +8,10 @@ ghost use Rattle.laws.specs.Laid.{Laid};
 ghost use Rattle.meaning.specs.Answers.{fieldsCheck};
 ghost use Rattle.meaning.specs.Bytes.{num};
 ghost use Rattle.meaning.specs.OpenedBooks.{bookIn};
-ghost use Rattle.meaning.specs.Writing.{signedText};
+ghost use Rattle.meaning.specs.Writing.{nameText, signedText};
 ghost use Rattle.meaning.specs.declared.Checked.the-variants.{Fine};
-ghost use Rattle.word_writer.specs.Written.{wordText, wordsText, behindText, matchedText, twoMore, plainYear, numbersOf, Small, isQuick, quickText, otherText};
+ghost use Rattle.word_writer.specs.Written.{wordText, wordsText, behindText, matchedText, twoMore, plainYear, numbersOf, Small, isQuick, quickText, otherText, spelledName};
+ghost use Rattle.words.specs.Coding.{listIn, isSpelled};
 ghost use Rattle.words.specs.Fields as field;
 ghost use Rattle.words.specs.Pieces.{heldBytes, stepsOf};
 ghost use Rattle.meaning.specs.Prepared.{writeSteps, outputSteps};
@@ -35,8 +36,13 @@ use meaning::Refusal;
 use meaning::Wrote;
 use meaning::unit_sizes::SECS_PER_HOUR;
 use meaning::unit_sizes::SECS_PER_MINUTE;
+use names::letters::put_spelled;
+use names::rooms::OPENED;
 use words::coding::is_matched_name;
+use words::coding::is_spelled;
+use words::coding::is_weekday;
 use words::coding::list;
+use words::coding::most_letters;
 use words::coding::rule_in;
 use words::fields::code;
 use words::fields::count;
@@ -159,13 +165,38 @@ fn put_quick(w: u64, numbers: &[u32; 11], out: &mut [u8], at: usize) -> usize
     }
 }
 
-// A name that is matched: its list is taken from the word, and no rule is made of it.
+// The number of a record's name among those that are spelled.
+fn spelled_name(w: u64, f: Fields) -> usize
+    requires { ⌜ (fieldsCheck f ≡ Fine) × (isSpelled w ≡ true) ⌝ }
+    ensures { λ r. ⌜ r ≡ spelledName f w ⌝ }
+{
+    if is_weekday(w) {
+        return (f.wday + 12) as usize;
+    }
+    (f.month - 1) as usize
+}
+
+// The name of a word, which is matched: an English month or weekday by its letters, any other by its list.
+fn put_matched(book: &[u8], w: u64, f: Fields, out: &mut [u8], at: usize) -> usize
+    requires { ⌜ fieldsCheck f ≡ Fine ⌝ }
+    requires { ⌜ at + length (nameText (bookIn (now book)) (listIn (field.item w)) f) ≤ length (now out) ⌝ }
+    ensures { λ r. ⌜ Laid (now (out .entry)) (now (out .exit)) at r (nameText (bookIn (now (book .entry))) (listIn (field.item w)) f) ⌝ }
+{
+    if book.len() != OPENED {
+        if is_spelled(w) {
+            return put_spelled(spelled_name(w, f), most_letters(w), out, at);
+        }
+    }
+    put_name_of(book, list(w), f, out, at)
+}
+
+// A name that is matched, and the byte behind it: no rule is made of it.
 fn put_name(book: &[u8], w: u64, f: Fields, out: &mut [u8], at: usize) -> usize
     requires { ⌜ fieldsCheck f ≡ Fine ⌝ }
     requires { ⌜ at + length (matchedText (now book) f w) ≤ length (now out) ⌝ }
     ensures { λ r. ⌜ Laid (now (out .entry)) (now (out .exit)) at r (matchedText (now (book .entry)) f w) ⌝ }
 {
-    let next = put_name_of(book, list(w), f, out, at);
+    let next = put_matched(book, w, f, out, at);
     put_behind(w, out, next)
 }
 
