@@ -2,6 +2,7 @@
 // the one measurer over them.
 pub mod constants;
 pub mod lengths;
+pub mod letters;
 pub mod matching;
 pub mod rooms;
 pub mod rows;

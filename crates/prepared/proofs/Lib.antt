@@ -1,10 +1,6 @@
-pub mod Answers
 pub mod AsThePattern
-pub mod Bounds
-pub mod Held
 pub mod NarrowCells
 pub mod PatternRefusals
 pub mod PreparedStands
 pub mod RowKinds
 pub mod RowParts
-pub mod Texts

@@ -1,3 +1,2 @@
 pub mod OpenedRows
 pub mod Parts
-pub mod Sums

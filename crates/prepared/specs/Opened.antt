@@ -6,8 +6,7 @@ use lib.ListN.{take}
 use Rattle.meaning.specs.Bytes.{when, both}
 use Rattle.prepared.specs.declared.opening.Opened.{Opened}
 use Rattle.prepared.specs.declared.opening.Opened.the-variants.{Nothing, Refused, Words}
-use Rattle.words.specs.Pieces.{mostOf}
-use Rattle.words.specs.Rows.{isAccepted, isRefused, refusalIn, refusalOf, used, found, heldFrom, checkWord, tail, stepWords, heldWords, xorFrom}
+use Rattle.words.specs.Rows.{isAccepted, isRefused, refusalIn, refusalOf, used, found, heldFrom, checkWord, tail, heldWords, xorFrom}
 
 -- of a pattern that was refused, by what its mark adds
 abbrev pub refusedBy : ℕ → List ℕ → Opened
@@ -15,14 +14,14 @@ refusedBy n row =
     when (both (leb 1025 n) (both (leb n 1027) (both (ltb (found row) 9223372036854775808) (eqb (found row) (checkWord row)))))
     (Refused (refusalOf n (found row))) Nothing
 
--- of an accepted one with so many words of steps, and the bytes that they write at most
+-- of an accepted one with so many words of steps
 abbrev pub acceptedBy : ℕ → List ℕ → Opened
 acceptedBy n row =
     when (both (leb (heldFrom row) 256) (eqb (xorFrom (xorFrom (found row) (take n (tail row))) (heldWords row)) (checkWord row)))
-    (Words n (mostOf (take n (tail row)))) Nothing
+    (Words n) Nothing
 
 -- no prepared pattern; one that is refused; or its words
 unfoldable pub opened : List ℕ → Opened
-unfolding mostOf xorFrom
+unfolding xorFrom
 opened row =
-    when (isAccepted row) (Words (used row) (mostOf (stepWords row))) (when (isRefused row) (Refused (refusalIn row)) Nothing)
+    when (isAccepted row) (Words (used row)) (when (isRefused row) (Refused (refusalIn row)) Nothing)

@@ -35,6 +35,6 @@ pub fn check(edition: Edition, row: &[u64], year: i32, answer: &mut [i64]) -> u3
     match open(row) {
         Opened::Nothing => 105,
         Opened::Refused(why) => give_refusal(why, 10, answer),
-        Opened::Words { used: _, most: _ } => check_in_year(edition, row, year, answer),
+        Opened::Words { used: _ } => check_in_year(edition, row, year, answer),
     }
 }

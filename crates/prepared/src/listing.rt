@@ -13,7 +13,6 @@ ghost use Rattle.words.specs.Pieces.{stepsOf};
 ghost use Rattle.meaning.specs.Prepared.{listRowsSteps, listStepsCheck, narrow, readLinesSteps, readListSteps};
 use crate::opening::Opened;
 use crate::opening::open;
-use crate::reading::read_words;
 use fields::checks::current_year_check;
 use fields::checks::or_else;
 use lists::cells::rows_check;
@@ -26,6 +25,7 @@ use meaning::ParseUnit;
 use reader::record::unit_number;
 use rows::answers::give_count;
 use rows::answers::give_refusal;
+use word_reader::reading::read_words;
 
 // A value that 32 bits hold; 0 where they do not.
 fn short_value(n: i64) -> i32
@@ -139,7 +139,7 @@ pub fn read_list(
     match open(row) {
         Opened::Nothing => 105,
         Opened::Refused(why) => give_refusal(why, 2, answer),
-        Opened::Words { used, most: _ } => list_in_year(
+        Opened::Words { used } => list_in_year(
             choices,
             book,
             &row[3..259],

@@ -3,50 +3,17 @@ ghost use mathlib.Core.Path.{_≡_};
 ghost use Prim.Native.Nat.{_≤_};
 ghost use lib.ListN.{length};
 ghost use Rattle.prepared.specs.Opened.{opened, refusedBy, acceptedBy};
-ghost use Rattle.words.specs.Pieces.{mostBytes, mostOf};
-ghost use Rattle.words.specs.Rows.{refusalOf, xorFrom};
+ghost use Rattle.words.specs.Rows.{refusalOf};
 use meaning::Refusal;
 use words::checking::check_word;
-use words::fields::code;
-use words::fields::count;
 
 // What the mark adds to: "Sheet" and three zero bytes, read as one number.
 pub const TAG: u64 = 6010165189138186240;
 
-// The words of steps, and the bytes that they write at most.
 pub enum Opened {
     Nothing,
     Refused(Refusal),
-    Words { used: usize, most: usize },
-}
-
-struct Summed {
-    most: usize,
-    check: u64,
-}
-
-fn most_bytes(w: u64) -> usize
-    ensures { λ r. ⌜ r ≡ mostBytes w ⌝ }
-{
-    let bytes = code(w) as usize;
-    if 29 <= bytes { bytes + count(w) } else { bytes }
-}
-
-// One pass over the words of steps: the bytes that they write at most, and all of them by exclusive or.
-fn totals(from: u64, words: &[u64]) -> Summed
-    requires { ⌜ length (now words) ≤ 256 ⌝ }
-    ensures { λ r. ⌜ (r .most ≡ mostOf (now (words .entry))) × (r .check ≡ xorFrom from (now (words .entry))) ⌝ }
-{
-    let mut most: usize = 0;
-    let mut check = from;
-    let mut i = 0;
-    while i < words.len() {
-        let w = words[i];
-        most += most_bytes(w);
-        check = check ^ w;
-        i += 1;
-    }
-    Summed { most, check }
+    Words { used: usize },
 }
 
 // The refusal of a pattern that was refused, by its mark and its detail.
@@ -94,16 +61,13 @@ fn accepted(used: usize, row: &[u64]) -> Opened
         return Opened::Nothing;
     }
     let end = 3 + used;
-    let sums = totals(found, &row[3..end]);
+    let sums = check_word(found, &row[3..end]);
     let start = 3 + from;
-    let check = check_word(sums.check, &row[start..259]);
+    let check = check_word(sums, &row[start..259]);
     if check != row[1] {
         return Opened::Nothing;
     }
-    Opened::Words {
-        used,
-        most: sums.most,
-    }
+    Opened::Words { used }
 }
 
 pub fn open(row: &[u64]) -> Opened

@@ -9,11 +9,11 @@ ghost use Rattle.words.specs.Pieces.{stepsOf};
 ghost use Rattle.meaning.specs.Prepared.{readSteps};
 use crate::opening::Opened;
 use crate::opening::open;
-use crate::reading::read_words;
 use fields::checks::current_year_check;
 use meaning::Checked;
 use meaning::Choices;
 use rows::answers::give_refusal;
+use word_reader::reading::read_words;
 
 // By words, 14 first.
 fn read_in_year(
@@ -50,7 +50,7 @@ pub fn read(
     match open(row) {
         Opened::Nothing => 105,
         Opened::Refused(why) => give_refusal(why, 48, answer),
-        Opened::Words { used, most: _ } => read_in_year(
+        Opened::Words { used } => read_in_year(
             choices,
             book,
             &row[3..259],

@@ -5,3 +5,4 @@ pub mod PartWords
 pub mod PackedParts
 pub mod PackedRoom
 pub mod PackedWords
+pub mod SpelledWords

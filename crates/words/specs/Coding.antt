@@ -1,7 +1,8 @@
 -- Request [11]: the rule that a word holds. Every number stands for one, so that every word has a rule.
+use mathlib.Core.Bool.{Bool, true}
 use Prim.Native.Nat.{ℕ}
 use lib.Dec.{eqb}
-use Rattle.meaning.specs.Bytes.{when}
+use Rattle.meaning.specs.Bytes.{when, both}
 use Rattle.meaning.specs.declared.Group.{Group}
 use Rattle.meaning.specs.declared.Group.the-variants.{Never, NotZero, Always}
 use Rattle.meaning.specs.declared.NameList.{NameList}
@@ -91,3 +92,20 @@ ruleOfKind k w =
 
 abbrev pub ruleIn : ℕ → Rule
 ruleIn w = ruleOfKind (kind w) w
+
+-- whether the rule is that of a name that is matched by its letters: of the months, abbreviated or wide, or of the wide weekdays
+abbrev pub isSpelledList : ℕ → Bool
+isSpelledList n = when (eqb n 4) true (when (eqb n 5) true (eqb n 8))
+
+abbrev pub isSpelled : ℕ → Bool
+isSpelled w = both (eqb (kind w) 4) (isSpelledList (item w))
+
+abbrev pub isWeekday : ℕ → Bool
+isWeekday w = eqb (item w) 8
+
+-- the number of the first of its names, and how many letters they have at most
+abbrev pub firstSpelled : ℕ → ℕ
+firstSpelled w = when (isWeekday w) 12 0
+
+abbrev pub mostLetters : ℕ → ℕ
+mostLetters w = when (eqb (item w) 4) 3 9

@@ -136,6 +136,40 @@ pub fn is_matched_name(w: u64) -> bool
     w / 32 % 16 == 4
 }
 
+fn is_spelled_list(n: u64) -> bool
+    ensures { λ r. ⌜ r ≡ coding.isSpelledList n ⌝ }
+{
+    if n == 4 {
+        return true;
+    }
+    if n == 5 {
+        return true;
+    }
+    n == 8
+}
+
+// Whether the name is matched by its letters, whether it is one of a weekday, and how many letters it has at most.
+pub fn is_spelled(w: u64) -> bool
+    ensures { λ r. ⌜ r ≡ coding.isSpelled w ⌝ }
+{
+    if is_matched_name(w) {
+        return is_spelled_list(w / 512 % 32);
+    }
+    false
+}
+
+pub fn is_weekday(w: u64) -> bool
+    ensures { λ r. ⌜ r ≡ coding.isWeekday w ⌝ }
+{
+    w / 512 % 32 == 8
+}
+
+pub fn most_letters(w: u64) -> usize
+    ensures { λ r. ⌜ r ≡ coding.mostLetters w ⌝ }
+{
+    if w / 512 % 32 == 4 { 3 } else { 9 }
+}
+
 pub fn rule_in(w: u64) -> Rule
     ensures { λ r. ⌜ r ≡ coding.ruleIn w ⌝ }
 {

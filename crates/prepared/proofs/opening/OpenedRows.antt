@@ -1,8 +1,8 @@
 -- What it says of a row that it is opened as nothing, as refused, or as words.
 use mathlib.Core.Bool.{Bool, true, false}
 use mathlib.Core.List.{List}
-use mathlib.Core.Path.{_≡_, refl, sym, _∙_}
-use Prim.Native.Nat.{ℕ, _+_, _≤_, _<_}
+use mathlib.Core.Path.{_≡_, refl}
+use Prim.Native.Nat.{ℕ, _≤_, _<_}
 use native.Mathlib.Omega.{arith}
 use borrow.Author.Tests.{leb-true, ltb-true}
 use lib.Dec.{eqb, leb, ltb}
@@ -12,37 +12,33 @@ use lib.Seq.{length-take-le}
 use Rattle.laws.proofs.Tests.{both-true, when-is}
 use Rattle.meaning.specs.Answers.{Answer, details}
 use Rattle.meaning.specs.Bytes.{when}
-use Rattle.meaning.specs.declared.Checked.{Checked}
 use Rattle.meaning.specs.declared.Checked.the-variants as checked
 use Rattle.meaning.specs.declared.Refusal.{Refusal}
-use Rattle.meaning.specs.declared.Refusal.the-variants.{PatternTooLong, PatternByte, LoneQuote}
 use Rattle.rows.specs.Fits.{WhyFits}
 use Rattle.rows.specs.Rows.{Given}
-use Rattle.words.specs.Pieces.{mostOf}
-use Rattle.words.specs.Rows.{isAccepted, isRefused, refusalOf, refusalIn, checkedIn, tag, mark, used, found, tail, stepWords}
+use Rattle.words.specs.Rows.{isAccepted, isRefused, refusalOf, refusalIn, checkedIn, tag, mark, used, found, tail}
 use Rattle.prepared.specs.Opened.{opened}
 use Rattle.prepared.specs.Stands.{isPrepared}
 use Rattle.prepared.specs.Uses.{ifPrepared}
-use Rattle.prepared.specs.declared.opening.Opened.{Opened}
 use Rattle.prepared.specs.declared.opening.Opened.the-variants.{Nothing, Refused, Words}
 
 never : {A : Type 0} → _≡_ {A = ℕ} 0 1 → A
 never z = absurd (omega (arith, z))
 
-module _ (n m : ℕ) (why : Refusal) where
-  nothing-of : (a b : Bool) → Nothing ≡ when a (Words n m) (when b (Refused why) Nothing) → when a true b ≡ false
+module _ (n : ℕ) (why : Refusal) where
+  nothing-of : (a b : Bool) → Nothing ≡ when a (Words n) (when b (Refused why) Nothing) → when a true b ≡ false
   nothing-of true b h = never (cc)
   nothing-of false true h = never (cc)
   nothing-of false false h = refl
 
-  refused-of : (a b : Bool) {x : Refusal} → Refused x ≡ when a (Words n m) (when b (Refused why) Nothing)
+  refused-of : (a b : Bool) {x : Refusal} → Refused x ≡ when a (Words n) (when b (Refused why) Nothing)
       → (when a true b ≡ true) × (when a checked.Fine (checked.Refused why) ≡ checked.Refused x) × (b ≡ true) × (x ≡ why)
   refused-of true b h = never (cc)
   refused-of false true {x} h = let e : x ≡ why = cc in (refl, rw e, refl, e)
   refused-of false false h = never (cc)
 
-  words-of : (a b : Bool) {k l : ℕ} → Words k l ≡ when a (Words n m) (when b (Refused why) Nothing) → (a ≡ true) × (k ≡ n) × (l ≡ m)
-  words-of true b h = (refl, cc, cc)
+  words-of : (a b : Bool) {k : ℕ} → Words k ≡ when a (Words n) (when b (Refused why) Nothing) → (a ≡ true) × (k ≡ n)
+  words-of true b h = (refl, cc)
   words-of false true h = never (cc)
   words-of false false h = never (cc)
 
@@ -57,23 +53,22 @@ pub record OpenedRefused (row : List ℕ) (why : Refusal) : Type 0 where
   pub checks : checkedIn row ≡ checked.Refused why
   pub fits : WhyFits why
 
-pub record OpenedWords (row : List ℕ) (n most : ℕ) : Type 0 where
+pub record OpenedWords (row : List ℕ) (n : ℕ) : Type 0 where
   pub prepared : isPrepared row ≡ true
   pub checks : checkedIn row ≡ checked.Fine
   pub long : 259 ≤ length row
   pub few : n ≤ 256
   pub uses : n ≡ used row
-  pub bytes : most ≡ mostOf (stepWords row)
 
 module _ (row : List ℕ) where
   pub opened-nothing : Nothing ≡ opened row → isPrepared row ≡ false
   unfolding opened
-  opened-nothing h = nothing-of (used row) (mostOf (stepWords row)) (refusalIn row) (isAccepted row) (isRefused row) h
+  opened-nothing h = nothing-of (used row) (refusalIn row) (isAccepted row) (isRefused row) h
 
   pub opened-refusal : {why : Refusal} → Refused why ≡ opened row → OpenedRefused row why
   unfolding opened
   opened-refusal h =
-      let o = refused-of (used row) (mostOf (stepWords row)) (refusalIn row) (isAccepted row) (isRefused row) h in
+      let o = refused-of (used row) (refusalIn row) (isAccepted row) (isRefused row) h in
       let a = both-true (leb 259 (length row)) _ (o .2) in
       let b = both-true (leb tag (mark row)) _ (a .1) in
       let d = both-true (leb 1025 (used row)) _ (b .1) in
@@ -81,10 +76,10 @@ module _ (row : List ℕ) where
       let t = both-true (ltb (found row) 9223372036854775808) _ (e .1) in
       record { prepared = o .0; checks = o .1; fits = rw (o .3) (refusal-fits (used row) (found row) (ltb-true (found row) 9223372036854775808 (t .0))) }
 
-  pub opened-words : {n most : ℕ} → Words n most ≡ opened row → OpenedWords row n most
+  pub opened-words : {n : ℕ} → Words n ≡ opened row → OpenedWords row n
   unfolding opened
   opened-words h =
-      let o = words-of (used row) (mostOf (stepWords row)) (refusalIn row) (isAccepted row) (isRefused row) h in
+      let o = words-of (used row) (refusalIn row) (isAccepted row) (isRefused row) h in
       let a = both-true (leb 259 (length row)) _ (o .0) in
       let b = both-true (leb tag (mark row)) _ (a .1) in
       let few = both-true (leb (used row) 256) _ (b .1) .0 in
@@ -94,7 +89,6 @@ module _ (row : List ℕ) where
         long = leb-true 259 (length row) (a .0);
         few = omega (arith, o .1, leb-true (used row) 256 few);
         uses = o .1;
-        bytes = o .2;
       }
 
 -- the answer that is given then

@@ -1,7 +1,6 @@
 -- The answer to a write by words fits a row: no word writes more than 542 bytes.
-use mathlib.Core.List.{List, [], _∷_}
-use mathlib.Core.Path.{_≡_}
-use Prim.Native.Nat.{ℕ, _*_, _≤_}
+use mathlib.Core.List.{List}
+use Prim.Native.Nat.{ℕ, _≤_}
 use native.Mathlib.Omega.{arith}
 use borrow.Author.Tests.{leb-true}
 use lib.Dec.{leb}
@@ -16,15 +15,9 @@ use Rattle.meaning.specs.declared.Refusal.the-variants.{NoRoom}
 use Rattle.rows.proofs.WriteFits.{fields-fit, wrote-fits}
 use Rattle.rows.proofs.entries.Fits.{else-fits, unless-fits}
 use Rattle.rows.specs.Fits.{NumberFits, CheckedFits, WroteFits}
-use Rattle.words.specs.Pieces.{mostOf, stepsOf}
+use Rattle.words.specs.Pieces.{stepsOf}
 use Rattle.meaning.specs.Prepared.{writeStepsCheck, writeSteps}
-use Rattle.prepared.proofs.Bounds.{words-fit}
-use Rattle.prepared.proofs.opening.Sums.{most-small}
-
-most-all : (ws : List ℕ) → mostOf ws ≤ 542 * length ws
-unfolding mostOf
-most-all [] = omega arith
-most-all (w ∷ ws) = omega (arith, most-small w, most-all ws)
+use Rattle.word_writer.proofs.Bounds.{words-fit, most-all}
 
 module _ (book tail ws : List ℕ) (f : Fields) (out : List ℕ) (few : length ws ≤ 256) where
   check-fits : CheckedFits (writeStepsCheck Fine (bookIn book) (stepsOf tail ws) f (length out))

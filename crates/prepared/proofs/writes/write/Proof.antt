@@ -42,7 +42,7 @@ write-words-requires : tie.Need-write-words-requires
 write-words-requires c κs =
     let row = now (c .before .before .before .before .before .before .before .before .before .args .row) in
     let o = opened-words row (sym (c .before .before .before .used .given .1) ∙ c .before .before .before .before .before .«open» .ensures) in
-    (omega (arith, o .few, tail-length row (o .long)), rw (o .uses) (o .bytes))
+    (omega (arith, o .few, tail-length row (o .long)), omega (arith, o .few))
 
 give-wrote-requires : tie.Need-give-wrote-requires
 give-wrote-requires c κs =
