@@ -1,4 +1,6 @@
 // Request [8], name books: a book's bytes opened into a lent row, and the book that a lent row holds written as bytes of version 1.
+#![tactic(auto)]
+
 pub mod english;
 pub mod laying;
 pub mod names;

@@ -1,4 +1,6 @@
 // Request [2], the calendar: the day of a number, and the number of a day. Proleptic Gregorian; 0 is 1 January of year 1.
+#![tactic(auto)]
+
 ghost use Rattle.meaning.specs.Days.{DayOf};
 ghost use Rattle.meaning.specs.Promises.{NumbersDay};
 

@@ -1,4 +1,6 @@
 // Column Writes: everything that a step writes, from its leaves to the step, and how long it is.
+#![tactic(auto)]
+
 pub mod lengths;
 pub mod literals;
 pub mod rule;

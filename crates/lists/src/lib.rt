@@ -1,5 +1,7 @@
 // A whole list at once: a text of lines, each read by itself with one pattern, into four lent rows. The checks 1, 2, 3, 14 and 24 stand
 // before anything is stored.
+#![tactic(auto)]
+
 pub mod cells;
 pub mod counting;
 pub mod line;

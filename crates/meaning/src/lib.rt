@@ -1,4 +1,6 @@
 // The types of the specification, which every crate shares. What they mean is defined in specs/.
+#![tactic(auto)]
+
 pub mod unit_sizes;
 
 // "The field record and the numbers": the eight fields, in its order.

@@ -1,5 +1,7 @@
 // Request [12], mend this pattern: a pattern that the check says yes to, with the list of what was altered; and the altered
 // undone again.
+#![tactic(auto)]
+
 pub mod listing;
 pub mod parts;
 pub mod undoing;

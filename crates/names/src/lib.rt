@@ -1,5 +1,7 @@
 // The names: the English ones as constant byte rows, those of an opened book as they are lent, and the one writer, the one matcher and
 // the one measurer over them.
+#![tactic(auto)]
+
 pub mod constants;
 pub mod lengths;
 pub mod letters;

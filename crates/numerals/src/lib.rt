@@ -1,4 +1,6 @@
 // Numbers in: the test of a digit, the one number reader, how far a greedy number goes, digits at known places.
+#![tactic(auto)]
+
 pub mod extents;
 pub mod pairs;
 

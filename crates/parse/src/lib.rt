@@ -1,4 +1,6 @@
 // Column Reads: everything that a part reads, from the cursor to the step.
+#![tactic(auto)]
+
 pub mod cursor;
 pub mod literals;
 pub mod named;

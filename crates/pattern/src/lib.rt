@@ -1,4 +1,6 @@
 // "Splitting": a pattern part by part, its refusals 1, 2 and 3, and all its parts at once.
+#![tactic(auto)]
+
 pub mod checks;
 pub mod parts;
 pub mod quoted;

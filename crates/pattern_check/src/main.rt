@@ -1,6 +1,8 @@
 // The program of the specification: it prints one line for a pattern on standard input, up to the first newline, in the current year
 // 2025: `yes`, `no P` with P the part, or `refused N`. What keeps it from doing so is told on standard error, and then it
 // prints nothing.
+#![tactic(auto)]
+
 mod input;
 mod line;
 

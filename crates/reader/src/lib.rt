@@ -1,5 +1,7 @@
 // Reading a text by a pattern: the public reader, with the checks 1, 2, 3, 14, 6, 7 in that order and then the walk over the
 // parts.
+#![tactic(auto)]
+
 pub mod checks;
 pub mod date;
 pub mod offset;

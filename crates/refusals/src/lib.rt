@@ -1,4 +1,6 @@
 // "Answer numbers" of the specification: a refusal's number and what it returns.
+#![tactic(auto)]
+
 ghost use Rattle.std.specs.Prelude.{◌≡◌};
 ghost use Rattle.meaning.specs.Answers.{trouble_number};
 ghost use Rattle.refusals.specs.Told.{told, unsigned, one_detail};

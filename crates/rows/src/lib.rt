@@ -1,4 +1,6 @@
 // Answers as rows of numbers: each is laid over the start of a lent row, and its number is returned.
+#![tactic(auto)]
+
 pub mod answers;
 pub mod changes;
 pub mod days;

@@ -1,4 +1,6 @@
 // The table of symbols in code: from a byte and its count to what it does. Writer, reader and check share it.
+#![tactic(auto)]
+
 pub mod date;
 pub mod numbers;
 pub mod short;

@@ -1,5 +1,7 @@
 // The functions for C and Rust. Each that is lent a row returns 0 where it accepts and the specification's number where it refuses, and
 // lays its answer over the row's start. Where the row is too small for the answer it returns 100 and alters nothing.
+#![tactic(auto)]
+
 pub mod listed;
 pub mod mends;
 pub mod named;

@@ -1,4 +1,6 @@
 // RFC 3339 stamps: the public reader and the public writer.
+#![tactic(auto)]
+
 pub mod checks;
 pub mod grammar;
 pub mod reading;

@@ -1,6 +1,8 @@
 // Demand 3: how the check decides which parts come back, in specs/, and that it is right, in proofs/. No code but these types.
 // What a part needs of the text behind it: nothing; no digit as the next byte; no digit as the next byte but one. A broken
 // part does not come back whatever follows, nor does one that loses digits of the year.
+#![tactic(auto)]
+
 
 #[derive(Drop)]
 pub enum Need {

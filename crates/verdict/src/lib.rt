@@ -1,5 +1,7 @@
 // Demand 3, the pattern check: whether every part comes back for every record of a real day, or the first that does not, with
 // such a record that shows it.
+#![tactic(auto)]
+
 pub mod lookahead;
 pub mod needs;
 

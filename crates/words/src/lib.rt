@@ -1,4 +1,6 @@
 // The words of a prepared pattern: each stands for the steps of a part or of some parts that follow one another, with their rules chosen.
+#![tactic(auto)]
+
 pub mod checking;
 pub mod coding;
 pub mod fields;

@@ -1,4 +1,6 @@
 // The public writer: the checks 1, 2, 3, 4, 5 in that order, then the text.
+#![tactic(auto)]
+
 pub mod date;
 pub mod walk;
 
