@@ -4,7 +4,7 @@ ghost use Rattle.books.specs.Places.{names_by, shelved_by};
 ghost use Rattle.meaning.specs.Books.{names_in};
 ghost use Rattle.meaning.specs.OpenedBooks.{names_at};
 
-#[derive(Drop)]
+#[derive(Clone, Copy)]
 pub enum Found {
     // The bytes end before the names do.
     Cut,

@@ -8,7 +8,7 @@ use crate::names::{all_letters, are_apart, name_at};
 use meaning::{Checked, Refusal};
 
 // A list: how many names, how many letters each has, and whether no name may begin another.
-#[derive(Drop)]
+#[derive(Clone, Copy)]
 pub struct Shelf {
     pub count: usize,
     pub least: usize,

@@ -22,7 +22,7 @@ pub fn year_length(leap: bool) -> u32
 }
 
 // A year, by how many stand before it, whether it is leap, and how many days of it are past.
-#[derive(Drop)]
+#[derive(Clone, Copy)]
 pub struct YearDay {
     pub place: u32,
     pub leap: bool,

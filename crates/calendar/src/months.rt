@@ -42,7 +42,7 @@ fn stretched(leap: bool, past: u32) -> u32
     past + lost
 }
 
-#[derive(Drop)]
+#[derive(Clone, Copy)]
 pub struct MonthDay {
     pub month: u32,
     pub day: u32,

@@ -10,7 +10,7 @@ use crate::months::{days_of, length_of};
 use meaning::{Checked, DayNumber, Refusal};
 
 // Where a year is on the line, if there is such a year.
-#[derive(Drop)]
+#[derive(Clone, Copy)]
 pub enum Place {
     Nowhere,
     At(u32),

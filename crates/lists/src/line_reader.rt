@@ -7,7 +7,7 @@ ghost use Rattle.meaning.specs.Promises.{ReadsLine};
 use crate::line::read_line;
 use meaning::{Choices, LineRead};
 
-#[derive(Drop)]
+#[derive(Clone, Copy)]
 pub struct LineReader<'a> {
     pub text: &'a [u8],
     pub at: usize,

@@ -4,7 +4,7 @@
 pub mod unit_sizes;
 
 // "The field record and the numbers": the eight fields, in its order.
-#[derive(Drop)]
+#[derive(Clone, Copy)]
 pub struct Fields {
     pub year: i32,
     pub month: u32,
@@ -17,14 +17,14 @@ pub struct Fields {
 }
 
 // "What is carried over": the full pair of writer and reader, or the Date pair, in which time symbols are literals.
-#[derive(Drop)]
+#[derive(Clone, Copy)]
 pub enum Pair {
     Full,
     Date,
 }
 
 // How a single M is read, and which year two digits stand for: as old sheets have it, or as terminals agreed since.
-#[derive(Drop)]
+#[derive(Clone, Copy)]
 pub enum Edition {
     First,
     Second,
@@ -32,7 +32,7 @@ pub enum Edition {
 
 // What a reading is asked for, beside its pattern and text: the pair; whether it is strict: then literals are compared and
 // nothing may be left over; and the edition.
-#[derive(Drop)]
+#[derive(Clone, Copy)]
 pub struct Choices {
     pub pair: Pair,
     pub strict: bool,
@@ -40,7 +40,7 @@ pub struct Choices {
 }
 
 // "Splitting": a run of equal bytes, escaped quotes, a quoted part, one that no quote closes.
-#[derive(Drop)]
+#[derive(Clone, Copy)]
 pub enum Kind {
     Run,
     Quotes,
@@ -49,7 +49,7 @@ pub enum Kind {
 }
 
 // A part of a pattern: where it starts and how many pattern bytes it has.
-#[derive(Drop)]
+#[derive(Clone, Copy)]
 pub struct Part {
     pub kind: Kind,
     pub start: usize,
@@ -57,7 +57,7 @@ pub struct Part {
 }
 
 // The answer of a split: the first `used` entries are the parts.
-#[derive(Drop)]
+#[derive(Clone, Copy)]
 pub struct Split {
     pub checked: Checked,
     pub parts: [Part; 256],
@@ -65,7 +65,7 @@ pub struct Split {
 }
 
 // What a number is of, in "What each symbol does".
-#[derive(Drop)]
+#[derive(Clone, Copy)]
 pub enum Quantity {
     Month,
     Quarter,
@@ -84,7 +84,7 @@ pub enum Quantity {
 }
 
 // The lists of names, each with its own way to choose the name that is written.
-#[derive(Drop)]
+#[derive(Clone, Copy)]
 pub enum NameList {
     EraAbbreviated,
     EraNarrow,
@@ -108,7 +108,7 @@ pub enum NameList {
 }
 
 // Whether a zone has a group of two digits: never, where it is not zero, always.
-#[derive(Drop)]
+#[derive(Clone, Copy)]
 pub enum Group {
     Never,
     NotZero,
@@ -116,7 +116,7 @@ pub enum Group {
 }
 
 // The units of a reading, in the order of the Rust's ParseUnit.
-#[derive(Drop)]
+#[derive(Clone, Copy)]
 pub enum ParseUnit {
     Year,
     Month,
@@ -136,7 +136,7 @@ pub enum ParseUnit {
 }
 
 // A row of the table in "What each symbol does": what is written, how it is read and what it carries.
-#[derive(Drop)]
+#[derive(Clone, Copy)]
 pub enum Rule {
     // A number, padded to `least` digits; read from `least` to `most` bytes, where `zero` gives 0.
     Number {
@@ -182,35 +182,35 @@ pub enum Rule {
 }
 
 // What a run of equal bytes does: it stands for itself, or it is a symbol.
-#[derive(Drop)]
+#[derive(Clone, Copy)]
 pub enum Role {
     Literal,
     Symbol(Rule),
 }
 
 // What a number read may be: a year has 32 signed bits and may have a minus, any other number has 32 unsigned bits.
-#[derive(Drop)]
+#[derive(Clone, Copy)]
 pub enum Numeral {
     Count,
     Year,
 }
 
 // What the first byte of a number says of its sign.
-#[derive(Drop)]
+#[derive(Clone, Copy)]
 pub enum Sign {
     Minus,
     Bare,
 }
 
 // The value that a part carries.
-#[derive(Drop)]
+#[derive(Clone, Copy)]
 pub enum Carried {
     Nothing,
     Value(ParseUnit, i64),
 }
 
 // Why a part can't be read: the refusals 8 to 11, 15 and 19.
-#[derive(Drop)]
+#[derive(Clone, Copy)]
 pub enum Trouble {
     TooFew,
     NoNumber,
@@ -221,7 +221,7 @@ pub enum Trouble {
 }
 
 // "Answer numbers": the refusals with what they return.
-#[derive(Drop)]
+#[derive(Clone, Copy)]
 pub enum Refusal {
     PatternTooLong(usize),
     PatternByte(usize),
@@ -255,14 +255,14 @@ pub enum Refusal {
 }
 
 // What checks find.
-#[derive(Drop)]
+#[derive(Clone, Copy)]
 pub enum Checked {
     Fine,
     Refused(Refusal),
 }
 
 // The answer of a writer: how many bytes it wrote.
-#[derive(Drop)]
+#[derive(Clone, Copy)]
 pub enum Wrote {
     Length(usize),
     Refused(Refusal),
@@ -270,7 +270,7 @@ pub enum Wrote {
 
 // The answer of a reader: the bytes read, the values by unit, the mask of the units read and how many they are; and by unit where
 // in the text the part that gave it began, and where it ended.
-#[derive(Drop)]
+#[derive(Clone, Copy)]
 pub struct Reading {
     pub checked: Checked,
     pub taken: usize,
@@ -282,7 +282,7 @@ pub struct Reading {
 }
 
 // The answer of a list: how many lines it has.
-#[derive(Drop)]
+#[derive(Clone, Copy)]
 pub enum Listed {
     Lines(usize),
     Refused(Refusal),
@@ -290,7 +290,7 @@ pub enum Listed {
 
 // The answer of the line reader: whether there is a line, where it starts and ends and the next one starts, and its own reading,
 // with places within the line.
-#[derive(Drop)]
+#[derive(Clone, Copy)]
 pub struct LineRead {
     pub there: bool,
     pub start: usize,
@@ -300,14 +300,14 @@ pub struct LineRead {
 }
 
 // The answer of parse_offset.
-#[derive(Drop)]
+#[derive(Clone, Copy)]
 pub enum Offset {
     Seconds(i32),
     Refused(Refusal),
 }
 
 // The answer of the pattern check: yes, or the first part that fails and a record for which it does.
-#[derive(Drop)]
+#[derive(Clone, Copy)]
 pub enum Verdict {
     Yes,
     No { part: usize, record: Fields },
@@ -315,7 +315,7 @@ pub enum Verdict {
 }
 
 // A day of the calendar, in the order of the field record.
-#[derive(Drop)]
+#[derive(Clone, Copy)]
 pub struct Day {
     pub year: i32,
     pub month: u32,
@@ -326,14 +326,14 @@ pub struct Day {
 }
 
 // The answer of day_number.
-#[derive(Drop)]
+#[derive(Clone, Copy)]
 pub enum DayNumber {
     Number(i32),
     Refused(Refusal),
 }
 
 // A change of a mending: at a place of the mended pattern a byte stands so often, where it stood so often before.
-#[derive(Drop)]
+#[derive(Clone, Copy)]
 pub struct Change {
     pub place: usize,
     pub byte: u8,
@@ -342,14 +342,14 @@ pub struct Change {
 }
 
 // A list of changes, in the order of their places: the first `used` entries.
-#[derive(Drop)]
+#[derive(Clone, Copy)]
 pub struct Changes {
     pub listed: [Change; 128],
     pub used: usize,
 }
 
 // The answer of a mending: how many bytes the mended pattern has, and what was changed.
-#[derive(Drop)]
+#[derive(Clone, Copy)]
 pub struct Mended {
     pub checked: Checked,
     pub length: usize,
@@ -357,7 +357,7 @@ pub struct Mended {
 }
 
 // The answer of an undoing: how many bytes the pattern has again, or that a change does not fit the pattern.
-#[derive(Drop)]
+#[derive(Clone, Copy)]
 pub enum Undone {
     Length(usize),
     Misfit,
@@ -365,7 +365,7 @@ pub enum Undone {
 }
 
 // A date-time of RFC 3339: the day, the nanoseconds of the day, the offset in seconds, and whether that one is unknown.
-#[derive(Drop)]
+#[derive(Clone, Copy)]
 pub struct Stamp {
     pub year: i32,
     pub month: u32,
@@ -376,7 +376,7 @@ pub struct Stamp {
 }
 
 // The answer of read_stamp.
-#[derive(Drop)]
+#[derive(Clone, Copy)]
 pub enum Stamped {
     Read(Stamp),
     Refused(Refusal),

@@ -5,7 +5,7 @@ ghost use Rattle.laws.specs.Laid.{Laid};
 ghost use Rattle.names.specs.Letters.{bytes_of, number_of, spelled_by, name_numbered, Begun};
 
 // Behind its length a name is filled up with `_`.
-#[derive(Drop)]
+#[derive(Clone, Copy)]
 pub struct Spelling {
     pub first: u64,
     pub length: usize,
@@ -13,7 +13,7 @@ pub struct Spelling {
 }
 
 // A name and how many of its letters begin a text; 0 where it does not.
-#[derive(Drop)]
+#[derive(Clone, Copy)]
 pub struct Spelled {
     pub name: usize,
     pub length: usize,

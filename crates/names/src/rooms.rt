@@ -7,7 +7,7 @@ ghost use Rattle.names.specs.Table.{InBook};
 pub const OPENED: usize = 1344;
 
 // Where a list begins, how many names it has, and how many letters they have at most.
-#[derive(Drop)]
+#[derive(Clone, Copy)]
 pub struct Rooms {
     pub from: usize,
     pub count: usize,

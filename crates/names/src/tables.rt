@@ -10,7 +10,7 @@ ghost use Rattle.names.specs.Table.{name_in, found_in};
 const ROOM: usize = 21;
 
 // The name that begins a text, or none.
-#[derive(Drop)]
+#[derive(Clone, Copy)]
 pub enum Found {
     Name { index: usize, length: usize },
     Nothing,

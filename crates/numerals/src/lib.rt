@@ -14,7 +14,7 @@ use meaning::{Numeral, Sign};
 
 // What a number of so many bytes at the front of a text is: too few bytes (8), a plus in front (19), no number (9), or its sign
 // and size.
-#[derive(Drop)]
+#[derive(Clone, Copy)]
 pub enum Number {
     TooFew,
     PlusSign,

@@ -10,12 +10,12 @@ use meaning::{Carried, NameList, Numeral, Trouble};
 use names::tables::Found;
 use numerals::{Number, read_number};
 
-#[derive(Drop)]
+#[derive(Clone, Copy)]
 pub struct Cursor {
     pub at: usize,
 }
 
-#[derive(Drop)]
+#[derive(Clone, Copy)]
 pub enum Taken {
     Stopped {
         trouble: Trouble,
@@ -28,20 +28,20 @@ pub enum Taken {
     },
 }
 
-#[derive(Drop)]
+#[derive(Clone, Copy)]
 pub enum Skipped {
     Stopped { trouble: Trouble, place: usize },
     Past(Cursor),
 }
 
-#[derive(Drop)]
+#[derive(Clone, Copy)]
 pub enum Matched {
     Stopped { trouble: Trouble, place: usize },
     Name { index: usize, next: Cursor },
 }
 
 // What a part gives: the value that it carries.
-#[derive(Drop)]
+#[derive(Clone, Copy)]
 pub enum PartRead {
     Stopped { trouble: Trouble, place: usize },
     Got { carried: Carried, next: Cursor },

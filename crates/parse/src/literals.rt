@@ -8,7 +8,7 @@ use meaning::Role;
 use pattern::quoted::{bytes_of, unescaped_length};
 use rules::step::Step;
 
-#[derive(Drop)]
+#[derive(Clone, Copy)]
 pub enum Compared {
     Same,
     // The place of the first byte of the text that is another one.

@@ -9,7 +9,7 @@ use rules::numbers::most_read;
 use rules::short::{Short, is_short, short_most, short_quantity};
 
 // The number that they are, and the bytes that they take.
-#[derive(Drop)]
+#[derive(Clone, Copy)]
 pub struct Digits {
     pub size: u32,
     pub taken: usize,

@@ -11,7 +11,7 @@ use meaning::unit_sizes::{SECS_PER_HOUR_U64, SECS_PER_MINUTE_U64};
 use meaning::{Carried, Group, Numeral, ParseUnit, Trouble};
 use numerals::{integer_of, is_digit};
 
-#[derive(Drop)]
+#[derive(Clone, Copy)]
 pub enum SignRead {
     Stopped { trouble: Trouble, place: usize },
     Utc(Cursor),
@@ -19,7 +19,7 @@ pub enum SignRead {
     BehindUtc(Cursor),
 }
 
-#[derive(Drop)]
+#[derive(Clone, Copy)]
 pub enum Counted {
     Stopped { trouble: Trouble, place: usize },
     Number { size: u32, next: Cursor },

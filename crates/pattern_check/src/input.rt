@@ -5,7 +5,7 @@ ghost use Rattle.pattern_check.specs.Input.{HeldIn, HeldWithin};
 use libc::STDIN_FILENO;
 
 // How many bytes of the row are held, or that they could not be read.
-#[derive(Drop)]
+#[derive(Clone, Copy)]
 pub enum Input {
     Held(usize),
     Unreadable,

@@ -9,7 +9,7 @@ use words::checking::check_word;
 // What the mark adds to: "Sheet" and three zero bytes, read as one number.
 pub const TAG: u64 = 6010165189138186240;
 
-#[derive(Drop)]
+#[derive(Clone, Copy)]
 pub enum Opened {
     Nothing,
     Refused(Refusal),

@@ -89,7 +89,7 @@ pub fn prepare(pair: Pair, pattern: &[u8], row: &mut [u64]) -> Checked
 }
 
 // The same by value.
-#[derive(Drop)]
+#[derive(Clone, Copy)]
 pub struct Prepared {
     pub row: [u64; 259],
 }

@@ -8,14 +8,14 @@ ghost use Rattle.refusals.specs.Told.{told, unsigned, one_detail};
 use fields::signed::{is_negative, size};
 use meaning::{Refusal, Trouble};
 
-#[derive(Drop)]
+#[derive(Clone, Copy)]
 pub struct Detail {
     pub negative: bool,
     pub size: u64,
 }
 
 // A refusal's number and one or two details.
-#[derive(Drop)]
+#[derive(Clone, Copy)]
 pub struct Told {
     pub number: u32,
     pub first: Detail,

@@ -6,7 +6,7 @@ use crate::numbers::number;
 use meaning::{Pair, ParseUnit, Quantity, Rule};
 
 // M, d, H, m and s, or any other symbol.
-#[derive(Drop)]
+#[derive(Clone, Copy)]
 pub enum Short {
     Month,
     Day,

@@ -8,7 +8,7 @@ use crate::role_of;
 use crate::short::{Short, is_short, short_of};
 use meaning::{Kind, Pair, Part, Role};
 
-#[derive(Drop)]
+#[derive(Clone, Copy)]
 pub enum Step {
     // A byte that stands for itself, so many times.
     Times { byte: u8, count: usize },

@@ -11,34 +11,34 @@ use numerals::is_digit;
 use numerals::pairs::{digit_value, pair_at};
 
 // The nanoseconds of a fraction, and the place behind it.
-#[derive(Drop)]
+#[derive(Clone, Copy)]
 pub struct Digits {
     pub nanos: u32,
     pub next: usize,
 }
 
-#[derive(Drop)]
+#[derive(Clone, Copy)]
 pub enum Fraction {
     Halted(usize),
     Nanos(u32, usize),
 }
 
 // What is behind the sign of an offset, and whether that is a minus.
-#[derive(Drop)]
+#[derive(Clone, Copy)]
 pub struct Shift {
     pub negative: bool,
     pub hour: u32,
     pub minute: u32,
 }
 
-#[derive(Drop)]
+#[derive(Clone, Copy)]
 pub enum Zone {
     Halted(usize),
     Shifted(Shift, usize),
 }
 
 // What a date-time says.
-#[derive(Drop)]
+#[derive(Clone, Copy)]
 pub struct Parts {
     pub year: u32,
     pub month: u32,
@@ -50,7 +50,7 @@ pub struct Parts {
     pub shift: Shift,
 }
 
-#[derive(Drop)]
+#[derive(Clone, Copy)]
 pub enum Scanned {
     Halted(usize),
     Read(Parts),

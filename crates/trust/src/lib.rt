@@ -4,7 +4,7 @@
 #![tactic(auto)]
 
 
-#[derive(Drop)]
+#[derive(Clone, Copy)]
 pub enum Need {
     Nothing,
     NoDigit,
@@ -14,14 +14,14 @@ pub enum Need {
 }
 
 // The first of some parts whose need is not met, counted from 0, and that need; or none of them.
-#[derive(Drop)]
+#[derive(Clone, Copy)]
 pub enum Unmet {
     Nowhere,
     At { part: usize, need: Need },
 }
 
 // How the names of a list begin: with a digit; with a letter, which is all; with two bytes that are no digits.
-#[derive(Drop)]
+#[derive(Clone, Copy)]
 pub enum Opening {
     Digit,
     OneLetter,

@@ -9,7 +9,7 @@ use reader::record::unit_number;
 use words::fields::last_byte;
 
 // The next place, and the mask of the units read.
-#[derive(Drop)]
+#[derive(Clone, Copy)]
 pub struct Moved {
     pub next: usize,
     pub mask: u16,

@@ -196,7 +196,7 @@ fn all_below(a: u32, b: u32, c: u32) -> bool
 }
 
 // The units of three numbers.
-#[derive(Drop)]
+#[derive(Clone, Copy)]
 struct Units {
     first: ParseUnit,
     second: ParseUnit,

@@ -11,7 +11,7 @@ use meaning::Pair;
 use pattern::parts::next_part;
 
 // How many words there are, and where the bytes start that they hold.
-#[derive(Drop)]
+#[derive(Clone, Copy)]
 pub struct Packed {
     pub used: usize,
     pub held: usize,

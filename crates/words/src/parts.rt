@@ -16,7 +16,7 @@ use rules::short::short_rule;
 use rules::step::{Step, step_of};
 
 // A word, and where what is held starts once its part is.
-#[derive(Drop)]
+#[derive(Clone, Copy)]
 pub struct Placed {
     pub word: u64,
     pub at: usize,

@@ -10,7 +10,7 @@ ghost use Rattle.words.specs.Packing.{is_number, joins_byte, with_bytes, three_w
 use crate::fields::{code, last_byte};
 
 // How many words are laid, and two behind them that can still be joined; 0 is none.
-#[derive(Drop)]
+#[derive(Clone, Copy)]
 pub struct Pending {
     pub used: usize,
     pub first: u64,

@@ -7,7 +7,7 @@ use crate::fields::{code, count, first_byte, from, is_lost, last_byte, second_by
 use meaning::Rule;
 use rules::short::{Short, short_rule};
 
-#[derive(Drop)]
+#[derive(Clone, Copy)]
 pub enum Piece {
     // A byte that stands for itself, so many times.
     Times {
