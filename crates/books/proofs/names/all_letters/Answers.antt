@@ -1,0 +1,27 @@
+use Prim.Native.Nat.{◌-◌}
+use lib.ListN.{length, drop}
+use mathlib.Core.Path.{◌≡◌, refl, sym, ◌∙◌}
+use native.Mathlib.Omega.{arith}
+use borrow.Author.Tests.{not-true, not-false}
+use borrow.Author.Rules.{rules}
+use Rattle.meaning.specs.Books.{all_letters}
+use Rattle.books.proofs.names.Laws.{letter-on, no-letter, letters-done}
+use Rattle.books.proofs.names.all_letters.Goals as goal
+
+pub returns-then-not-is_letter : goal.returns-then-not-is_letter
+returns-then-not-is_letter c =
+    let a = c.args in
+    let L = c.loop-i in
+    sym (no-letter a.name.now L.i (omega arith) (sym c.is_letter.ensures ∙ not-true c.is_letter.result c.if-not-is_letter.true)) ∙ L.invariant
+
+pub loop-i-preserved : goal.loop-i-preserved
+loop-i-preserved c =
+    let a = c.args in
+    let L = c.loop-i in
+    sym (letter-on a.name.now L.i (omega arith) (sym c.is_letter.ensures ∙ not-false c.is_letter.result c.if-not-is_letter.false)) ∙ L.invariant
+
+pub returns : goal.returns
+returns c =
+    let a = c.args in
+    let L = c.loop-i in
+    sym (letters-done a.name.now L.i c.loop-i-test.false) ∙ L.invariant

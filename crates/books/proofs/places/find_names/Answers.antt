@@ -1,0 +1,45 @@
+use mathlib.Core.Path.{◌≡◌, refl, sym, ◌∙◌}
+use Prim.Native.Nat.{◌-◌}
+use lib.ListN.{length, drop, length-set}
+use native.Mathlib.Omega.{arith}
+use borrow.Author.Rules.{rules}
+use Rattle.meaning.specs.Books.{names_in}
+use Rattle.books.specs.Places.{names_by}
+use Rattle.books.proofs.places.Laws.{walked, no_length, no-letters, name-more, all-walked}
+use Rattle.books.proofs.places.find_names.Goals as goal
+
+pub loop-i-init : goal.loop-i-init
+unfolding names_by
+loop-i-init c = (refl, refl)
+
+pub returns-then-bytes-at : goal.returns-then-bytes-at
+returns-then-bytes-at c =
+    let L = c.loop-i in
+    sym (no_length c.args.bytes.now L.places L.i L.at c.loop-i-test.true c.if-bytes-at.true) ∙ L.invariant.1
+
+pub overflow_cast-next : goal.overflow_cast-next
+overflow_cast-next c = omega (arith, c.shared-slice-known.given c.loop-i.at)
+
+pub overflow_add-next-in-loop-i : goal.overflow_add-next-in-loop-i
+overflow_add-next-in-loop-i c = omega (arith, c.shared-slice-known.given c.loop-i.at)
+
+pub returns-then-bytes-next : goal.returns-then-bytes-next
+returns-then-bytes-next c =
+    let m = c in
+    let L = m.loop-i in
+    sym (no-letters m.args.bytes.now L.places L.i L.at (omega arith) (omega arith) c.if-bytes-next.true) ∙ L.invariant.1
+
+pub loop-i-preserved : goal.loop-i-preserved
+loop-i-preserved c =
+    let m = c in
+    let L = m.loop-i in
+    let byte = c.shared-slice-known.given L.at in (
+      simp length-set L.invariant.0,
+      sym (name-more m.args.bytes.now L.places L.i L.at (omega arith) (L.invariant.0 ∙ m.requires) (omega arith) (omega arith) c.if-bytes-next.false)
+          ∙ L.invariant.1,
+    )
+
+pub returns : goal.returns
+returns c =
+    let L = c.loop-i in
+    sym (all-walked c.args.bytes.now L.places L.i L.at (L.invariant.0 ∙ c.requires) c.loop-i-test.false) ∙ L.invariant.1

@@ -1,0 +1,16 @@
+-- The names of the places that are known, and those of the bytes that are left.
+use mathlib.Core.Path.{◌≡◌, refl, sym, ◌∙◌}
+use Prim.Native.Nat.{◌-◌}
+use lib.ListN.{length, drop, length-set}
+use native.Mathlib.Omega.{arith}
+use borrow.Author.Rules.{rules}
+use Rattle.meaning.specs.Books.{names_in}
+use Rattle.books.specs.Places.{names_by}
+use Rattle.books.proofs.places.Laws.{walked, no_length, no-letters, name-more, all-walked}
+use Rattle.books.proofs.places.find_names.Given as goal
+
+abbrev pub invariant-loop-i : goal.invariant-loop-i
+invariant-loop-i l = (length l.places ≡ length l.initial.places) × (walked l.bytes l.places l.i l.at ≡ names_in 64 (drop 5 l.bytes))
+
+abbrev pub decreases-loop-i : goal.decreases-loop-i
+decreases-loop-i l = 64 - l.i

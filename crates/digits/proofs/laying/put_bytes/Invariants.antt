@@ -1,0 +1,15 @@
+-- What lies there and the bytes still to be laid are all the bytes.
+use Prim.Native.Nat.{◌+◌, ◌-◌, ◌≤◌}
+use lib.ListN.{length, drop, length-set}
+use lib.Seq.{sets}
+use mathlib.Core.Path.{◌≡◌, refl, sym, ◌∙◌}
+use native.Mathlib.Nat.{add-zero}
+use native.Mathlib.Omega.{arith}
+use Rattle.laws.proofs.Laid.{lay-next, lay_done}
+use Rattle.digits.proofs.laying.put_bytes.Given as goal
+
+abbrev pub invariant-loop-j : goal.invariant-loop-j
+invariant-loop-j l = (sets l.out (l.at + l.j) (drop l.j l.src) ≡ sets l.initial.out l.at l.src) × (l.j ≤ length l.src) × (length l.out ≡ length l.initial.out)
+
+abbrev pub decreases-loop-j : goal.decreases-loop-j
+decreases-loop-j l = length l.src - l.j

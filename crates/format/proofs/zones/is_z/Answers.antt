@@ -1,0 +1,6 @@
+-- Both tests.
+use borrow.Author.Rules.{rules}
+use Rattle.format.proofs.zones.is_z.Goals as goal
+
+pub returns-then-utc : goal.returns-then-utc
+returns-then-utc c = rw c.if-utc.true

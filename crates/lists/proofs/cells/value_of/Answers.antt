@@ -1,0 +1,33 @@
+-- The entry of the unit, in fewer bits.
+use native.Mathlib.Omega.{arith}
+use Prim.Native.Nat.{◌+◌}
+use lib.IntN.{pos}
+use lib.ListN.{get_or}
+use borrow.Author.Rules.{rules}
+use mir.Syntax.{w32, w64}
+use mir.ValLaws.{to_z-of_z}
+use Rattle.reader.proofs.record.Units.{unit-below}
+use Rattle.lists.proofs.cells.value_of.Goals as goal
+
+pub overflow_add-k : goal.overflow_add-k
+overflow_add-k c = omega (arith, unit-below c.args.unit, c.unit_number-k.ensures)
+
+pub offset_bounds-answer-k : goal.offset_bounds-answer-k
+offset_bounds-answer-k c = omega (arith, unit-below c.args.unit, c.unit_number-k.ensures)
+
+pub bounds-answer-k : goal.bounds-answer-k
+bounds-answer-k c = omega (arith, unit-below c.args.unit, c.unit_number-k.ensures, c.requires.0)
+
+pub overflow_cast-result : goal.overflow_cast-result
+overflow_cast-result c =
+    let s = c in
+    let k = c.unit_number-k in
+    let z = get_or s.args.answer.now (3 + k.result) (pos 0) in
+    rw (to_z-of_z w64 z (record { sfits = c.result.given }), k.ensures) (record { sfits = s.requires.1 })
+
+pub returns : goal.returns
+returns c =
+    let s = c in
+    let k = c.unit_number-k in
+    let z = get_or s.args.answer.now (3 + k.result) (pos 0) in
+    rw (to_z-of_z w64 z (record { sfits = c.result.given }), k.ensures) (to_z-of_z w32 _ (record { sfits = s.requires.1 }))

@@ -1,0 +1,18 @@
+-- What lies there and the bytes still to be laid are all the bytes.
+use mathlib.Core.Path.{◌≡◌, refl, ◌∙◌}
+use Prim.Native.Nat.{◌+◌, ◌-◌, ◌≤◌}
+use native.Mathlib.Nat.{add-zero, sub-zero}
+use native.Mathlib.Omega.{arith}
+use borrow.Author.Rules.{rules}
+use lib.ListN.{length, length-set}
+use lib.Seq.{sets}
+use Rattle.names.specs.Letters.{bytes_of}
+use Rattle.names.proofs.letters.Laws.{length-bytes, lay-byte}
+use Rattle.names.proofs.letters.put_bytes.Given as goal
+
+abbrev pub invariant-loop-j : goal.invariant-loop-j
+invariant-loop-j l =
+    (l.j ≤ l.n) × (length l.out ≡ length l.initial.out) × (sets l.out (l.at + l.j) (bytes_of (l.n - l.j) l.rest) ≡ sets l.initial.out l.at (bytes_of l.n l.number))
+
+abbrev pub decreases-loop-j : goal.decreases-loop-j
+decreases-loop-j l = l.n - l.j

@@ -1,0 +1,17 @@
+-- The first eight letters as one number, and the ninth.
+use mathlib.Core.List.{[], ◌∷◌}
+use mathlib.Core.Path.{◌≡◌, sym, ◌∙◌}
+use native.Mathlib.Omega.{arith}
+use borrow.Author.Rules.{rules}
+use borrow.Author.Tests.{eqb-true}
+use Rattle.laws.proofs.Tests.{true-is-not-false}
+use Rattle.names.proofs.letters.Laws.{first-letters, nine-letters, begins-few, begins-nine}
+use Rattle.names.proofs.letters.same_letters.Goals as goal
+
+pub returns-then-spelt-lt9 : goal.returns-then-spelt-lt9
+returns-then-spelt-lt9 c =
+    λ e.
+    let m = c in
+    let a = m.args in
+    begins-few a.spelt.length a.first a.at a.text.now (omega arith) (omega arith) m.requires.2 ∙ c.same_bytes.ensures e
+    ∙ sym (first-letters a.spelt.length a.spelt.first (a.spelt.ninth ∷ []) (omega arith))

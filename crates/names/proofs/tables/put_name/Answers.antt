@@ -1,0 +1,19 @@
+use mathlib.Core.Path.{◌≡◌, refl, sym, ◌∙◌}
+use Prim.Native.Nat.{◌+◌, ◌≤◌, ◌-◌}
+use native.Mathlib.Nat.{add-zero}
+use native.Mathlib.Omega.{arith}
+use borrow.Author.Rules.{rules}
+use lib.ListN.{length, drop, length-set}
+use lib.Seq.{sets}
+use Rattle.laws.proofs.Laid.{lay-next, lay_done}
+use Rattle.names.specs.Table.{name_in}
+use Rattle.names.proofs.tables.Laws.{Room, room}
+use Rattle.names.proofs.tables.put_name.Goals as goal
+
+pub returns : goal.returns
+returns c =
+    let l = c in
+    record {
+      end = omega arith;
+      held = sym (lay_done _ _ _ l.loop-j.j (omega arith) (omega arith)) ∙ l.loop-j.invariant.3;
+    }

@@ -1,0 +1,48 @@
+-- What the number reader finds in the remaining text.
+use borrow.Author.Rules.{rules}
+use lib.ListN.{drop, length-drop}
+use mathlib.Core.Path.{sym, ◌∙◌}
+use native.Mathlib.Omega.{arith}
+use Rattle.parse.proofs.cursor.Moves.{taken-by, taken-within}
+use Rattle.pattern.proofs.parts.Walks.{rest_all}
+use Rattle.parse.proofs.cursor.Cursor.take.Goals as goal
+
+pub overflow_add-result : goal.overflow_add-result
+overflow_add-result c =
+    let a = c.args in
+    let at = a.self.at in
+    let rest = rest_all at a.text.now in
+    let found = sym (rw rest at c.read_number.ensures) ∙ c.in-Value.is in
+    omega (arith, taken-within a.kind a.k (drop at a.text.now) found, length-drop at a.text.now)
+
+pub returns-in-TooFew : goal.returns-in-TooFew
+returns-in-TooFew c =
+    let a = c.args in
+    let at = a.self.at in
+    let rest = rest_all at a.text.now in
+    let found = sym (rw rest at c.read_number.ensures) ∙ c.in-TooFew.is in
+    rw (taken-by at a.kind a.k (drop at a.text.now), found)
+
+pub returns-in-PlusSign : goal.returns-in-PlusSign
+returns-in-PlusSign c =
+    let a = c.args in
+    let at = a.self.at in
+    let rest = rest_all at a.text.now in
+    let found = sym (rw rest at c.read_number.ensures) ∙ c.in-PlusSign.is in
+    rw (taken-by at a.kind a.k (drop at a.text.now), found)
+
+pub returns-in-NoNumber : goal.returns-in-NoNumber
+returns-in-NoNumber c =
+    let a = c.args in
+    let at = a.self.at in
+    let rest = rest_all at a.text.now in
+    let found = sym (rw rest at c.read_number.ensures) ∙ c.in-NoNumber.is in
+    rw (taken-by at a.kind a.k (drop at a.text.now), found)
+
+pub returns-in-Value : goal.returns-in-Value
+returns-in-Value c =
+    let a = c.args in
+    let at = a.self.at in
+    let rest = rest_all at a.text.now in
+    let found = sym (rw rest at c.read_number.ensures) ∙ c.in-Value.is in
+    rw (taken-by at a.kind a.k (drop at a.text.now), found)

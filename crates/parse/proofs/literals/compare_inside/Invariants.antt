@@ -1,0 +1,19 @@
+-- What is compared so far is the same, and the rest decides.
+use borrow.Author.Rules.{rules}
+use lib.ListN.{length, get_or, drop, drop_of_length-le}
+use mathlib.Core.Path.{◌≡◌, ap, sym, ◌∙◌}
+use Prim.Native.Nat.{◌+◌, ◌-◌, ◌<◌}
+use native.Mathlib.Omega.{arith}
+use Rattle.parse.proofs.literals.Comparing.{same-on, differs_at, all_same}
+use Rattle.parse.specs.Literals.{compared_from}
+use Rattle.pattern.proofs.parts.Inside.{unescaped-turn, one-or-two}
+use Rattle.pattern.specs.First.{unescaped}
+use Rattle.parse.proofs.literals.compare_inside.Given as goal
+
+abbrev pub invariant-loop-i : goal.invariant-loop-i
+invariant-loop-i l =
+    (compared_from l.next (unescaped (drop l.i l.inside)) l.text ≡ compared_from (l.end - length (unescaped l.inside)) (unescaped l.inside) l.text)
+    × (l.next + length (unescaped (drop l.i l.inside)) ≡ l.end)
+
+abbrev pub decreases-loop-i : goal.decreases-loop-i
+decreases-loop-i l = length l.inside - l.i

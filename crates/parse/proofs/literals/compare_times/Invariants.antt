@@ -1,0 +1,16 @@
+-- What is compared so far is the same, and the rest decides.
+use borrow.Author.Rules.{rules}
+use lib.ListN.{replicate}
+use mathlib.Core.Path.{◌≡◌, sym, ◌∙◌}
+use Prim.Native.Nat.{◌-◌, ◌≤◌}
+use native.Mathlib.Omega.{arith}
+use Rattle.parse.proofs.literals.Comparing.{times-from, same-on, differs_at, all_same}
+use Rattle.parse.specs.Literals.{compared_from}
+use Rattle.parse.proofs.literals.compare_times.Given as goal
+
+abbrev pub invariant-loop-i : goal.invariant-loop-i
+invariant-loop-i l =
+    (compared_from l.i (replicate (l.end - l.i) l.byte) l.text ≡ compared_from (l.end - l.count) (replicate l.count l.byte) l.text) × (l.i ≤ l.end)
+
+abbrev pub decreases-loop-i : goal.decreases-loop-i
+decreases-loop-i l = l.end - l.i

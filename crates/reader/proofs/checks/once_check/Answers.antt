@@ -1,0 +1,17 @@
+-- The checks, one after the other, once the bits of the year are taken away.
+use borrow.Author.Rules.{rules}
+use mir.Syntax.{w32}
+use mir.ValLaws.{to_z-of_z}
+use Rattle.meaning.specs.Trust.{trust_check}
+use Rattle.reader.proofs.checks.once_check.Goals as goal
+
+pub returns : goal.returns
+unfolding trust_check
+returns c =
+    let a = c in
+    rw (
+      c.or_else.ensures,
+      c.current_year_check-of_year.ensures,
+      c.pattern_check-of_pattern.ensures,
+      to_z-of_z w32 a.args.current-year a.ranges.current-year,
+    )

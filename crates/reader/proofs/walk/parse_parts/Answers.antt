@@ -1,0 +1,183 @@
+use Prim.Native.Nat.{◌-◌, ◌≤◌}
+use borrow.Author.Rules.{rules}
+use borrow.Author.Tests.{ltb-true, ltb-false}
+use lib.ListN.{length, drop}
+use mathlib.Core.List.{List, [], ◌∷◌}
+use mathlib.Core.Logic.{⊎_elim, inl, inr}
+use mathlib.Core.Path.{◌≡◌, refl, sym, ◌∙◌}
+use mir.Syntax.{w64}
+use mir.ValLaws.{to_z-of_z}
+use native.Mathlib.Omega.{arith}
+use Rattle.meaning.specs.OpenedBooks.{book_in}
+use Rattle.meaning.specs.Whole.{Gave, walk}
+use Rattle.meaning.specs.Writing.{steps}
+use Rattle.meaning.specs.declared.Carried.TheVariants.{Nothing, Value}
+use Rattle.parse.proofs.literals.Strict.{same-either, value_same, ended}
+use Rattle.pattern.proofs.parts.Next.{next, starts-here}
+use Rattle.rules.specs.Steps.{means}
+use Rattle.reader.proofs.walk.Walks.{step-here, part-inside, walk-stops, walk-differs, walk-goes-on, walk-left, walk-done}
+use Rattle.reader.proofs.record.Units.{Holds, holds-none, unit-below, holds-nothing, holds-value, holds-reading}
+use Rattle.reader.proofs.walk.parse_parts.Goals as goal
+
+pub loop-place-init : goal.loop-place-init
+loop-place-init c = ([], holds-none, refl, omega arith, omega arith)
+
+pub step_of-step-requires : goal.step_of-step-requires
+step_of-step-requires c =
+    let p = c.args.pattern.now in
+    let L = c.loop-place in
+    starts-here (next p L.place c.next_part-part.result c.loop-place-test.true c.next_part-part.ensures)
+
+pub parse_step-requires : goal.parse_step-requires
+parse_step-requires c = (c.step_of_lem.ensures.held, c.loop-place.invariant.3)
+
+pub returns-in-Stopped : goal.returns-in-Stopped
+returns-in-Stopped c =
+    let m = c in
+    let L = m.loop-place in
+    let a = m.args in
+    let n = next a.pattern.now L.place m.next_part-part.result m.loop-place-test.true m.next_part-part.ensures in
+    let gave = sym c.parse_step.ensures ∙ c.in-Stopped.is in
+    let stops = walk-stops a.choices (book_in a.book.now) a.current-year L.i a.text.now L.invariant.0 L.at L.place n m.step_of_lem.ensures gave in
+    rw (← rw stops at L.invariant.2) c.refused_in.ensures
+
+pub offset_bounds-values-k : goal.offset_bounds-values-k
+offset_bounds-values-k c = omega (arith, c.unit_number-k.ensures, unit-below c.in-Value.unit)
+
+pub bounds-values-k : goal.bounds-values-k
+bounds-values-k c = omega (arith, c.unit_number-k.ensures, unit-below c.in-Value.unit)
+
+pub overflow_cast-starts : goal.overflow_cast-starts
+overflow_cast-starts c =
+    let m = c in
+    omega (arith, m.loop-place.invariant.3, m.requires)
+
+pub offset_bounds-starts-k : goal.offset_bounds-starts-k
+offset_bounds-starts-k c = omega (arith, c.unit_number-k.ensures, unit-below c.in-Value.unit)
+
+pub bounds-starts-k : goal.bounds-starts-k
+bounds-starts-k c = omega (arith, c.unit_number-k.ensures, unit-below c.in-Value.unit)
+
+pub overflow_cast-ends : goal.overflow_cast-ends
+overflow_cast-ends c =
+    let m = c in
+    let L = m.loop-place in
+    let a = m.args in
+    let gave = sym c.parse_step.ensures ∙ c.in-Got.is in
+    let inside = part-inside a.choices.edition (book_in a.book.now) a.text.now L.at a.current-year (means a.pattern.now m.step_of_lem.result) gave L.invariant.3 in
+    omega (arith, inside, m.requires)
+
+pub offset_bounds-ends-k : goal.offset_bounds-ends-k
+offset_bounds-ends-k c = omega (arith, c.unit_number-k.ensures, unit-below c.in-Value.unit)
+
+pub bounds-ends-k : goal.bounds-ends-k
+bounds-ends-k c = omega (arith, c.unit_number-k.ensures, unit-below c.in-Value.unit)
+
+pub overflow_cast-mask : goal.overflow_cast-mask
+overflow_cast-mask c = omega (arith, c.unit_number-k.ensures, unit-below c.in-Value.unit)
+
+pub overflow_shl-mask : goal.overflow_shl-mask
+overflow_shl-mask c = omega (arith, c.unit_number-k.ensures, unit-below c.in-Value.unit)
+
+pub compare_part-requires : goal.compare_part-requires
+compare_part-requires c =
+    let m = c in
+    let L = m.loop-place in
+    let a = m.args in
+    let p = a.pattern.now in
+    let n = next p L.place m.next_part-part.result m.loop-place-test.true m.next_part-part.ensures in
+    let gave = sym c.parse_step.ensures ∙ c.in-Got.is in
+    let end = ended a.text.now L.at a.choices.edition (book_in a.book.now) a.current-year (means p m.step_of_lem.result) gave L.invariant.3 in
+    (m.loop-place-test.true, rw (step-here n m.step_of_lem.ensures) end)
+
+pub returns-in-Differs : goal.returns-in-Differs
+returns-in-Differs c =
+    let m = c in
+    let L = m.loop-place in
+    let a = m.args in
+    let p = a.pattern.now in
+    let text = a.text.now in
+    let n = next p L.place m.next_part-part.result m.loop-place-test.true m.next_part-part.ensures in
+    let g = c in
+    let gave = sym g.parse_step.ensures ∙ g.in-Got.is in
+    let seen = rw (step-here n m.step_of_lem.ensures) at c.compare_part.ensures in
+    let differs = sym seen ∙ c.in-Differs.is in
+    let stops = walk-differs a.choices (book_in a.book.now) a.current-year L.i text L.invariant.0 L.at L.place n m.step_of_lem.ensures gave g.if-choices.true differs in
+    rw (← rw stops at L.invariant.2) c.refused_in-in-Differs.ensures
+
+pub overflow_add-place : goal.overflow_add-place
+overflow_add-place c =
+    let m = c in
+    let L = m.loop-place in
+    let start = m in
+    let n = next start.args.pattern.now L.place m.next_part-part.result m.loop-place-test.true m.next_part-part.ensures in
+    omega (arith, n.fits, start.ranges)
+
+pub loop-place-smaller : goal.loop-place-smaller
+loop-place-smaller c =
+    let m = c in
+    let L = m.loop-place in
+    let a = m.args in
+    let n = next a.pattern.now L.place m.next_part-part.result m.loop-place-test.true m.next_part-part.ensures in
+    omega (arith, n.some, n.fits)
+
+pub loop-place-preserved : goal.loop-place-preserved
+loop-place-preserved c =
+    let m = c in
+    let L = m.loop-place in
+    let a = m.args in
+    let p = a.pattern.now in
+    let text = a.text.now in
+    let n = next p L.place m.next_part-part.result m.loop-place-test.true m.next_part-part.ensures in
+    let k = means p m.step_of_lem.result in
+    let gave = sym c.parse_step.ensures ∙ c.in-Got.is in
+    let moved = walk-goes-on a.choices (book_in a.book.now) a.current-year L.i text L.invariant.0 L.at L.place n m.step_of_lem.ensures gave in
+    let inside = part-inside a.choices.edition (book_in a.book.now) text L.at a.current-year k gave L.invariant.3 in
+    let from = L.at in
+    let to = c.in-Got.next.at in
+    ⊎_elim
+    (λ l.
+    let u = l.1.given.0.0 in
+    let z = l.1.given.0.1.0 in
+    let same = value_same text L.at a.choices.edition (book_in a.book.now) a.current-year k (rw l.1.given.1 at gave) in (
+      record { carried = Value u z; start = from; end = to } ∷ L.invariant.0,
+      rw (l.4, l.5, l.6, l.7, l.3.ensures, to_z-of_z w64 z (search rules)) (holds-value L.invariant.1 from to u z),
+      rw l.1.given.1 at (sym (moved (rw same (same-either a.choices.strict))) ∙ L.invariant.2),
+      inside,
+      omega (arith, n.some),
+    ))
+    (λ r. ⊎_elim
+    (λ t.
+    let seen = rw (step-here n m.step_of_lem.ensures) at t.3.ensures in (
+      record { carried = Nothing; start = from; end = to } ∷ L.invariant.0,
+      rw (t.6, t.7, t.8, t.9) (holds-nothing L.invariant.1 from to),
+      rw t.1.given.1 at (sym (moved (rw t.2.taken (sym seen ∙ t.5.given.1))) ∙ L.invariant.2),
+      inside,
+      omega (arith, n.some),
+    ))
+    (λ e. (
+      record { carried = Nothing; start = from; end = to } ∷ L.invariant.0,
+      rw (e.3, e.4, e.5, e.6) (holds-nothing L.invariant.1 from to),
+      rw e.1.given.1 at (sym (moved (rw e.2.left)) ∙ L.invariant.2),
+      inside,
+      omega (arith, n.some),
+    ))
+    r)
+    c.match2.branch
+
+pub returns-then-at-text : goal.returns-then-at-text
+returns-then-at-text c =
+    let m = c in
+    let a = m.args in
+    let L = m.loop-place in
+    let ends = walk-left a.choices (book_in a.book.now) a.current-year L.i a.text.now L.invariant.0 L.at L.place a.pattern.now m.loop-place-test.false in
+    rw (← rw (ends c.if2.true (ltb-true L.at (length a.text.now) c.if-at-text.true)) at L.invariant.2) c.no_reading.ensures
+
+pub returns : goal.returns
+returns c =
+    let m = c in
+    let a = m.args in
+    let L = m.loop-place in
+    let ends = walk-done a.choices (book_in a.book.now) a.current-year L.i a.text.now L.invariant.0 L.at L.place a.pattern.now m.loop-place-test.false in
+    let none_left = ⊎_elim (λ t. inr (ltb-false L.at (length a.text.now) t.1.left)) (λ e. inl e.left) c.if2.branch in
+    rw (← rw (ends none_left) at L.invariant.2) (holds-reading L.invariant.1 L.at)

@@ -1,0 +1,21 @@
+-- What lies there and the places still to be laid are all the places.
+use Prim.Native.Nat.{◌+◌, ◌-◌, ◌≤◌, ◌<◌}
+use lib.IntN.{pos}
+use lib.ListN.{length, get_or, drop, length-set, length-map, get_or-map}
+use lib.Seq.{sets}
+use mathlib.Core.List.{map}
+use mathlib.Core.Path.{◌≡◌, refl, sym, ◌∙◌}
+use native.Mathlib.Nat.{add-zero}
+use native.Mathlib.Omega.{arith}
+use mir.Facts.{to_z_pos}
+use mir.Syntax.{w64}
+use borrow.Author.Rules.{rules}
+use Rattle.laws.proofs.Laid.{lay-next, lay_done}
+use Rattle.rows.proofs.entries.lay_places.Given as goal
+
+abbrev pub invariant-loop-j : goal.invariant-loop-j
+invariant-loop-j l =
+    (sets l.row (l.at + l.j) (drop l.j (map pos l.places)) ≡ sets l.initial.row l.at (map pos l.places)) × (l.j ≤ length l.places) × (length l.row ≡ length l.initial.row)
+
+abbrev pub decreases-loop-j : goal.decreases-loop-j
+decreases-loop-j l = length l.places - l.j

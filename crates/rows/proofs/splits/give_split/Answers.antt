@@ -1,0 +1,37 @@
+-- The parts are laid where the checks pass, and else nothing is.
+use mathlib.Core.Path.{sym, ◌∙◌}
+use native.Mathlib.Omega.{arith}
+use borrow.Author.Rules.{rules}
+use Rattle.laws.proofs.Checks.{fine-short}
+use Rattle.rows.proofs.entries.Fits.{bytes_fit}
+use Rattle.rows.proofs.splits.Parts.{split-fine, split-refused}
+use Rattle.rows.proofs.splits.give_split.Goals as goal
+
+pub lay_parts-requires : goal.lay_parts-requires
+lay_parts-requires c =
+    let s = c in
+    (fine-short s.args.pattern.now (sym s.bytes_check.ensures ∙ c.in-Fine.is), omega arith)
+
+pub give_count-requires : goal.give_count-requires
+give_count-requires c = (search rules, omega (arith, c.lay_parts.ensures.0))
+
+pub give_refusal-requires : goal.give_refusal-requires
+give_refusal-requires c =
+    let s = c in
+    let p = s.args.pattern.now in
+    let fits = rw (← s.bytes_check.ensures, c.in-Refused.is) at (bytes_fit p (omega (arith, s.well-formed.0.1))) in
+    (search rules, search rules, fits)
+
+pub returns-in-Fine : goal.returns-in-Fine
+returns-in-Fine c =
+    let s = c in
+    let fine = split-fine s.args.pattern.now (sym s.bytes_check.ensures ∙ c.in-Fine.is) in
+    let parts = c.lay_parts.ensures in
+    (rw (fine.0, ← parts.1) c.give_count.ensures, rw (fine.1, ← parts.1) parts.2)
+
+pub returns-in-Refused : goal.returns-in-Refused
+returns-in-Refused c =
+    let s = c in
+    let why = c.why.given in
+    let refused = split-refused s.args.pattern.now _ (sym s.bytes_check.ensures ∙ why.1) in
+    (rw refused.0 c.give_refusal.ensures, rw refused.1)

@@ -1,0 +1,40 @@
+-- The entries are laid where the checks pass, and else nothing is.
+use mathlib.Core.Path.{sym, ◌∙◌}
+use native.Mathlib.Omega.{arith}
+use borrow.Author.Rules.{rules}
+use Rattle.laws.proofs.Checks.{fine-short}
+use Rattle.rows.proofs.entries.Fits.{bytes_fit}
+use Rattle.rows.proofs.splits.Parts.{split-fine, split-refused}
+use Rattle.rows.proofs.units.Entries.{units-fine, units-refused}
+use Rattle.rows.proofs.units.give_units.Goals as goal
+
+pub lay_entries-requires : goal.lay_entries-requires
+lay_entries-requires c =
+    let s = c in
+    (fine-short s.args.pattern.now (sym s.bytes_check.ensures ∙ c.in-Fine.is), omega arith)
+
+pub give_count-requires : goal.give_count-requires
+give_count-requires c = (search rules, omega (arith, c.lay_entries.ensures.0))
+
+pub give_refusal-requires : goal.give_refusal-requires
+give_refusal-requires c =
+    let s = c in
+    let p = s.args.pattern.now in
+    let fits = rw (← s.bytes_check.ensures, c.in-Refused.is) at (bytes_fit p (omega (arith, s.well-formed.0.1))) in
+    (search rules, search rules, fits)
+
+pub returns-in-Fine : goal.returns-in-Fine
+returns-in-Fine c =
+    let s = c in
+    let p = s.args.pattern.now in
+    let fine = sym s.bytes_check.ensures ∙ c.in-Fine.is in
+    let entries = c.lay_entries.ensures in
+    (rw ((split-fine p fine).0, ← entries.1) c.give_count.ensures, rw (units-fine p fine, ← entries.1) entries.2)
+
+pub returns-in-Refused : goal.returns-in-Refused
+returns-in-Refused c =
+    let s = c in
+    let p = s.args.pattern.now in
+    let why = c.why.given in
+    let refused = sym s.bytes_check.ensures ∙ why.1 in
+    (rw (split-refused p _ refused).0 c.give_refusal.ensures, rw (units-refused p _ refused))

@@ -1,0 +1,17 @@
+-- Each return is its row of the table.
+use borrow.Author.Rules.{rules}
+use Rattle.laws.proofs.Tests.{chosen}
+use Rattle.meaning.specs.Rules.{rule_of, pick, otherwise_rule}
+use Rattle.rules.proofs.date.day_of_year.Goals as goal
+
+pub returns-then-count-eq2 : goal.returns-then-count-eq2
+returns-then-count-eq2 c =
+    search chosen
+
+pub returns-then-count-eq3 : goal.returns-then-count-eq3
+returns-then-count-eq3 c =
+    search chosen
+
+pub returns : goal.returns
+returns c =
+    search chosen

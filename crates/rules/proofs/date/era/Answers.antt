@@ -1,0 +1,16 @@
+-- Each return is its row of the table.
+use Rattle.laws.proofs.Tests.{chosen}
+use Rattle.meaning.specs.Rules.{rule_of, pick, otherwise_rule}
+use Rattle.rules.proofs.date.era.Goals as goal
+
+pub returns-then-count-le3 : goal.returns-then-count-le3
+returns-then-count-le3 c =
+    search chosen
+
+pub returns-then-count-eq5 : goal.returns-then-count-eq5
+returns-then-count-eq5 c =
+    search chosen
+
+pub returns : goal.returns
+returns c =
+    search chosen

@@ -1,0 +1,20 @@
+-- Each return is its row of the table.
+use Rattle.laws.proofs.Tests.{chosen}
+use Rattle.meaning.specs.Rules.{rule_of, pick, otherwise_rule}
+use Rattle.rules.proofs.date.quarter.Goals as goal
+
+pub returns-then-count-eq2 : goal.returns-then-count-eq2
+returns-then-count-eq2 c =
+    search chosen
+
+pub returns-then-count-eq3 : goal.returns-then-count-eq3
+returns-then-count-eq3 c =
+    search chosen
+
+pub returns-then-count-eq4 : goal.returns-then-count-eq4
+returns-then-count-eq4 c =
+    search chosen
+
+pub returns : goal.returns
+returns c =
+    search chosen

@@ -1,0 +1,17 @@
+-- The letters, one after the other.
+use borrow.Author.Rules.{rules}
+use borrow.Author.Tests.{ne_eqb}
+use Rattle.rules.specs.ShortRules.{short_of}
+use Rattle.rules.proofs.short.short_of.Goals as goal
+
+pub returns-in-77 : goal.returns-in-77
+returns-in-77 c =
+    rw c.in-77.is
+
+pub returns-in-100 : goal.returns-in-100
+returns-in-100 c =
+    rw c.in-100.is
+
+pub returns-in_default : goal.returns-in_default
+returns-in_default c =
+    simp (ne_eqb _ _ c.match.rest.0.1, ne_eqb _ _ c.match.rest.1) c.short_of_pair.ensures

@@ -1,0 +1,7 @@
+-- The Date pair has no time symbols.
+use borrow.Author.Rules.{rules}
+use Rattle.rules.proofs.short.short_of_pair.Goals as goal
+
+pub returns-in-Full : goal.returns-in-Full
+returns-in-Full c =
+    rw c.in-Full.is c.short_time.ensures

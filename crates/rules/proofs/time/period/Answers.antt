@@ -1,0 +1,20 @@
+-- Each return is its row of the table.
+use Rattle.laws.proofs.Tests.{chosen}
+use Rattle.meaning.specs.Rules.{rule_of, pick, otherwise_rule}
+use Rattle.rules.proofs.time.period.Goals as goal
+
+pub returns-then-count-le2 : goal.returns-then-count-le2
+returns-then-count-le2 c =
+    search chosen
+
+pub returns-then-count-eq4 : goal.returns-then-count-eq4
+returns-then-count-eq4 c =
+    search chosen
+
+pub returns-then-count-eq5 : goal.returns-then-count-eq5
+returns-then-count-eq5 c =
+    search chosen
+
+pub returns : goal.returns
+returns c =
+    search chosen

@@ -1,0 +1,25 @@
+-- What is summed and what the digits to come weigh is what all weigh.
+use mathlib.Core.Bool.{true}
+use mathlib.Core.Path.{◌≡◌, refl, sym, ◌∙◌}
+use Prim.Native.Nat.{◌+◌, ◌-◌, ◌*◌, ◌≤◌}
+use native.Mathlib.Omega.{arith}
+use borrow.Author.Rules.{rules}
+use borrow.Author.Tests.{not-true, not-false}
+use lib.ListN.{length, get_or, drop}
+use Rattle.meaning.specs.Bytes.{is_digit}
+use Rattle.meaning.specs.Reading.{digit_run}
+use Rattle.stamps.proofs.grammar.Fractions.{turn-lighter, turn-weighs, weighs-none, run_on, run_ends, weighs-end, run_end, weighted-small}
+use Rattle.stamps.specs.Fractions.{weighted}
+use Rattle.stamps.specs.Fractions.{weight as weight_of}
+use Rattle.stamps.proofs.grammar.fraction_digits.Given as goal
+
+abbrev pub invariant-loop-i : goal.invariant-loop-i
+invariant-loop-i l =
+    (l.at ≤ l.i)
+    × (l.i ≤ length l.text)
+    × (l.weight ≡ weight_of (9 - (l.i - l.at)))
+    × (l.nanos + weighted (9 - (l.i - l.at)) (drop l.i l.text) ≡ weighted 9 (drop l.at l.text))
+    × (l.i + digit_run (drop l.i l.text) ≡ l.at + digit_run (drop l.at l.text))
+
+abbrev pub decreases-loop-i : goal.decreases-loop-i
+decreases-loop-i l = length l.text - l.i

@@ -1,0 +1,16 @@
+-- What the opening says.
+use Rattle.trust.specs.Ahead.{name_first}
+use borrow.Author.Rules.{rules}
+use Rattle.verdict.proofs.lookahead.name_first.Goals as goal
+
+pub returns-in-Digit : goal.returns-in-Digit
+unfolding name_first
+returns-in-Digit c = rw (← c.Opening-of.ensures, c.in-Digit.is)
+
+pub returns-in-OneLetter : goal.returns-in-OneLetter
+unfolding name_first
+returns-in-OneLetter c = rw (← c.Opening-of.ensures, c.in-OneLetter.is)
+
+pub returns-in-Word : goal.returns-in-Word
+unfolding name_first
+returns-in-Word c = rw (← c.Opening-of.ensures, c.in-Word.is)

@@ -1,0 +1,6 @@
+-- With the most that the edition reads.
+use borrow.Author.Rules.{rules}
+use Rattle.verdict.proofs.needs.read_need.Goals as goal
+
+pub returns : goal.returns
+returns c = rw (← c.most_read.ensures) c.number_need.ensures

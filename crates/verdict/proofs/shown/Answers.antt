@@ -1,0 +1,6 @@
+-- Yes, or the part with the record that its need has.
+use borrow.Author.Rules.{rules}
+use Rattle.verdict.proofs.shown.Goals as goal
+
+pub returns-in-At : goal.returns-in-At
+returns-in-At c = rw (c.in-At.is, c.witness.ensures)

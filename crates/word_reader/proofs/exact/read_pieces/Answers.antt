@@ -1,0 +1,234 @@
+use borrow.Author.Rules.{rules}
+use lib.ListN.{length, get_or, take, drop}
+use mathlib.Core.List.{List, [], ◌∷◌, ◌++◌}
+use mathlib.Core.Logic.{⊎_elim, inl, inr}
+use mathlib.Core.Path.{◌≡◌, refl, sym, ◌∙◌}
+use mir.Syntax.{w64}
+use mir.ValLaws.{to_z-of_z}
+use Prim.Native.Nat.{◌+◌, ◌*◌, ◌-◌, ◌≤◌, ◌<◌}
+use native.Mathlib.Omega.{arith}
+use Rattle.meaning.specs.Answers.{details}
+use Rattle.meaning.specs.OpenedBooks.{book_in}
+use Rattle.meaning.specs.Whole.{Gave, refused_at, walk}
+use Rattle.meaning.specs.declared.Carried.TheVariants.{Nothing, Value}
+use Rattle.meaning.specs.declared.Checked.TheVariants.{Fine, Refused}
+use Rattle.words.specs.Pieces.{piece_step, pieces_in, steps_of}
+use Rattle.word_reader.proofs.exact.Fitting.{walk-fit, part-fit}
+use Rattle.word_reader.proofs.exact.Pieces.{word-ends, piece-stops, piece-goes-on, words_left, words-done, piece_inside}
+use Rattle.word_reader.proofs.keeping.Moving.{kept-nothing}
+use Rattle.word_reader.proofs.keeping.Rows.{zero_row, no-mask, beyond-row, counted-row, given-quick, given-over}
+use Rattle.word_reader.specs.Quick.{row_of, mask_of}
+use Rattle.word_reader.proofs.exact.read_pieces.Goals as goal
+
+pub lay_zeros-requires : goal.lay_zeros-requires
+lay_zeros-requires c = omega (arith, c.requires.2)
+
+pub loop-i-init : goal.loop-i-init
+loop-i-init c =
+    let s = c in
+    let zeros = zero_row s.args.answer.now s.requires.2 c.lay_zeros.ensures in
+    ([], refl, rw (sym (beyond-row [] zeros)) at zeros, no-mask, omega arith, omega arith, omega arith, omega arith, refl)
+
+pub bounds-tail-i : goal.bounds-tail-i
+bounds-tail-i c = omega (arith, c.loop-i-test.true, c.requires.0)
+
+pub overflow_add-i : goal.overflow_add-i
+overflow_add-i c =
+    let m = c in
+    let s = m in
+    let a = s.args in
+    let L = m.loop-i in
+    let count = m.piece_count.ensures in
+    omega (arith, m.loop-i-test.true, s.requires.0)
+
+pub loop-i-smaller-then-piece_count-k : goal.loop-i-smaller-then-piece_count-k
+loop-i-smaller-then-piece_count-k c =
+    let m = c in
+    let s = m in
+    let a = s.args in
+    let L = m.loop-i in
+    let count = m.piece_count.ensures in
+    omega (arith, m.loop-i-test.true, count, L.invariant.5)
+
+pub loop-i-preserved-then-piece_count-k : goal.loop-i-preserved-then-piece_count-k
+loop-i-preserved-then-piece_count-k c =
+    let m = c in
+    let s = m in
+    let a = s.args in
+    let L = m.loop-i in
+    let count = m.piece_count.ensures in
+    let there = m.loop-i-test.true in
+    let all : L.k ≡ length (pieces_in (get_or a.tail.now L.i 0)) = omega (arith, c.if-piece_count-k.true, count.0, L.invariant.5) in
+    let ends = word-ends a.choices (book_in a.book.now) a.current-year a.tail.now a.text.now a.used s.requires.0 L.invariant.0 L.part L.at L.i L.k there all in
+    (L.invariant.0, sym ends ∙ L.invariant.1, L.invariant.2, L.invariant.3, L.invariant.4, omega arith, omega (arith, L.invariant.6, count, L.invariant.5), omega (arith, there), L.invariant.8)
+
+pub piece_in-piece-requires : goal.piece_in-piece-requires
+piece_in-piece-requires c = omega (arith, c.if-piece_count-k.false, c.piece_count.ensures.0)
+
+pub read_piece-requires : goal.read_piece-requires
+read_piece-requires c = c.loop-i.invariant.4
+
+pub refused_in-requires : goal.refused_in-requires
+refused_in-requires c =
+    let m = c in
+    let s = m in
+    let a = s.args in
+    let L = m.loop-i in
+    let count = m.piece_count.ensures in
+    let there = m.loop-i-test.true in
+    let more : L.k < length (pieces_in (get_or a.tail.now L.i 0)) = omega (arith, m.if-piece_count-k.false, count.0) in
+    let gave = sym c.read_piece.ensures ∙ c.in-Stopped.is in
+    let stops = piece-stops a.choices (book_in a.book.now) a.current-year a.tail.now a.text.now a.used s.requires.0 L.invariant.0 L.part L.at L.i L.k there more c.piece_in-piece.ensures gave in
+    let fit = walk-fit a.choices (book_in a.book.now) a.current-year a.tail.now a.text.now a.used (omega (arith, s.requires.0, s.well-formed.1.1.0.1)) (omega (arith, s.requires.1)) in
+    let both' = part-fit fit (sym L.invariant.1 ∙ stops) in
+    (omega (arith, L.invariant.8, m.lay_zeros.auto.row, s.requires.2), both'.0, both'.1)
+
+pub shape_of-answer-in-Stopped : goal.shape_of-answer-in-Stopped
+shape_of-answer-in-Stopped c =
+    let m = c in
+    let s = m in
+    let a = s.args in
+    let L = m.loop-i in
+    let count = m.piece_count.ensures in
+    omega (arith, c.refused_in.auto.answer, L.invariant.8, m.lay_zeros.auto.row)
+
+pub returns-in-Stopped : goal.returns-in-Stopped
+returns-in-Stopped c =
+    let m = c in
+    let s = m in
+    let a = s.args in
+    let L = m.loop-i in
+    let count = m.piece_count.ensures in
+    let there = m.loop-i-test.true in
+    let more : L.k < length (pieces_in (get_or a.tail.now L.i 0)) = omega (arith, m.if-piece_count-k.false, count.0) in
+    let gave = sym c.read_piece.ensures ∙ c.in-Stopped.is in
+    let stops = piece-stops a.choices (book_in a.book.now) a.current-year a.tail.now a.text.now a.used s.requires.0 L.invariant.0 L.part L.at L.i L.k there more c.piece_in-piece.ensures gave in
+    let zeros = zero_row a.answer.now s.requires.2 m.lay_zeros.ensures in
+    rw (← rw stops at L.invariant.1)
+    (given-over (Refused _) (refused_at Fine) s.requires.2 (omega (arith, L.invariant.8, m.lay_zeros.auto.row)) (beyond-row L.invariant.0 L.invariant.2 ∙ beyond-row [] zeros) c.refused_in.ensures)
+
+pub keep-kept-requires : goal.keep-kept-requires
+keep-kept-requires c =
+    let m = c in
+    let s = m in
+    let a = s.args in
+    let L = m.loop-i in
+    let count = m.piece_count.ensures in
+    let gave = sym c.read_piece.ensures ∙ c.in-Got.is in
+    let inside = piece_inside a.choices (book_in a.book.now) a.current-year a.text.now L.at (piece_step a.tail.now c.piece_in-piece.result) gave L.invariant.4 in
+    (omega (arith, L.invariant.8, m.lay_zeros.auto.row, s.requires.2), omega (arith, L.invariant.4, s.requires.1), omega (arith, inside, s.requires.1))
+
+pub overflow_add-part : goal.overflow_add-part
+overflow_add-part c =
+    let m = c in
+    let s = m in
+    let a = s.args in
+    let L = m.loop-i in
+    let count = m.piece_count.ensures in
+    omega (arith, L.invariant.5, L.invariant.6, count, m.loop-i-test.true, s.requires.0, s.well-formed.1.1.0.1)
+
+pub overflow_add-k : goal.overflow_add-k
+overflow_add-k c =
+    let m = c in
+    let s = m in
+    let a = s.args in
+    let L = m.loop-i in
+    let count = m.piece_count.ensures in
+    omega (arith, L.invariant.5, count)
+
+pub loop-i-smaller : goal.loop-i-smaller
+loop-i-smaller c =
+    let m = c in
+    let s = m in
+    let a = s.args in
+    let L = m.loop-i in
+    let count = m.piece_count.ensures in
+    omega (arith, m.loop-i-test.true, count, m.if-piece_count-k.false)
+
+pub loop-i-preserved : goal.loop-i-preserved
+loop-i-preserved c =
+    let m = c in
+    let s = m in
+    let a = s.args in
+    let L = m.loop-i in
+    let count = m.piece_count.ensures in
+    let tail = a.tail.now in
+    let text = a.text.now in
+    let book = book_in a.book.now in
+    let there = m.loop-i-test.true in
+    let more : L.k < length (pieces_in (get_or tail L.i 0)) = omega (arith, m.if-piece_count-k.false, count.0) in
+    let gave = sym c.read_piece.ensures ∙ c.in-Got.is in
+    let moved = piece-goes-on a.choices (book_in a.book.now) a.current-year a.tail.now a.text.now a.used s.requires.0 L.invariant.0 L.part L.at L.i L.k there more c.piece_in-piece.ensures gave in
+    let inside = piece_inside a.choices book a.current-year text L.at (piece_step tail c.piece_in-piece.result) gave L.invariant.4 in
+    let from = L.at in
+    let to = c.in-Got.next.at in
+    ⊎_elim
+    (λ l.
+    let u = l.1.given.0.0 in
+    let z = l.1.given.0.1.0 in
+    let kept = (rw (to_z-of_z w64 z (search rules)) at l.4.ensures.1).keeps L.invariant.0 _ L.invariant.2 L.invariant.3 in (
+      record { carried = Value u z; start = from; end = to } ∷ L.invariant.0,
+      rw l.1.given.1 at (sym moved ∙ L.invariant.1),
+      rw l.6 kept.0,
+      rw l.7 kept.1,
+      inside,
+      omega (arith, more),
+      omega (arith, L.invariant.6),
+      omega (arith, there),
+      rw l.6 (omega (arith, l.4.kept.1.1.1.1.1.0, L.invariant.8)),
+    ))
+    (λ e.
+    let kept = kept-nothing.keeps L.invariant.0 _ L.invariant.2 L.invariant.3 in (
+      record { carried = Nothing; start = from; end = to } ∷ L.invariant.0,
+      rw e.1.given.1 at (sym moved ∙ L.invariant.1),
+      rw e.2 kept.0,
+      rw e.3 kept.1,
+      inside,
+      omega (arith, more),
+      omega (arith, L.invariant.6),
+      omega (arith, there),
+      rw e.2 L.invariant.8,
+    ))
+    c.match2.branch
+
+pub give_refusal-requires : goal.give_refusal-requires
+unfolding details
+give_refusal-requires c =
+    let s = c in
+    let L = c.loop-i in
+    (omega arith, omega (arith, L.invariant.8, c.lay_zeros.auto.row, s.requires.2), (omega (arith, L.invariant.4, s.requires.1), tt))
+
+pub shape_of-answer-then-at-text : goal.shape_of-answer-then-at-text
+shape_of-answer-then-at-text c = omega (arith, c.give_refusal.auto.row, c.loop-i.invariant.8, c.lay_zeros.auto.row)
+
+pub returns-then-at-text : goal.returns-then-at-text
+returns-then-at-text c =
+    let s = c in
+    let a = s.args in
+    let m = c in
+    let L = m.loop-i in
+    let ends = words_left a.choices (book_in a.book.now) a.current-year a.tail.now a.text.now a.used s.requires.0 L.invariant.0 L.part L.at L.i L.k m.loop-i-test.false c.if-choices.true c.if-at-text.true in
+    let zeros = zero_row a.answer.now s.requires.2 c.lay_zeros.ensures in
+    rw (← rw ends at L.invariant.1)
+    (given-over (Refused _) (refused_at Fine) s.requires.2 (omega (arith, L.invariant.8, c.lay_zeros.auto.row)) (beyond-row L.invariant.0 L.invariant.2 ∙ beyond-row [] zeros) c.give_refusal.ensures)
+
+pub finish-requires : goal.finish-requires
+finish-requires c =
+    let s = c in
+    let L = c.loop-i in
+    (omega (arith, L.invariant.8, c.lay_zeros.auto.row, s.requires.2), omega (arith, L.invariant.4, s.requires.1))
+
+pub shape_of-answer : goal.shape_of-answer
+shape_of-answer c = omega (arith, c.finish.auto.answer, c.loop-i.invariant.8, c.lay_zeros.auto.row)
+
+pub returns : goal.returns
+returns c =
+    let s = c in
+    let a = s.args in
+    let m = c in
+    let L = m.loop-i in
+    let none_left = ⊎_elim (λ t. inr t.1.left) (λ e. inl e.left) c.if-choices.branch in
+    let ends = words-done a.choices (book_in a.book.now) a.current-year a.tail.now a.text.now a.used s.requires.0 L.invariant.0 L.part L.at L.i L.k m.loop-i-test.false none_left in
+    let zeros = beyond-row [] (zero_row a.answer.now s.requires.2 c.lay_zeros.ensures) in
+    let row = rw (L.invariant.2, L.invariant.3, counted-row L.at L.invariant.0 (drop 48 _), zeros) at c.finish.ensures in
+    rw (← rw ends at L.invariant.1) (given-quick L.at L.invariant.0 s.requires.2 row)

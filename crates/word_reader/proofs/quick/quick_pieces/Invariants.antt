@@ -1,0 +1,25 @@
+-- The pieces so far are read and kept.
+use borrow.Author.Rules.{rules}
+use mathlib.Core.List.{List, [], ◌++◌}
+use mathlib.Core.Path.{◌≡◌, refl, ◌∙◌}
+use Prim.Native.Nat.{◌+◌, ◌-◌, ◌≤◌, ◌<◌}
+use native.Mathlib.Omega.{arith}
+use lib.ListN.{length, take, drop}
+use Rattle.meaning.specs.OpenedBooks.{book_in}
+use Rattle.meaning.specs.Whole.{Gave}
+use Rattle.words.specs.Pieces.{pieces_in, steps_in}
+use Rattle.word_reader.proofs.keeping.Moving.{moves-none, moves-then, kept-none, kept_then}
+use Rattle.word_reader.proofs.quick.Pieces.{piece-more, pieces-all}
+use Rattle.word_reader.specs.Quick.{Moves, Kept}
+use Rattle.word_reader.proofs.quick.quick_pieces.Given as goal
+
+abbrev pub invariant-loop-k : goal.invariant-loop-k
+invariant-loop-k l = (gs : List Gave)
+    × (Moves l.choices (book_in l.book) l.current_year (take l.k (steps_in l.tail l.w)) l.text l.at l.next gs)
+    × (Kept gs l.initial.answer l.answer l.mask l.read)
+    × (drop 48 l.answer ≡ drop 48 l.initial.answer)
+    × (length l.answer ≡ length l.initial.answer)
+    × (l.k ≤ l.count)
+
+abbrev pub decreases-loop-k : goal.decreases-loop-k
+decreases-loop-k l = l.count - l.k

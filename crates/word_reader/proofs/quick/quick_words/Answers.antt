@@ -1,0 +1,105 @@
+use borrow.Author.Rules.{rules}
+use borrow.Author.Tests.{ltb-false}
+use mathlib.Core.List.{List, [], ◌++◌}
+use mathlib.Core.Logic.{⊎_elim, inl, inr}
+use mathlib.Core.Path.{◌≡◌, refl, sym, ◌∙◌}
+use Prim.Native.Nat.{ℕ, ◌+◌, ◌-◌, ◌≤◌}
+use native.Mathlib.Omega.{arith}
+use lib.ListN.{length, get_or, take, drop}
+use Rattle.laws.proofs.Tests.{true-is-not-false}
+use Rattle.meaning.specs.OpenedBooks.{book_in}
+use Rattle.meaning.specs.Whole.{Gave, walk}
+use Rattle.words.specs.Pieces.{steps_in, steps_of}
+use Rattle.word_reader.proofs.exact.Pieces.{words-done}
+use Rattle.word_reader.proofs.keeping.Rows.{zero-places, no-mask, beyond-row, counted-row, beyond-counted}
+use Rattle.word_reader.proofs.quick.Pieces.{word_on}
+use Rattle.word_reader.specs.Quick.{row_of, mask_of}
+use Rattle.word_reader.proofs.quick.quick_words.Goals as goal
+
+pub lay_zeros-requires : goal.lay_zeros-requires
+lay_zeros-requires c = omega (arith, c.requires.1)
+
+pub loop-i-init : goal.loop-i-init
+loop-i-init c =
+    let s = c in
+    let zeros = zero-places s.args.answer.now s.requires.1 s.requires.3 c.lay_zeros.ensures in
+    ([], 0, refl, rw (sym (beyond-row [] zeros)) at zeros, no-mask, omega arith, refl, omega arith)
+
+pub bounds-tail-i : goal.bounds-tail-i
+bounds-tail-i c = omega (arith, c.loop-i-test.true, c.requires.0)
+
+pub quick_word-moved-requires : goal.quick_word-moved-requires
+quick_word-moved-requires c =
+    let s = c in
+    let L = c.loop-i in
+    (omega (arith, L.invariant.6, c.lay_zeros.auto.row, s.requires.1), L.invariant.5, s.requires.2)
+
+pub shape_of-answer-then-moved-gt2048 : goal.shape_of-answer-then-moved-gt2048
+shape_of-answer-then-moved-gt2048 c = omega (arith, c.quick_word-moved.auto.answer, c.loop-i.invariant.6, c.lay_zeros.auto.row)
+
+pub returns-then-moved-gt2048 : goal.returns-then-moved-gt2048
+returns-then-moved-gt2048 c =
+    let s = c in
+    let L = c.loop-i in
+    let q = c.quick_word-moved.ensures in
+    record { beyond = q.beyond ∙ beyond-row L.invariant.0 L.invariant.3 ∙ beyond-row [] (zero-places s.args.answer.now s.requires.1 s.requires.3 c.lay_zeros.ensures); reads = λ h. true-is-not-false (sym h) }
+
+pub overflow_add-i : goal.overflow_add-i
+overflow_add-i c = omega (arith, c.loop-i-test.true, c.requires.0)
+
+pub loop-i-smaller : goal.loop-i-smaller
+loop-i-smaller c = omega (arith, c.loop-i-test.true)
+
+pub loop-i-preserved : goal.loop-i-preserved
+loop-i-preserved c =
+    let s = c in
+    let a = s.args in
+    let L = c.loop-i in
+    let tail = a.tail.now in
+    let there = c.loop-i-test.true in
+    let q = c.quick_word-moved.ensures in
+    let one = q.reads c.if-moved-gt2048.false in
+    let kept = one.2.keeps L.invariant.0 _ L.invariant.3 L.invariant.4 in
+    let on = word_on a.choices (book_in a.book.now) a.current-year tail a.text.now a.used s.requires.0 L.invariant.0 L.invariant.1 L.i there one.1 in (
+      one.0 ++ L.invariant.0,
+      L.invariant.1 + length (steps_in tail (get_or tail L.i 0)),
+      sym on ∙ L.invariant.2,
+      kept.0,
+      kept.1,
+      one.1.inside,
+      omega (arith, c.quick_word-moved.auto.answer, L.invariant.6),
+      omega (arith, there),
+    )
+
+pub shape_of-answer-then-at-text : goal.shape_of-answer-then-at-text
+shape_of-answer-then-at-text c = omega (arith, c.loop-i.invariant.6, c.lay_zeros.auto.row)
+
+pub returns-then-at-text : goal.returns-then-at-text
+returns-then-at-text c =
+    let s = c in
+    let L = c.loop-i in
+    record { beyond = beyond-row L.invariant.0 L.invariant.3 ∙ beyond-row [] (zero-places s.args.answer.now s.requires.1 s.requires.3 c.lay_zeros.ensures); reads = λ h. true-is-not-false (sym h) }
+
+pub finish-requires : goal.finish-requires
+finish-requires c =
+    let s = c in
+    let L = c.loop-i in
+    (omega (arith, L.invariant.6, c.lay_zeros.auto.row, s.requires.1), omega (arith, L.invariant.5, s.requires.2))
+
+pub shape_of-answer : goal.shape_of-answer
+shape_of-answer c = omega (arith, c.finish.auto.answer, c.loop-i.invariant.6, c.lay_zeros.auto.row)
+
+pub returns : goal.returns
+returns c =
+    let s = c in
+    let a = s.args in
+    let m = c in
+    let L = m.loop-i in
+    let tail = a.tail.now in
+    let text = a.text.now in
+    let gave = L.invariant.0 in
+    let none_left = ⊎_elim (λ t. inr (ltb-false L.at (length text) t.1.left)) (λ e. inl e.left) c.if2.branch in
+    let ends = words-done a.choices (book_in a.book.now) a.current-year tail text a.used s.requires.0 gave L.invariant.1 L.at L.i 0 m.loop-i-test.false none_left in
+    let zeros = beyond-row [] (zero-places s.args.answer.now s.requires.1 s.requires.3 c.lay_zeros.ensures) in
+    let row = rw (L.invariant.3, L.invariant.4, counted-row L.at gave (drop 48 _), zeros) at c.finish.ensures in
+    record { beyond = beyond-counted L.at gave row; reads = λ h. (L.at, gave, sym L.invariant.2 ∙ ends, row) }

@@ -1,0 +1,33 @@
+-- Its counts and values are cleared; the checks of the text, then the words.
+use borrow.Author.Rules.{rules}
+use mathlib.Core.Path.{sym, ◌∙◌}
+use mir.Syntax.{w32}
+use mir.ValLaws.{to_z-of_z}
+use native.Mathlib.Omega.{arith}
+use Rattle.laws.proofs.Checks.{text-short}
+use Rattle.laws.proofs.Tests.{true-is-not-false}
+use Rattle.word_reader.proofs.keeping.Rows.{cleared-row, whole-over}
+use Rattle.word_reader.proofs.reading.read_quickly.Goals as goal
+
+pub quick_words-requires : goal.quick_words-requires
+quick_words-requires c =
+    let s = c in
+    let zeros = c.lay_zeros in (
+      s.requires.0,
+      omega (arith, zeros.auto.1.0, s.requires.1),
+      text-short _ (sym c.text_check.ensures ∙ c.in-Fine.is),
+      (cleared-row s.args.answer.now s.requires.1 zeros.ensures).0,
+    )
+
+pub returns-in-Fine : goal.returns-in-Fine
+returns-in-Fine c =
+    let s = c in
+    let year = rw (to_z-of_z w32 s.args.year (search rules)) at c.size.ensures in
+    let beyond = (cleared-row s.args.answer.now s.requires.1 c.lay_zeros.ensures).1 in
+    (whole-over beyond (rw year at c.quick_words.ensures), λ _. sym c.text_check.ensures ∙ c.in-Fine.is)
+
+pub returns-in-Refused : goal.returns-in-Refused
+returns-in-Refused c =
+    let s = c in
+    let beyond = (cleared-row s.args.answer.now s.requires.1 c.lay_zeros.ensures).1 in
+    (record { beyond = beyond; reads = λ h. true-is-not-false (sym h) }, λ h. true-is-not-false (sym h))

@@ -1,0 +1,22 @@
+use Prim.Native.Nat.{◌-◌}
+use borrow.Author.Rules.{rules}
+use lib.ListN.{length, drop, drop_of_length-le}
+use lib.Seq.{drop-cons}
+use mathlib.Core.Path.{◌≡◌, refl}
+use native.Mathlib.Numerals.{add-one}
+use native.Mathlib.Omega.{arith}
+use Rattle.words.specs.Rows.{xor_from}
+use Rattle.words.proofs.checking.check_word.Goals as goal
+
+pub offset_bounds-words-i : goal.offset_bounds-words-i
+offset_bounds-words-i c = omega (arith, c.well-formed)
+
+pub loop-i-preserved : goal.loop-i-preserved
+unfolding xor_from
+loop-i-preserved c =
+    let words = c.args.words.now in
+    rw add-one (rw (drop-cons words c.loop-i.i 0 c.loop-i-test.true) at c.loop-i.invariant)
+
+pub returns : goal.returns
+unfolding xor_from
+returns c = rw (drop_of_length-le c.args.words.now c.loop-i-test.false) at c.loop-i.invariant

@@ -1,0 +1,37 @@
+-- The rule of each kind.
+use borrow.Author.Tests.{ne_eqb}
+use Rattle.words.specs.Coding.{rule_of_kind}
+use borrow.Author.Rules.{rules}
+use Rattle.words.proofs.coding.rule_in.Goals as goal
+
+pub returns-in-0 : goal.returns-in-0
+unfolding rule_of_kind
+returns-in-0 c = rw (c.in-0.is, c.quantity.ensures, c.least.ensures, c.most.ensures, c.unit_in.ensures)
+
+pub returns-in-1 : goal.returns-in-1
+unfolding rule_of_kind
+returns-in-1 c = rw (c.in-1.is, c.quantity2.ensures, c.least2.ensures, c.most2.ensures)
+
+pub returns-in-2 : goal.returns-in-2
+unfolding rule_of_kind
+returns-in-2 c = rw c.in-2.is
+
+pub returns-in-3 : goal.returns-in-3
+unfolding rule_of_kind
+returns-in-3 c = rw (c.in-3.is, c.list.ensures, c.size.ensures)
+
+pub returns-in-4 : goal.returns-in-4
+unfolding rule_of_kind
+returns-in-4 c = rw (c.in-4.is, c.list-in-4.ensures)
+
+pub returns-in-5 : goal.returns-in-5
+unfolding rule_of_kind
+returns-in-5 c = rw (c.in-5.is, c.list-in-5.ensures, c.size-in-5.ensures)
+
+pub returns-in-6 : goal.returns-in-6
+unfolding rule_of_kind
+returns-in-6 c = rw c.in-6.is
+
+pub returns-in_default : goal.returns-in_default
+unfolding rule_of_kind
+returns-in_default c = simp (c.zone.ensures, ne_eqb _ _ c.match.rest.0.0.0.0.0.0.1, ne_eqb _ _ c.match.rest.0.0.0.0.0.1, ne_eqb _ _ c.match.rest.0.0.0.0.1, ne_eqb _ _ c.match.rest.0.0.0.1, ne_eqb _ _ c.match.rest.0.0.1, ne_eqb _ _ c.match.rest.0.1, ne_eqb _ _ c.match.rest.1)

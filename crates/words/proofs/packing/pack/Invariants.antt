@@ -1,0 +1,16 @@
+-- What is laid, and what the parts still to come are packed into, are all of it.
+use Prim.Native.Nat.{◌+◌, ◌-◌}
+use lib.ListN.{length, drop}
+use mathlib.Core.Path.{◌∙◌}
+use native.Mathlib.Omega.{arith}
+use Rattle.pattern.proofs.parts.Next.{next, starts-here}
+use Rattle.pattern.specs.Next.{Next}
+use Rattle.words.proofs.packing.Turns.{Left, all_left, behind_part, part-few, held-few, words-few, left-next, first_fits, second_fits, all-packed}
+use Rattle.words.specs.Packing.{part_words}
+use Rattle.words.proofs.packing.pack.Given as goal
+
+abbrev pub invariant-loop-place : goal.invariant-loop-place
+invariant-loop-place l = Left l.pair l.pattern l.initial.tail l.tail l.pending l.held l.place
+
+abbrev pub decreases-loop-place : goal.decreases-loop-place
+decreases-loop-place l = length l.pattern - l.place

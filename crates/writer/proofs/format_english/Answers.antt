@@ -1,0 +1,8 @@
+-- An empty row stands for the English book.
+use borrow.Author.Rules.{rules}
+use Rattle.meaning.proofs.Books.{english-unopened}
+use Rattle.writer.proofs.format_english.Goals as goal
+
+pub returns : goal.returns
+returns c =
+    rw (← english-unopened) c.format_with.ensures
