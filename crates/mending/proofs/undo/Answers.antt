@@ -11,12 +11,12 @@ use Rattle.mending.proofs.undo.Goals as goal
 
 -- every change fits
 fine : (c : goal.Else-not-all_fit) → all_fit c.args.pattern.now 0 (changes_in c.args.changes) ≡ true
-fine c = sym c.all_fit.ensures ∙ not-false c.all_fit.result c.if-not-all_fit.false
+fine c = sym c.all_fit.ensures ∙ c.if-not-all_fit.false
 
 pub returns-then-not-all_fit : goal.returns-then-not-all_fit
 returns-then-not-all_fit c =
     let a = c.args in
-    let m = misfit a.pattern.now (changes_in a.changes) a.out.now (sym c.all_fit.ensures ∙ not-true c.all_fit.result c.if-not-all_fit.true) in
+    let m = misfit a.pattern.now (changes_in a.changes) a.out.now (sym c.all_fit.ensures ∙ c.if-not-all_fit.true) in
     (sym m.0, sym m.1)
 
 pub undone_length-length-requires : goal.undone_length-length-requires

@@ -45,3 +45,6 @@ returns-in-Read c =
     let parts = c in
     let begun = parts in
     by_whole (c.accept.ensures ∙ sym (is_read (start begun).args.text.now (fine begun) (scanned parts).1))
+
+pub date_time-requires : goal.date_time-requires
+date_time-requires c = search rules

@@ -50,7 +50,7 @@ returns-then-not-meets c =
     let q = contents (drop (L.place + part.length) p) in
     let chosen = c.step_of_lem.ensures in
     let need = rw chosen.meant at c.step_need-need.ensures in
-    let answered = not-true c.meets.result c.if-not-meets.true in
+    let answered = c.if-not-meets.true in
     let fails = rw need at (sym c.meets.ensures ∙ answered) in
     rw need (sym (unmet-here a.edition (a.to - L.place) L.i (content_of p part) q (omega arith) fails) ∙ rw (← n.walk) L.invariant.0)
 
@@ -81,7 +81,7 @@ loop-place-preserved c =
     let q = contents (drop (L.place + part.length) p) in
     let chosen = c.step_of_lem.ensures in
     let need = rw chosen.meant at c.step_need-need.ensures in
-    let answered = not-false c.meets.result c.if-not-meets.false in
+    let answered = c.if-not-meets.false in
     let holds = rw need at (sym c.meets.ensures ∙ answered) in
     let left : a.to - (L.place + part.length) ≡ a.to - L.place - length_of (content_of p part) = omega (arith, part-long n) in
     let on = unmet-on a.edition (a.to - L.place) L.i (content_of p part) q (omega arith) holds in

@@ -8,7 +8,7 @@ use Rattle.books.specs.Places.{names_by}
 use Rattle.books.proofs.laying.Laws.{name-short, shelved-length, none-shelved, book-size}
 use Rattle.books.proofs.laying.book_length.Goals as goal
 
-short : (c : goal.After-name_at invariant-loop decreases-loop) → length c.name_at.result.now < 256
+short : (c : goal.After-name_at) → length c.name_at.result.now < 256
 short c =
     let m = c in
     let a = m.args in

@@ -11,7 +11,7 @@ use Rattle.books.specs.Places.{names_by}
 use Rattle.books.proofs.laying.Laws.{name-short, shelved-from, shelved-length, none-shelved, book-is, book-size, still-laid, still-long}
 use Rattle.books.proofs.laying.put_book.Goals as goal
 
-names-laid : (c : goal.After-loop-i invariant-loop decreases-loop) →
+names-laid : (c : goal.After-loop-i) →
     let L = c.loop-i in
     let first = c in
     let a = first.args in

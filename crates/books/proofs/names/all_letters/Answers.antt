@@ -12,13 +12,13 @@ pub returns-then-not-is_letter : goal.returns-then-not-is_letter
 returns-then-not-is_letter c =
     let a = c.args in
     let L = c.loop-i in
-    sym (no-letter a.name.now L.i (omega arith) (sym c.is_letter.ensures ∙ not-true c.is_letter.result c.if-not-is_letter.true)) ∙ L.invariant
+    sym (no-letter a.name.now L.i (omega arith) (sym c.is_letter.ensures ∙ c.if-not-is_letter.true)) ∙ L.invariant
 
 pub loop-i-preserved : goal.loop-i-preserved
 loop-i-preserved c =
     let a = c.args in
     let L = c.loop-i in
-    sym (letter-on a.name.now L.i (omega arith) (sym c.is_letter.ensures ∙ not-false c.is_letter.result c.if-not-is_letter.false)) ∙ L.invariant
+    sym (letter-on a.name.now L.i (omega arith) (sym c.is_letter.ensures ∙ c.if-not-is_letter.false)) ∙ L.invariant
 
 pub returns : goal.returns
 returns c =

@@ -18,10 +18,10 @@ returns-then-bytes-at c =
     sym (no_length c.args.bytes.now L.places L.i L.at c.loop-i-test.true c.if-bytes-at.true) ∙ L.invariant.1
 
 pub overflow_cast-next : goal.overflow_cast-next
-overflow_cast-next c = omega (arith, c.shared-slice-known.given c.loop-i.at)
+overflow_cast-next c = omega (arith, c.type_inv.bytes c.loop-i.at)
 
 pub overflow_add-next-in-loop-i : goal.overflow_add-next-in-loop-i
-overflow_add-next-in-loop-i c = omega (arith, c.shared-slice-known.given c.loop-i.at)
+overflow_add-next-in-loop-i c = omega (arith, c.type_inv.bytes c.loop-i.at)
 
 pub returns-then-bytes-next : goal.returns-then-bytes-next
 returns-then-bytes-next c =
@@ -33,7 +33,7 @@ pub loop-i-preserved : goal.loop-i-preserved
 loop-i-preserved c =
     let m = c in
     let L = m.loop-i in
-    let byte = c.shared-slice-known.given L.at in (
+    let byte = c.type_inv.bytes L.at in (
       simp length-set L.invariant.0,
       sym (name-more m.args.bytes.now L.places L.i L.at (omega arith) (L.invariant.0 ∙ m.requires) (omega arith) (omega arith) c.if-bytes-next.false)
           ∙ L.invariant.1,

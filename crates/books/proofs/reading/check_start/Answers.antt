@@ -8,12 +8,12 @@ use Rattle.books.proofs.reading.Laws.{unmarked, no-version, early-version, late-
 use Rattle.books.proofs.reading.check_start.Goals as goal
 
 marked : (c : goal.Else-not-has_mark) → is_mark c.args.bytes.now ≡ true
-marked c = sym c.has_mark.ensures ∙ not-false c.has_mark.result c.if-not-has_mark.false
+marked c = sym c.has_mark.ensures ∙ c.if-not-has_mark.false
 
 pub returns-then-not-has_mark : goal.returns-then-not-has_mark
 returns-then-not-has_mark c =
     let mark = c.has_mark in
-    sym (unmarked c.args.bytes.now (sym mark.ensures ∙ not-true mark.result c.if-not-has_mark.true))
+    sym (unmarked c.args.bytes.now (sym mark.ensures ∙ c.if-not-has_mark.true))
 
 pub returns-then-bytes-lt5 : goal.returns-then-bytes-lt5
 returns-then-bytes-lt5 c =

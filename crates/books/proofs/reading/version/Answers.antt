@@ -8,7 +8,7 @@ use Rattle.books.proofs.reading.version.Goals as goal
 small : (c : goal.After-shared_slice_known-1) →
     let s = c.args.bytes.now in
     (get_or s 3 0 < 256) × (get_or s 4 0 < 256)
-small c = (omega (arith, c.shared-slice-known.given 3), omega (arith, c.shared-slice-known.given 4))
+small c = (omega (arith, c.type_inv.bytes 3), omega (arith, c.type_inv.bytes 4))
 
 pub overflow_cast-result : goal.overflow_cast-result
 overflow_cast-result c = omega (arith, small c)

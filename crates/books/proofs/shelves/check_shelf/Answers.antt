@@ -23,7 +23,7 @@ returns-then-not-is_good c =
     let good = c.is_good in
     sym
     (bad-name (meant a.shelf) a.s.now a.places.now a.first L.count a.shelf.count (omega arith) c.loop-count-test.true
-    (sym good.ensures ∙ not-true good.result c.if-not-is_good.true))
+    (sym good.ensures ∙ c.if-not-is_good.true))
     ∙ L.invariant
 
 pub loop-count-preserved : goal.loop-count-preserved
@@ -33,7 +33,7 @@ loop-count-preserved c =
     let good = c.is_good in
     sym
     (good-name (meant a.shelf) a.s.now a.places.now a.first L.count a.shelf.count (omega arith) c.loop-count-test.true
-    (sym good.ensures ∙ not-false good.result c.if-not-is_good.false))
+    (sym good.ensures ∙ c.if-not-is_good.false))
     ∙ L.invariant
 
 pub returns : goal.returns

@@ -18,7 +18,7 @@ returns-then-not-are_apart c =
     let two = c.are_apart in
     sym
     (earlier-begins a.s.now a.places.now a.first a.name.now L.left (L.left - 1) (omega arith)
-    (rw (← c.name_at.ensures) (sym two.ensures ∙ not-true two.result c.if-not-are_apart.true)))
+    (rw (← c.name_at.ensures) (sym two.ensures ∙ c.if-not-are_apart.true)))
     ∙ L.invariant.1
 
 pub loop-left-preserved : goal.loop-left-preserved
@@ -29,7 +29,7 @@ loop-left-preserved c =
       omega arith,
       sym
           (earlier-apart a.s.now a.places.now a.first a.name.now L.left (L.left - 1) (omega arith)
-          (rw (← c.name_at.ensures) (sym two.ensures ∙ not-false two.result c.if-not-are_apart.false)))
+          (rw (← c.name_at.ensures) (sym two.ensures ∙ c.if-not-are_apart.false)))
           ∙ L.invariant.1,
     )
 

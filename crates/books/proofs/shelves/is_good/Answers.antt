@@ -21,20 +21,20 @@ returns-then-not-all_letters c =
     let name = two.name_at-name in
     let letters = c.all_letters in
     rw (← name.ensures)
-    (sym (no-letters _ _ _ two.if-name-shelf.false two.if-shelf-name.false (sym letters.ensures ∙ not-true letters.result c.if-not-all_letters.true)))
+    (sym (no-letters _ _ _ two.if-name-shelf.false two.if-shelf-name.false (sym letters.ensures ∙ c.if-not-all_letters.true)))
 
 pub returns-then-not-shelf : goal.returns-then-not-shelf
 returns-then-not-shelf c =
     let two = c in
     let name = two.name_at-name in
     let letters = c.all_letters in
-    let all = sym letters.ensures ∙ not-false letters.result c.if-not-all_letters.false in
-    rw (← name.ensures) (sym (by_itself _ _ _ two.if-name-shelf.false two.if-shelf-name.false all (not-true _ c.if-not-shelf.true)))
+    let all = sym letters.ensures ∙ c.if-not-all_letters.false in
+    rw (← name.ensures) (sym (by_itself _ _ _ two.if-name-shelf.false two.if-shelf-name.false all (c.if-not-shelf.true)))
 
 pub returns : goal.returns
 returns c =
     let two = c in
     let name = two.name_at-name in
     let letters = c.all_letters in
-    let all = sym letters.ensures ∙ not-false letters.result c.if-not-all_letters.false in
-    rw (← name.ensures) (c.is_apart.ensures ∙ sym (by-earlier _ _ _ two.if-name-shelf.false two.if-shelf-name.false all (not-false _ c.if-not-shelf.false)))
+    let all = sym letters.ensures ∙ c.if-not-all_letters.false in
+    rw (← name.ensures) (c.is_apart.ensures ∙ sym (by-earlier _ _ _ two.if-name-shelf.false two.if-shelf-name.false all (c.if-not-shelf.false)))

@@ -44,3 +44,9 @@ returns c =
       year-next s.args.day g (search rules) (guess s) (rw (b.days_before.ensures, length-is b.before) at c.if-past-length.false),
       c.is_leap.ensures ∙ ap leap n,
     )
+
+pub year_length-length-requires : goal.year_length-length-requires
+year_length-length-requires c = search rules
+
+pub days_before-requires : goal.days_before-requires
+days_before-requires c = search rules

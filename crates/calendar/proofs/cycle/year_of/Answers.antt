@@ -19,3 +19,6 @@ returns-then-past-lt365 c =
 
 pub year_by_table-requires : goal.year_by_table-requires
 year_by_table-requires c = (search rules, refl, leap-is c.before)
+
+pub overflow_add-past : goal.overflow_add-past
+overflow_add-past c = search rules

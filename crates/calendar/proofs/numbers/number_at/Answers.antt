@@ -67,3 +67,6 @@ returns c =
     c.short.ensures
     ∙ rw (c.before_year.ensures, past_is c.before)
     (day-there a.place a.month a.day (omega arith) (omega arith) (omega arith) (day-in c.before))
+
+pub days_of-requires : goal.days_of-requires
+days_of-requires c = search rules

@@ -22,7 +22,7 @@ returns-then-is_within c =
     let e = to_z-of_z w32 a.args.year a.ranges.year in
     let size = rw e at c.size.ensures in
     let first = c.first_current_year.ensures in
-    let tested = c.is_Within.ensures in
+    let tested = c.is_within.ensures in
     let found = c.if-is_within.true in
     let inside : within (first_current_year a.args.edition) 9999 (nat_abs a.args.year) ≡ true = cc in
     rw (← (rw e at c.is_negative.ensures), c.if-is_negative.false, inside)
@@ -34,7 +34,7 @@ returns c =
     let e = to_z-of_z w32 a.args.year a.ranges.year in
     let size = rw e at c.size.ensures in
     let first = c.first_current_year.ensures in
-    let tested = c.is_Within.ensures in
+    let tested = c.is_within.ensures in
     let found = c.if-is_within.false in
     let outside : within (first_current_year a.args.edition) 9999 (nat_abs a.args.year) ≡ false = cc in
     rw (

@@ -30,11 +30,11 @@ start-6 c = start-5 c.before
 abbrev start-7 : goal.Else-not-is_within-7 → goal.Start
 start-7 c = start-6 c.before
 
-year-test : (c : goal.After-is_within) → c.is_Within.result ≡ within 1 5879611 (nat_abs c.args.f.year)
+year-test : (c : goal.After-is_within) → c.is_within.result ≡ within 1 5879611 (nat_abs c.args.f.year)
 year-test c =
     let start = c in
     let e = to_z-of_z w32 start.args.f.year (record { sfits = start.well-formed.0.1.1.0.1 }) in
-    rw (rw e at c.size.ensures) at c.is_Within.ensures
+    rw (rw e at c.size.ensures) at c.is_within.ensures
 
 offset-test : (c : goal.After-is_within-8) → c.is_within-8.result ≡ within 0 86399 (nat_abs (start-7 c.before).args.f.offset)
 offset-test c =
@@ -89,3 +89,9 @@ returns-then-not-is_within-8 c = outside (passed-7 c.before) (offset-test c.befo
 
 pub returns : goal.returns
 returns c = none_out (inside (passed-7 c.before) (offset-test c.before) c.if-not-is_within-8.false)
+
+pub is_within-requires-7 : goal.is_within-requires-7
+is_within-requires-7 c = search rules
+
+pub size-requires-2 : goal.size-requires-2
+size-requires-2 c = search rules

@@ -12,7 +12,7 @@ use Rattle.pattern.specs.Next.{Next}
 use Rattle.mending.proofs.listing.list_changes.Goals as goal
 
 -- the part is the pattern's next
-part-next : (c : goal.After-next_part-part invariant-loop decreases-loop) → let L = c in
+part-next : (c : goal.After-next_part-part) → let L = c in
     Next L.args.pattern.now L.loop-place.place c.next_part-part.result
 part-next c =
     let L = c in
@@ -20,22 +20,22 @@ part-next c =
     next p L.loop-place.place c.next_part-part.result c.loop-place-test.true c.next_part-part.ensures
 
 -- and what is found of it
-abbrev FoundHere : goal.After-spaces_behind-spaces invariant-loop decreases-loop → Type 0
+abbrev FoundHere : goal.After-spaces_behind-spaces → Type 0
 FoundHere c =
     let L = c in
     let a = L.args in
     let part = c.next_part-part.result in
     Found a.edition a.pattern.now L.loop-place.at L.loop-place.place part c.own_change-own.result c.spaces_behind-spaces.result
 
-part-found : (c : goal.After-spaces_behind-spaces invariant-loop decreases-loop) → FoundHere c
+part-found : (c : goal.After-spaces_behind-spaces) → FoundHere c
 part-found c = record { next = part-next c.before; own-told = c.own_change-own.ensures; spaces-told = c.spaces_behind-spaces.ensures }
 
 -- the list as the turn found it
-abbrev found-list : goal.After-spaces_behind-spaces invariant-loop decreases-loop → Changes
+abbrev found-list : goal.After-spaces_behind-spaces → Changes
 found-list c = let L = c in list_of L.loop-place.listed L.loop-place.used
 
 -- the list has room for a change that is one
-own-fits : (c : goal.Then-own invariant-loop decreases-loop) → (found-list c.before).used + 1 ≤ 128
+own-fits : (c : goal.Then-own) → (found-list c.before).used + 1 ≤ 128
 own-fits c =
     let s = c in
     let L = s in
@@ -43,13 +43,13 @@ own-fits c =
     omega (arith, room, listed-one s.own_change-own.result c.if-own.true)
 
 -- every place is inside
-fits : (c : goal.After-spaces_behind-spaces invariant-loop decreases-loop) → behind (part-found c) + c.spaces_behind-spaces.result ≤ 256
+fits : (c : goal.After-spaces_behind-spaces) → behind (part-found c) + c.spaces_behind-spaces.result ≤ 256
 fits c =
     let L = c in
     place-fits (part-found c) L.requires.1 L.loop-place.invariant
 
 -- the list behind the part's own change
-own-listed : (c : goal.Joined-own invariant-loop decreases-loop) → let s = c in
+own-listed : (c : goal.Joined-own) → let s = c in
     list_of c.if-own.listed c.if-own.used ≡ with_change (found-list s) s.own_change-own.result
 own-listed c =
     let s = c in
@@ -57,7 +57,7 @@ own-listed c =
     ⊎_elim (λ w. change-stored (found-list s) own c.if-own.listed c.if-own.used w.0.taken w.1 w.2)
     (λ w. changes-kept (found-list s) own c.if-own.listed c.if-own.used w.0.left w.1 w.2) c.if-own.branch
 
-between-fits : (c : goal.Then-spaces-gt0 invariant-loop decreases-loop) → c.if-own.used + 1 ≤ 128
+between-fits : (c : goal.Then-spaces-gt0) → c.if-own.used + 1 ≤ 128
 between-fits c =
     let j = c in
     let f = part-found j.before in

@@ -9,10 +9,10 @@ use Rattle.mending.proofs.undoing.Laws.{fits-is, fits_not, fits_on, fits_all}
 use Rattle.mending.proofs.undoing.all_fit.Goals as goal
 
 -- there are as many changes, and as many entries
-some : (c : goal.In-loop-i invariant-loop decreases-loop) → c.loop-i.i < length (changes_in c.args.t2)
+some : (c : goal.In-loop-i) → c.loop-i.i < length (changes_in c.args.t2)
 some c = omega (arith, c.loop-i-test.true, c.count_of-n.ensures.0)
 
-few : (c : goal.In-loop-i invariant-loop decreases-loop) → c.loop-i.i < 128
+few : (c : goal.In-loop-i) → c.loop-i.i < 128
 few c = omega (arith, c.loop-i-test.true, c.count_of-n.ensures.1)
 
 pub loop-i-init : goal.loop-i-init
@@ -28,12 +28,12 @@ pub returns-then-not-fits : goal.returns-then-not-fits
 returns-then-not-fits c =
     let L = c.loop-i in
     let told = c.fits2.ensures in
-    sym (sym L.invariant.0 ∙ fits_not c.args.pattern.now L.at c.args.t2 L.i (some c.before) (sym told ∙ not-true c.fits2.result c.if-not-fits.true))
+    sym (sym L.invariant.0 ∙ fits_not c.args.pattern.now L.at c.args.t2 L.i (some c.before) (sym told ∙ c.if-not-fits.true))
 
 pub overflow_add-at : goal.overflow_add-at
 overflow_add-at c =
     let told = c.fits2.ensures in
-    let f = fits-is c.args.pattern.now c.loop-i.at (get_or c.args.t2.listed c.loop-i.i no_change) (sym told ∙ not-false c.fits2.result c.if-not-fits.false) in
+    let f = fits-is c.args.pattern.now c.loop-i.at (get_or c.args.t2.listed c.loop-i.i no_change) (sym told ∙ c.if-not-fits.false) in
     omega (arith, f.inside)
 
 pub overflow_add-i : goal.overflow_add-i
@@ -47,7 +47,7 @@ loop-i-preserved c =
     let s = c in
     let L = c.loop-i in
     let p = s.args.pattern.now in
-    let fit = sym c.fits2.ensures ∙ not-false c.fits2.result c.if-not-fits.false in
+    let fit = sym c.fits2.ensures ∙ c.if-not-fits.false in
     let f = fits-is p L.at (get_or s.args.t2.listed L.i no_change) fit in
     (fits_on p L.at s.args.t2 L.i (some c.before) fit ∙ L.invariant.0, omega (arith, c.loop-i-test.true), f.inside)
 

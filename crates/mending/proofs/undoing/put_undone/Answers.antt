@@ -12,18 +12,18 @@ use Rattle.pattern.proofs.parts.Walks.{rest_all}
 use Rattle.mending.proofs.undoing.put_undone.Goals as goal
 
 -- there are as many changes, and as many entries
-some : (c : goal.In-loop-i invariant-loop decreases-loop) → c.loop-i.i < length (changes_in c.args.t2)
+some : (c : goal.In-loop-i) → c.loop-i.i < length (changes_in c.args.t2)
 some c = omega (arith, c.loop-i-test.true, c.count_of-used.ensures.0)
 
-few : (c : goal.In-loop-i invariant-loop decreases-loop) → c.loop-i.i < 128
+few : (c : goal.In-loop-i) → c.loop-i.i < 128
 few c = omega (arith, c.loop-i-test.true, c.count_of-used.ensures.1)
 
 -- the change fits
-fit : (c : goal.In-loop-i invariant-loop decreases-loop) → Fitting c.args.pattern.now c.loop-i.at (get_or c.args.t2.listed c.loop-i.i no_change)
+fit : (c : goal.In-loop-i) → Fitting c.args.pattern.now c.loop-i.at (get_or c.args.t2.listed c.loop-i.i no_change)
 fit c = fits-here c.args.pattern.now c.loop-i.at c.args.t2 c.loop-i.i (some c) c.loop-i.invariant.0
 
 -- there is room for what is kept and for what stood there
-room : (c : goal.In-loop-i invariant-loop decreases-loop) →
+room : (c : goal.In-loop-i) →
     let change = get_or c.args.t2.listed c.loop-i.i no_change in
     c.loop-i.to + (change.place - c.loop-i.at + change.before) ≤ length c.loop-i.out
 room c =
@@ -31,13 +31,13 @@ room c =
     let s = c in
     omega (arith, L.invariant.2, L.invariant.5, undone-long s.args.pattern.now L.at s.args.t2 L.i (some c) (fit c), s.requires.1)
 
-kept : (c : goal.In-loop-i invariant-loop decreases-loop) →
+kept : (c : goal.In-loop-i) →
     let change = get_or c.args.t2.listed c.loop-i.i no_change in
     length (take (change.place - c.loop-i.at) (drop c.loop-i.at c.args.pattern.now)) ≡ change.place - c.loop-i.at
 kept c = kept-long c.args.pattern.now c.loop-i.at c.args.t2 c.loop-i.i (some c) (fit c)
 
 -- behind the last change
-last : (c : goal.After-loop-i invariant-loop decreases-loop) → undone_from c.args.pattern.now c.loop-i.at (drop c.loop-i.i (changes_in c.args.t2)) ≡ drop c.loop-i.at c.args.pattern.now
+last : (c : goal.After-loop-i) → undone_from c.args.pattern.now c.loop-i.at (drop c.loop-i.i (changes_in c.args.t2)) ≡ drop c.loop-i.at c.args.pattern.now
 last c =
     undone-last c.args.pattern.now c.loop-i.at (changes_in c.args.t2) c.loop-i.i
     (omega (arith, c.loop-i-test.false, c.count_of-used.ensures.0))

@@ -9,14 +9,14 @@ use Rattle.mending.proofs.undoing.Laws.{Fitting, fits-here, fits-later, undone-l
 use Rattle.mending.proofs.undoing.undone_length.Goals as goal
 
 -- there are as many changes, and as many entries
-some : (c : goal.In-loop-i invariant-loop decreases-loop) → c.loop-i.i < length (changes_in c.args.t2)
+some : (c : goal.In-loop-i) → c.loop-i.i < length (changes_in c.args.t2)
 some c = omega (arith, c.loop-i-test.true, c.count_of-used.ensures.0)
 
-few : (c : goal.In-loop-i invariant-loop decreases-loop) → c.loop-i.i < 128
+few : (c : goal.In-loop-i) → c.loop-i.i < 128
 few c = omega (arith, c.loop-i-test.true, c.count_of-used.ensures.1)
 
 -- the change fits
-fit : (c : goal.In-loop-i invariant-loop decreases-loop) → Fitting c.args.pattern.now c.loop-i.at (get_or c.args.t2.listed c.loop-i.i no_change)
+fit : (c : goal.In-loop-i) → Fitting c.args.pattern.now c.loop-i.at (get_or c.args.t2.listed c.loop-i.i no_change)
 fit c = fits-here c.args.pattern.now c.loop-i.at c.args.t2 c.loop-i.i (some c) c.loop-i.invariant.0
 
 pub loop-i-init : goal.loop-i-init

@@ -12,11 +12,11 @@ use Rattle.trust.specs.Mending.{mended}
 use Rattle.mending.proofs.walk.put_mended.Goals as goal
 
 -- the part is the pattern's next
-part-next : (c : goal.After-next_part-part invariant-loop decreases-loop) → Next c.args.pattern.now c.loop-place.place c.next_part-part.result
+part-next : (c : goal.After-next_part-part) → Next c.args.pattern.now c.loop-place.place c.next_part-part.result
 part-next c = next c.args.pattern.now c.loop-place.place c.next_part-part.result c.loop-place-test.true c.next_part-part.ensures
 
 -- and what is found of it
-part-found : (c : goal.After-spaces_behind-spaces invariant-loop decreases-loop)
+part-found : (c : goal.After-spaces_behind-spaces)
     → Found c.args.edition c.args.pattern.now 0 c.loop-place.place c.next_part-part.result c.own_change-own.result c.spaces_behind-spaces.result
 part-found c = record { next = part-next c.before; own-told = c.own_change-own.ensures; spaces-told = c.spaces_behind-spaces.ensures }
 

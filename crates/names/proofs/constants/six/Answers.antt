@@ -7,5 +7,6 @@ use Rattle.meaning.specs.OpenedBooks.{names_at}
 use Rattle.names.proofs.constants.six.Goals as goal
 
 pub returns : goal.returns
+unfolding names english bytes names_at
 returns c =
     record { short = omega arith; inside = omega arith; held = refl }

@@ -7,6 +7,7 @@ use Rattle.meaning.specs.OpenedBooks.{names_at}
 use Rattle.names.proofs.constants.twelve.Goals as goal
 
 pub returns : goal.returns
+unfolding names english bytes names_at
 returns c =
     record {
       wide = record { short = omega arith; inside = omega arith; held = refl };

@@ -21,4 +21,4 @@ returns c =
     let a = c.args in
     let e : c.four.result + 4294967296 * c.four-2.result ≡ number_of (take 8 (drop a.at a.text.now)) =
     omega (arith, number_at a.at a.text.now) in
-    rw e (bytes-taken a.at a.text.now (λ i. omega (arith, c.shared-slice-known9.given i)))
+    rw e (bytes-taken a.at a.text.now (λ i. omega (arith, c.type_inv.text i)))

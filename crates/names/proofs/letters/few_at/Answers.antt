@@ -23,7 +23,7 @@ pub overflow_mul-number : goal.overflow_mul-number
 overflow_mul-number c = omega (arith, few c.args.text.now c.loop-i.i (omega arith))
 
 pub overflow_add-number : goal.overflow_add-number
-overflow_add-number c = omega (arith, c.shared-slice-known2.given (c.loop-i.i - 1), few c.args.text.now c.loop-i.i (omega arith))
+overflow_add-number c = omega (arith, c.type_inv.text (c.loop-i.i - 1), few c.args.text.now c.loop-i.i (omega arith))
 
 pub loop-i-preserved : goal.loop-i-preserved
 loop-i-preserved c =
@@ -31,7 +31,7 @@ loop-i-preserved c =
     let t = c.args.text.now in
     let e : L.i ≡ suc (L.i - 1) = omega arith in
     let turn =
-    few-turn t (L.i - 1) L.number (omega arith) (omega (arith, c.shared-slice-known2.given (L.i - 1))) (rw (← e) L.invariant.2)
+    few-turn t (L.i - 1) L.number (omega arith) (omega (arith, c.type_inv.text (L.i - 1))) (rw (← e) L.invariant.2)
     (rw (← e) L.invariant.3) in
     (omega arith, omega arith, rw c.wide.ensures turn.0, rw c.wide.ensures turn.1)
 

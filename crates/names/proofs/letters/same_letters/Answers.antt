@@ -15,3 +15,12 @@ returns-then-spelt-lt9 c =
     let a = m.args in
     begins-few a.spelt.length a.first a.at a.text.now (omega arith) (omega arith) m.requires.2 ∙ c.same_bytes.ensures e
     ∙ sym (first-letters a.spelt.length a.spelt.first (a.spelt.ninth ∷ []) (omega arith))
+
+pub returns : goal.returns
+returns c =
+    λ e.
+    let m = c in
+    let a = m.args in
+    let nine : a.spelt.length ≡ 9 = omega arith in
+    rw (nine, nine-letters a.spelt.first a.spelt.ninth)
+    (begins-nine a.first a.at a.text.now (omega arith) m.requires.2 ∙ rw (eqb-true a.first a.spelt.first e, c.if-text-at-2.false))

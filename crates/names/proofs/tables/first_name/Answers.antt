@@ -19,7 +19,7 @@ names-preserved-then-not-letter_begins c =
     let letter = c.letter_begins in
     let o = c in
     let a = o.args in
-    (search rules, o.names.invariant.1 ∙ next-name a.most a.count a.rows.now a.text.now _ (omega arith) (other-letter _ _ (sym letter.ensures ∙ not-true letter.result c.if-not-letter_begins.true)))
+    (search rules, o.names.invariant.1 ∙ next-name a.most a.count a.rows.now a.text.now _ (omega arith) (other-letter _ _ (sym letter.ensures ∙ c.if-not-letter_begins.true)))
 
 pub loop-j-init : goal.loop-j-init
 loop-j-init c =

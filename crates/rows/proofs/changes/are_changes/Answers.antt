@@ -9,7 +9,7 @@ use Rattle.rows.specs.Changes.{are_changes}
 use Rattle.rows.proofs.changes.are_changes.Goals as goal
 
 -- four more numbers are there
-inside : (c : goal.In-loop-at invariant-loop decreases-loop) → c.loop-at.at + 4 ≤ length c.args.row.now
+inside : (c : goal.In-loop-at) → c.loop-at.at + 4 ≤ length c.args.row.now
 inside c = omega (arith, c.loop-at-test.true, c.loop-at.invariant.1, c.loop-at.invariant.2, c.if-row-ne0.false)
 
 pub returns-then-row-ne0 : goal.returns-then-row-ne0
@@ -25,7 +25,7 @@ pub returns-then-not-is_change : goal.returns-then-not-is_change
 returns-then-not-is_change c =
     let l = c in
     let row = l.args.row.now in
-    let not = sym c.is_change.ensures ∙ not-true c.is_change.result c.if-not-is_change.true in
+    let not = sym c.is_change.ensures ∙ c.if-not-is_change.true in
     sym (sym l.loop-at.invariant.0 ∙ are-not row l.loop-at.at (inside c.before) not)
 
 pub overflow_add-at : goal.overflow_add-at
@@ -38,7 +38,7 @@ pub loop-at-preserved : goal.loop-at-preserved
 loop-at-preserved c =
     let l = c in
     let row = l.args.row.now in
-    let is = sym c.is_change.ensures ∙ not-false c.is_change.result c.if-not-is_change.false in
+    let is = sym c.is_change.ensures ∙ c.if-not-is_change.false in
     (are-on row l.loop-at.at (inside c.before) is ∙ l.loop-at.invariant.0, inside c.before, omega (arith, l.loop-at.invariant.2))
 
 pub returns : goal.returns

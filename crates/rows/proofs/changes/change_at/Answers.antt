@@ -49,3 +49,6 @@ overflow_cast-result-4 c =
     let z = entry_at s.args.row.now (s.args.at + 3) in
     let fits : SFits w64 z = record { sfits = c.t20.given } in
     rw (to_z-of_z w64 z fits) (not_negative z (four s).3, Fits-nat_abs tt fits)
+
+pub offset_bounds-row-at : goal.offset_bounds-row-at
+offset_bounds-row-at c = search rules

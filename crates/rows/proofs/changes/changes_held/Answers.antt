@@ -11,12 +11,12 @@ use Rattle.rows.specs.Changes.{are_changes, changes_held, change_at}
 use Rattle.rows.proofs.changes.changes_held.Goals as goal
 
 -- four more numbers are there, and an entry for them
-inside : (c : goal.In-loop-used invariant-loop decreases-loop) → 4 * c.loop-used.used + 4 ≤ length c.args.row.now
+inside : (c : goal.In-loop-used) → 4 * c.loop-used.used + 4 ≤ length c.args.row.now
 inside c =
     let l = c in
     four-left l.args.row.now (4 * l.loop-used.used) l.loop-used.invariant.1 c.loop-used-test.true
 
-few : (c : goal.In-loop-used invariant-loop decreases-loop) → c.loop-used.used < 128
+few : (c : goal.In-loop-used) → c.loop-used.used < 128
 few c = omega (arith, inside c, c.requires.0)
 
 pub loop-used-init : goal.loop-used-init

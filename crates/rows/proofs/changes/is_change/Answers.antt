@@ -33,18 +33,18 @@ before-told c =
     c.is_count-2.ensures ∙ ap is_count (to_z-of_z w64 z (record { sfits = c.is-count-arg2.given }))
 
 pub returns-then-not-is_count : goal.returns-then-not-is_count
-returns-then-not-is_count c = rw (sym (place-told c.before) ∙ not-true c.is_count.result c.if-not-is_count.true)
+returns-then-not-is_count c = rw (sym (place-told c.before) ∙ c.if-not-is_count.true)
 
 pub returns-then-not-is_byte : goal.returns-then-not-is_byte
 returns-then-not-is_byte c =
     let first = c in
-    rw (sym (place-told first.before) ∙ not-false first.is_count.result first.if-not-is_count.false, sym (byte-told c.before) ∙ not-true c.is_byte_lem.result c.if-not-is_byte.true)
+    rw (sym (place-told first.before) ∙ first.if-not-is_count.false, sym (byte-told c.before) ∙ c.if-not-is_byte.true)
 
 pub returns-then-not-is_count-2 : goal.returns-then-not-is_count-2
 returns-then-not-is_count-2 c =
     let second = c in
     let first = second in
-    rw (sym (place-told first.before) ∙ not-false first.is_count.result first.if-not-is_count.false, sym (byte-told second.before) ∙ not-false second.is_byte_lem.result second.if-not-is_byte.false, sym (before-told c.before) ∙ not-true c.is_count-2.result c.if-not-is_count-2.true)
+    rw (sym (place-told first.before) ∙ first.if-not-is_count.false, sym (byte-told second.before) ∙ second.if-not-is_byte.false, sym (before-told c.before) ∙ c.if-not-is_count-2.true)
 
 pub returns : goal.returns
 returns c =
@@ -53,5 +53,5 @@ returns c =
     let first = second in
     let a = first.args in
     let z = entry_at a.row.now (a.at + 3) in
-    rw (sym (place-told first.before) ∙ not-false first.is_count.result first.if-not-is_count.false, sym (byte-told second.before) ∙ not-false second.is_byte_lem.result second.if-not-is_byte.false, sym (before-told third.before) ∙ not-false third.is_count-2.result third.if-not-is_count-2.false)
+    rw (sym (place-told first.before) ∙ first.if-not-is_count.false, sym (byte-told second.before) ∙ second.if-not-is_byte.false, sym (before-told third.before) ∙ third.if-not-is_count-2.false)
     (c.is_count-3.ensures ∙ ap is_count (to_z-of_z w64 z (record { sfits = c.is-count-arg3.given })))

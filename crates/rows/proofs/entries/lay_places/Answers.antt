@@ -16,7 +16,7 @@ pub loop-j-init : goal.loop-j-init
 loop-j-init c = (rw add-zero, omega arith, refl)
 
 pub overflow_cast-row : goal.overflow_cast-row
-overflow_cast-row c = record { sfits = omega (arith, c.shared-slice-known.given c.loop-j.j) }
+overflow_cast-row c = record { sfits = omega (arith, c.type_inv.places c.loop-j.j) }
 
 pub loop-j-preserved : goal.loop-j-preserved
 loop-j-preserved c =
@@ -24,7 +24,7 @@ loop-j-preserved c =
     let a = c.args in
     let places = a.places.now in
     let numbers = map pos places in
-    let small = c.shared-slice-known.given L.j in
+    let small = c.type_inv.places L.j in
     let there : L.j < length numbers = omega (arith, length-map places pos, c.loop-j-test.true) in
     rw (to_z_pos w64 {n = get_or places L.j 0} (omega arith), ← get_or-map pos places L.j 0)
     (lay-next L.row a.at numbers L.j (pos 0) there ∙ L.invariant.0, omega arith, length-set L.row (a.at + L.j) _ ∙ L.invariant.2)

@@ -4,13 +4,16 @@ use Rattle.meaning.specs.Rules.{rule_of, pick, otherwise_rule}
 use Rattle.rules.proofs.date.era.Goals as goal
 
 pub returns-then-count-le3 : goal.returns-then-count-le3
+unfolding rule_of pick otherwise_rule
 returns-then-count-le3 c =
     search chosen
 
 pub returns-then-count-eq5 : goal.returns-then-count-eq5
+unfolding rule_of pick otherwise_rule
 returns-then-count-eq5 c =
     search chosen
 
 pub returns : goal.returns
+unfolding rule_of pick otherwise_rule
 returns c =
     search chosen

@@ -4,21 +4,26 @@ use Rattle.meaning.specs.Rules.{rule_of, pick, otherwise_rule}
 use Rattle.rules.proofs.date.year.Goals as goal
 
 pub returns-then-count-eq2 : goal.returns-then-count-eq2
+unfolding rule_of pick otherwise_rule
 returns-then-count-eq2 c =
     search chosen
 
 pub returns-then-count-eq1 : goal.returns-then-count-eq1
+unfolding rule_of pick otherwise_rule
 returns-then-count-eq1 c =
     search chosen
 
 pub returns-then-count-eq3 : goal.returns-then-count-eq3
+unfolding rule_of pick otherwise_rule
 returns-then-count-eq3 c =
     search chosen
 
 pub returns-then-count-eq4 : goal.returns-then-count-eq4
+unfolding rule_of pick otherwise_rule
 returns-then-count-eq4 c =
     search chosen
 
 pub returns : goal.returns
+unfolding rule_of pick otherwise_rule
 returns c =
     search chosen

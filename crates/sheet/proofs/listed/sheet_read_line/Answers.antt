@@ -19,13 +19,13 @@ returns-then-choices-gt7 c =
 pub returns-then-not-is_book : goal.returns-then-not-is_book
 returns-then-not-is_book c =
     let a = c.args in
-    rw (le-leb a.choices 7 (omega arith), sym c.is_book.ensures ∙ not-true c.is_book.result c.if-not-is_book.true) (record { number = refl; row = refl })
+    rw (le-leb a.choices 7 (omega arith), sym c.is_book.ensures ∙ c.if-not-is_book.true) (record { number = refl; row = refl })
 
 pub returns-then-answer-lt51 : goal.returns-then-answer-lt51
 returns-then-answer-lt51 c =
     let m = c in
     let a = m.args in
-    rw (le-leb a.choices 7 (omega arith), sym m.is_book.ensures ∙ not-false m.is_book.result m.if-not-is_book.false, lt-leb 51 (length a.answer.now) (omega arith))
+    rw (le-leb a.choices 7 (omega arith), sym m.is_book.ensures ∙ m.if-not-is_book.false, lt-leb 51 (length a.answer.now) (omega arith))
     (record { number = refl; row = refl })
 
 pub returns-then-text-at : goal.returns-then-text-at
@@ -33,7 +33,7 @@ returns-then-text-at c =
     let room = c in
     let m = room in
     let a = m.args in
-    rw (le-leb a.choices 7 (omega arith), sym m.is_book.ensures ∙ not-false m.is_book.result m.if-not-is_book.false, le-leb 51 (length a.answer.now) (omega (arith, room.if-answer-lt51.false)), no-line-read (choices_of a.choices) (book_in a.book.now) a.pattern.now a.text.now a.year a.at (omega arith))
+    rw (le-leb a.choices 7 (omega arith), sym m.is_book.ensures ∙ m.if-not-is_book.false, le-leb 51 (length a.answer.now) (omega (arith, room.if-answer-lt51.false)), no-line-read (choices_of a.choices) (book_in a.book.now) a.pattern.now a.text.now a.year a.at (omega arith))
     (record { number = refl; row = refl })
 
 pub returns : goal.returns
@@ -43,5 +43,5 @@ returns c =
     let s = m in
     let a = s.args in
     let line = rw (to_z-of_z w32 a.year s.ranges.year, c.choices_of.ensures) at c.give_line.ensures in
-    rw (le-leb a.choices 7 (omega arith), sym m.is_book.ensures ∙ not-false m.is_book.result m.if-not-is_book.false, le-leb 51 (length a.answer.now) (omega (arith, room.if-answer-lt51.false)))
+    rw (le-leb a.choices 7 (omega arith), sym m.is_book.ensures ∙ m.if-not-is_book.false, le-leb 51 (length a.answer.now) (omega (arith, room.if-answer-lt51.false)))
     line

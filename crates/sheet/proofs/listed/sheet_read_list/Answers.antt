@@ -20,13 +20,13 @@ returns-then-choices-gt7 c =
 pub returns-then-not-is_book : goal.returns-then-not-is_book
 returns-then-not-is_book c =
     let a = c.args in
-    rw (le-leb a.choices 7 (omega arith), sym c.is_book.ensures ∙ not-true c.is_book.result c.if-not-is_book.true) (record { number = refl; row = refl }, refl)
+    rw (le-leb a.choices 7 (omega arith), sym c.is_book.ensures ∙ c.if-not-is_book.true) (record { number = refl; row = refl }, refl)
 
 pub returns-then-answer-lt2 : goal.returns-then-answer-lt2
 returns-then-answer-lt2 c =
     let m = c in
     let a = m.args in
-    rw (le-leb a.choices 7 (omega arith), sym m.is_book.ensures ∙ not-false m.is_book.result m.if-not-is_book.false, lt-leb 2 (length a.answer.now) (omega arith))
+    rw (le-leb a.choices 7 (omega arith), sym m.is_book.ensures ∙ m.if-not-is_book.false, lt-leb 2 (length a.answer.now) (omega arith))
     (record { number = refl; row = refl }, refl)
 
 pub give_listed-requires : goal.give_listed-requires
@@ -46,5 +46,5 @@ returns c =
     let s = m in
     let a = s.args in
     let reads = rw (to_z-of_z w32 a.year s.ranges.year, l.choices_of-choices.ensures) at l.read_list.ensures in
-    rw (le-leb a.choices 7 (omega arith), sym m.is_book.ensures ∙ not-false m.is_book.result m.if-not-is_book.false, le-leb 2 (length a.answer.now) (omega (arith, room.if-answer-lt2.false)), ← reads.0.whole)
+    rw (le-leb a.choices 7 (omega arith), sym m.is_book.ensures ∙ m.if-not-is_book.false, le-leb 2 (length a.answer.now) (omega (arith, room.if-answer-lt2.false)), ← reads.0.whole)
     (c.give_listed.ensures, reads.1)

@@ -20,11 +20,11 @@ returns-then-changes-gt512 c =
 pub returns-then-not-are_changes : goal.returns-then-not-are_changes
 returns-then-not-are_changes c =
     let a = c.args in
-    let none = sym c.are_changes.ensures ∙ not-true c.are_changes.result c.if-not-are_changes.true in
+    let none = sym c.are_changes.ensures ∙ c.if-not-are_changes.true in
     rw (le-leb 2 (length a.answer.now) (omega arith), le-leb (length a.changes.now) 512 (omega arith), none) (record { number = refl; row = refl }, refl)
 
 pub changes_held-requires : goal.changes_held-requires
-changes_held-requires c = (omega arith, sym c.are_changes.ensures ∙ not-false c.are_changes.result c.if-not-are_changes.false)
+changes_held-requires c = (omega arith, sym c.are_changes.ensures ∙ c.if-not-are_changes.false)
 
 pub give_undone-requires : goal.give_undone-requires
 give_undone-requires c =
@@ -39,6 +39,6 @@ returns c =
     let held = u in
     let e = held in
     let a = e.args in
-    let some = sym e.are_changes.ensures ∙ not-false e.are_changes.result e.if-not-are_changes.false in
+    let some = sym e.are_changes.ensures ∙ e.if-not-are_changes.false in
     let undone = rw held.changes_held.ensures at u.undo.ensures in
     rw (le-leb 2 (length a.answer.now) (omega arith), le-leb (length a.changes.now) 512 (omega arith), some, ← undone.0) (c.give_undone.ensures, undone.1)

@@ -8,12 +8,12 @@ use borrow.Author.Rules.{rules}
 use Rattle.sheet.proofs.named.sheet_book_write.Goals as goal
 
 pub returns-then-not-is_book : goal.returns-then-not-is_book
-returns-then-not-is_book c = rw (sym c.is_book.ensures ∙ not-true c.is_book.result c.if-not-is_book.true) (record { number = refl; row = refl }, refl)
+returns-then-not-is_book c = rw (sym c.is_book.ensures ∙ c.if-not-is_book.true) (record { number = refl; row = refl }, refl)
 
 pub returns-then-answer-lt2 : goal.returns-then-answer-lt2
 returns-then-answer-lt2 c =
     let a = c.args in
-    rw (sym c.is_book.ensures ∙ not-false c.is_book.result c.if-not-is_book.false, lt-leb 2 (length a.answer.now) (omega arith)) (record { number = refl; row = refl }, refl)
+    rw (sym c.is_book.ensures ∙ c.if-not-is_book.false, lt-leb 2 (length a.answer.now) (omega arith)) (record { number = refl; row = refl }, refl)
 
 pub give_wrote-requires : goal.give_wrote-requires
 give_wrote-requires c =
@@ -27,4 +27,4 @@ returns c =
     let s = c in
     let wrote = c.write_book.ensures in
     let m = c in
-    rw (sym m.is_book.ensures ∙ not-false m.is_book.result m.if-not-is_book.false, le-leb 2 (length s.args.answer.now) (omega (arith, m.if-answer-lt2.false)), ← wrote.0.whole) (c.give_wrote.ensures, wrote.1)
+    rw (sym m.is_book.ensures ∙ m.if-not-is_book.false, le-leb 2 (length s.args.answer.now) (omega (arith, m.if-answer-lt2.false)), ← wrote.0.whole) (c.give_wrote.ensures, wrote.1)

@@ -22,7 +22,7 @@ returns-then-not-is_book c =
     let a = c.args in
     let n = a.choices in
     chosen (of_reading n) a.answer.now _ (le-leb n 7 (omega arith))
-    (no-book (is_book a.book.now) a.answer.now _ (sym c.is_book.ensures ∙ not-true c.is_book.result c.if-not-is_book.true))
+    (no-book (is_book a.book.now) a.answer.now _ (sym c.is_book.ensures ∙ c.if-not-is_book.true))
 
 pub returns : goal.returns
 returns c =
@@ -32,4 +32,4 @@ returns c =
     let n = a.choices in
     let read = rw (to_z-of_z w32 a.year s.ranges.year, c.choices_of.ensures) at c.read.ensures in
     chosen (of_reading n) a.answer.now (if_book (is_book a.book.now) (read_of (choices_of n) (book_in a.book.now) a.pattern.now a.text.now a.year a.answer.now)) (le-leb n 7 (omega arith))
-    (by-book (is_book a.book.now) a.answer.now (read_of (choices_of n) (book_in a.book.now) a.pattern.now a.text.now a.year a.answer.now) (sym m.is_book.ensures ∙ not-false m.is_book.result m.if-not-is_book.false) read)
+    (by-book (is_book a.book.now) a.answer.now (read_of (choices_of n) (book_in a.book.now) a.pattern.now a.text.now a.year a.answer.now) (sym m.is_book.ensures ∙ m.if-not-is_book.false) read)

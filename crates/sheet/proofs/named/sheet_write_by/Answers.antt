@@ -15,7 +15,7 @@ returns-then-choices-gt7 c =
 pub returns-then-not-is_book : goal.returns-then-not-is_book
 returns-then-not-is_book c =
     let a = c.args in
-    rw (le-leb a.choices 7 (omega arith), sym c.is_book.ensures ∙ not-true c.is_book.result c.if-not-is_book.true) (record { number = refl; row = refl }, refl)
+    rw (le-leb a.choices 7 (omega arith), sym c.is_book.ensures ∙ c.if-not-is_book.true) (record { number = refl; row = refl }, refl)
 
 pub returns : goal.returns
 returns c =
@@ -23,4 +23,4 @@ returns c =
     let s = m in
     let a = s.args in
     let wrote = rw (to_z-of_z w32 a.year s.ranges.year, to_z-of_z w32 a.offset s.ranges.offset, c.pair_of.ensures) at c.write.ensures in
-    rw (le-leb a.choices 7 (omega arith), sym m.is_book.ensures ∙ not-false m.is_book.result m.if-not-is_book.false) wrote
+    rw (le-leb a.choices 7 (omega arith), sym m.is_book.ensures ∙ m.if-not-is_book.false) wrote

@@ -12,16 +12,16 @@ pub returns-then-choices-gt7 : goal.returns-then-choices-gt7
 returns-then-choices-gt7 c = rw (lt-leb c.args.choices 7 (omega arith)) (record { number = refl; row = refl })
 
 pub returns-then-not-is_book : goal.returns-then-not-is_book
-returns-then-not-is_book c = rw (le-leb c.args.choices 7 (omega arith), sym c.is_book.ensures ∙ not-true c.is_book.result c.if-not-is_book.true) (record { number = refl; row = refl })
+returns-then-not-is_book c = rw (le-leb c.args.choices 7 (omega arith), sym c.is_book.ensures ∙ c.if-not-is_book.true) (record { number = refl; row = refl })
 
 pub returns-then-answer-lt48 : goal.returns-then-answer-lt48
 returns-then-answer-lt48 c =
     let a = c.args in
-    rw (le-leb a.choices 7 (omega arith), sym c.is_book.ensures ∙ not-false c.is_book.result c.if-not-is_book.false, lt-leb 48 (length a.answer.now) (omega arith)) (record { number = refl; row = refl })
+    rw (le-leb a.choices 7 (omega arith), sym c.is_book.ensures ∙ c.if-not-is_book.false, lt-leb 48 (length a.answer.now) (omega arith)) (record { number = refl; row = refl })
 
 pub returns : goal.returns
 returns c =
     let s = c in
     let a = s.args in
     let reads = rw (to_z-of_z w32 a.year s.ranges.year, c.choices_of.ensures) at c.read.ensures in
-    rw (le-leb a.choices 7 (omega arith), sym c.is_book.ensures ∙ not-false c.is_book.result c.if-not-is_book.false, le-leb 48 (length a.answer.now) (omega (arith, c.if-answer-lt48.false))) reads
+    rw (le-leb a.choices 7 (omega arith), sym c.is_book.ensures ∙ c.if-not-is_book.false, le-leb 48 (length a.answer.now) (omega (arith, c.if-answer-lt48.false))) reads

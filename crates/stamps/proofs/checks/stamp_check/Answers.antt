@@ -35,7 +35,7 @@ digits-by c =
     rw (to_z-of_z fits) at c.has_four_digits.ensures
 
 year : (c : goal.Else-not-has_four_digits) → four_digits (start (at_fields c)).args.t.year ≡ true
-year c = sym (digits-by c.before) ∙ not-false c.has_four_digits.result c.if-not-has_four_digits.false
+year c = sym (digits-by c.before) ∙ c.if-not-has_four_digits.false
 
 checked-day : (c : goal.After-day_check) → let t = (start (at_fields c.before)).args.t in
     c.day_check.result ≡ day_check t.year t.month t.day
@@ -59,7 +59,7 @@ returns-in-Refused c =
 pub returns-then-not-has_four_digits : goal.returns-then-not-has_four_digits
 returns-then-not-has_four_digits c =
     let told = c in
-    sym (year-refused (start told).args.t (fields told) (sym (digits-by c.before) ∙ not-true c.has_four_digits.result c.if-not-has_four_digits.true))
+    sym (year-refused (start told).args.t (fields told) (sym (digits-by c.before) ∙ c.if-not-has_four_digits.true))
 
 pub day_check-requires : goal.day_check-requires
 day_check-requires c =
@@ -83,11 +83,17 @@ returns-then-not-is_written c =
     let numbered = c in
     let first = at-year numbered in
     let told = at_fields first in
-    sym (offset-refused (start told).args.t (fields told) (year first) (day numbered) (sym c.is_written.ensures ∙ not-true c.is_written.result c.if-not-is_written.true))
+    sym (offset-refused (start told).args.t (fields told) (year first) (day numbered) (sym c.is_written.ensures ∙ c.if-not-is_written.true))
 
 pub returns : goal.returns
 returns c =
     let numbered = c in
     let first = at-year numbered in
     let told = at_fields first in
-    sym (none-refused (start told).args.t (fields told) (year first) (day numbered) (sym c.is_written.ensures ∙ not-false c.is_written.result c.if-not-is_written.false))
+    sym (none-refused (start told).args.t (fields told) (year first) (day numbered) (sym c.is_written.ensures ∙ c.if-not-is_written.false))
+
+pub fields_of-requires : goal.fields_of-requires
+fields_of-requires c = search rules
+
+pub is_written-requires : goal.is_written-requires
+is_written-requires c = search rules

@@ -57,3 +57,6 @@ returns-else-next-text c =
     let h = c in
     let n = at-fraction h in
     rw c.Parts-in.ensures (ap scanned_by (sym (all_read (start (at_place n)).args.text.now (placed (at_place n)) (fraction n) (offset h) c.if-next-text.false)))
+
+pub optional_secfrac-requires : goal.optional_secfrac-requires
+optional_secfrac-requires c = search rules

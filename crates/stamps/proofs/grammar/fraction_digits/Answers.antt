@@ -13,15 +13,15 @@ use Rattle.stamps.specs.Fractions.{weight as weight_of}
 use Rattle.stamps.proofs.grammar.fraction_digits.Goals as goal
 
 -- a turn: its digit, and what that one and those behind it weigh
-module _ (c : goal.After-digit_value invariant-loop decreases-loop) where
-  abbrev start : goal.Start invariant-loop decreases-loop
+module _ (c : goal.After-digit_value) where
+  abbrev start : goal.Start
   start = c.before
 
-  abbrev turn : goal.At-loop-i invariant-loop decreases-loop
+  abbrev turn : goal.At-loop-i
   turn = c.before
 
   digit : is_digit (get_or start.args.text.now turn.loop-i.i 0) ≡ true
-  digit = sym c.is_digit.ensures ∙ not-false c.is_digit.result c.if-not-is_digit.false
+  digit = sym c.is_digit.ensures ∙ c.if-not-is_digit.false
 
   weighed : turn.loop-i.nanos + c.digit_value.result * turn.loop-i.weight + weighted (9 - (turn.loop-i.i + 1 - start.args.at)) (drop (turn.loop-i.i + 1) start.args.text.now) ≡ weighted 9 (drop start.args.at start.args.text.now)
   weighed =
@@ -39,11 +39,11 @@ returns-then-not-is_digit c =
     let a = c.args in
     let L = c.loop-i in
     let s = a.text.now in
-    let no = sym c.is_digit.ensures ∙ not-true c.is_digit.result c.if-not-is_digit.true in
+    let no = sym c.is_digit.ensures ∙ c.if-not-is_digit.true in
     (omega (arith, L.invariant.3, weighs-none s L.i (omega arith) (9 - (L.i - a.at)) no), sym (run_ends s L.i (omega arith) no) ∙ L.invariant.4)
 
 pub digit_value-requires : goal.digit_value-requires
-digit_value-requires c = sym c.is_digit.ensures ∙ not-false c.is_digit.result c.if-not-is_digit.false
+digit_value-requires c = sym c.is_digit.ensures ∙ c.if-not-is_digit.false
 
 pub overflow_mul-nanos : goal.overflow_mul-nanos
 overflow_mul-nanos c = record { fits = omega (arith, weighed c, weighted-small 9 (drop (start c).args.at (start c).args.text.now)) }

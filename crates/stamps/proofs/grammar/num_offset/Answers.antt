@@ -17,7 +17,7 @@ abbrev start-2 : goal.Else-not-is_sign → goal.Start
 start-2 c = c.before
 
 sign : (c : goal.Else-not-is_sign) → is_sign (get_or (start-2 c).args.text.now (start-2 c).args.at 0) ≡ true
-sign c = sym c.is_sign.ensures ∙ not-false c.is_sign.result c.if-not-is_sign.false
+sign c = sym c.is_sign.ensures ∙ c.if-not-is_sign.false
 
 taken : (c : goal.Else-wrong-at) → first_wrong 5 11 ((start-2 c.before).args.at + 1) (start-2 c.before).args.text.now ≡ (start-2 c.before).args.at + 1 + 5
 taken c = omega (arith, c.first_wrong-wrong.ensures, c.if-wrong-at.false)
@@ -30,7 +30,7 @@ returns-then-text-at c =
 pub returns-then-not-is_sign : goal.returns-then-not-is_sign
 returns-then-not-is_sign c =
     let a = c.args in
-    ap zone_by (sym (sign-halts a.text.now a.at (sym c.is_sign.ensures ∙ not-true c.is_sign.result c.if-not-is_sign.true)))
+    ap zone_by (sym (sign-halts a.text.now a.at (sym c.is_sign.ensures ∙ c.if-not-is_sign.true)))
 
 pub returns-then-wrong-at : goal.returns-then-wrong-at
 returns-then-wrong-at c =
@@ -56,3 +56,6 @@ returns c =
     let a = (start-2 before.before).args in
     rw (c.pair_at.ensures, c.pair_at-2.ensures)
     (ap zone_by (sym (shift-read a.text.now a.at (sign before.before) (omega (arith, taken before)))))
+
+pub overflow_add-at : goal.overflow_add-at
+overflow_add-at c = search rules

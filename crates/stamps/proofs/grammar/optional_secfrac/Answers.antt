@@ -38,3 +38,6 @@ returns c =
     let a = (start-2 digits.before).args in
     let e = digits.fraction_digits-found.ensures in
     rw (e.0, e.1) (ap fraction_by (sym (digits-read a.text.now a.at (point digits.before) (λ q. c.if-found-first.false (e.1 ∙ q)))))
+
+pub overflow_add-first : goal.overflow_add-first
+overflow_add-first c = search rules

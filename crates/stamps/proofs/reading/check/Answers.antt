@@ -17,7 +17,7 @@ abbrev start-1 : goal.Else-not-in_range → goal.Start
 start-1 c = c.before
 
 range : (c : goal.Else-not-in_range) → in_range (date_time_of (start-1 c).args.t) ≡ true
-range c = sym c.in_range.ensures ∙ not-false c.in_range.result c.if-not-in_range.false
+range c = sym c.in_range.ensures ∙ c.if-not-in_range.false
 
 abbrev first_of : goal.Else-t-eq0 → goal.Else-not-in_range
 first_of c = c.before
@@ -28,7 +28,7 @@ day-is c = day-left (date_time_of (start-1 (first_of c)).args.t) (range (first_o
 
 pub returns-then-not-in_range : goal.returns-then-not-in_range
 returns-then-not-in_range c =
-    sym (range-refused (date_time_of c.args.t) (sym c.in_range.ensures ∙ not-true c.in_range.result c.if-not-in_range.true))
+    sym (range-refused (date_time_of c.args.t) (sym c.in_range.ensures ∙ c.if-not-in_range.true))
 
 pub returns-then-t-eq60 : goal.returns-then-t-eq60
 returns-then-t-eq60 c =
@@ -49,3 +49,6 @@ day_check-requires c =
 
 pub returns : goal.returns
 returns c = c.day_check.ensures ∙ sym (day-is c.before)
+
+pub in_range-requires : goal.in_range-requires
+in_range-requires c = search rules

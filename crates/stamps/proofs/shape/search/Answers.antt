@@ -16,13 +16,13 @@ pub returns-then-not-fits : goal.returns-then-not-fits
 returns-then-not-fits c =
     let a = c.args in
     let L = c.loop-i in
-    sym (wrong-found a.count a.shape a.at L.i a.text.now (omega arith) (sym c.fits2.ensures ∙ not-true c.fits2.result c.if-not-fits.true)) ∙ L.invariant.1
+    sym (wrong-found a.count a.shape a.at L.i a.text.now (omega arith) (sym c.fits2.ensures ∙ c.if-not-fits.true)) ∙ L.invariant.1
 
 pub loop-i-preserved : goal.loop-i-preserved
 loop-i-preserved c =
     let a = c.args in
     let L = c.loop-i in
-    (omega arith, wrong-next a.count a.shape a.at L.i a.text.now (omega arith) (sym c.fits2.ensures ∙ not-false c.fits2.result c.if-not-fits.false) ∙ L.invariant.1)
+    (omega arith, wrong-next a.count a.shape a.at L.i a.text.now (omega arith) (sym c.fits2.ensures ∙ c.if-not-fits.false) ∙ L.invariant.1)
 
 pub returns : goal.returns
 returns c =

@@ -33,9 +33,9 @@ returns c =
     let year = c.year_at-year in
     let month = c.two_at-month in
     let day = c.two_at-day in
-    let below = c.all_below.ensures (not-false _ c.if-not-all_below.false) in
+    let below = c.all_below.ensures (c.if-not-all_below.false) in
     let there : end + 6 ≤ length text = c.if-text-end.false in
-    let bytes = c.between.ensures (not-false _ c.if-not-between.false) in
+    let bytes = c.between.ensures (c.if-not-between.false) in
     let back = c.pass_behind-next.ensures c.if-next-gt2048.false in
     let kept = c.keep_three.ensures in
     hot-three a.choices a.w text (long_year 4) (short_rule short.Month 2) (short_rule short.Day 2) (λ row. date-steps a.w row s.requires.0)

@@ -32,9 +32,9 @@ returns c =
     let hour = c.two_at-hour in
     let minute = c.two_at-minute in
     let second = c.two_at-second in
-    let below = c.all_below.ensures (not-false _ c.if-not-all_below.false) in
+    let below = c.all_below.ensures (c.if-not-all_below.false) in
     let there : end + 6 ≤ length text = c.if-text-end.false in
-    let bytes = c.between.ensures (not-false _ c.if-not-between.false) in
+    let bytes = c.between.ensures (c.if-not-between.false) in
     let back = c.pass_behind-next.ensures c.if-next-gt2048.false in
     let kept = c.keep_three.ensures in
     hot-three a.choices a.w text (short_rule short.Hour 2) (short_rule short.Minute 2) (short_rule short.Second 2) (λ row. time-steps a.w row s.requires.0)

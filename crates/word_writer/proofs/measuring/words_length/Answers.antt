@@ -9,7 +9,7 @@ use Rattle.word_writer.specs.Written.{word_text, words_text}
 use Rattle.word_writer.proofs.measuring.words_length.Goals as goal
 
 -- the whole text is as long as what is counted, the next word's and that of the words behind it
-parted : (c : goal.In-loop-i invariant-loop decreases-loop) →
+parted : (c : goal.In-loop-i) →
     let a = c.args in
     let L = c.loop-i in
     L.n + (length (word_text a.book.now a.tail.now a.f (get_or a.tail.now L.i 0)) + length (words_text a.book.now a.tail.now a.f (drop (L.i + 1) (take a.used a.tail.now))))
@@ -47,3 +47,6 @@ returns c =
     let a = start.args in
     let L = c.loop-i in
     omega (arith, rw (no_word (book_in a.book.now) a.tail.now a.f a.used start.requires.1.0 L.i c.loop-i-test.false) at L.invariant)
+
+pub offset_bounds-tail-i : goal.offset_bounds-tail-i
+offset_bounds-tail-i c = search rules

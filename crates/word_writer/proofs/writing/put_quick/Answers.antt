@@ -153,3 +153,21 @@ returns-in-10 c =
 
 pub returns-in_default : goal.returns-in_default
 returns-in_default c = rw (date c.before).3 (laid_then c.put_four-next-in_default.ensures c.put_two_more-in_default.ensures)
+
+pub last_byte-requires : goal.last_byte-requires
+last_byte-requires c = search rules
+
+pub offset_bounds-numbers-short : goal.offset_bounds-numbers-short
+offset_bounds-numbers-short c = search rules
+
+pub offset_bounds-numbers-short-in-4 : goal.offset_bounds-numbers-short-in-4
+offset_bounds-numbers-short-in-4 c = search rules
+
+pub offset_bounds-numbers-year : goal.offset_bounds-numbers-year
+offset_bounds-numbers-year c = search rules
+
+pub offset_bounds-numbers-part : goal.offset_bounds-numbers-part
+offset_bounds-numbers-part c = search rules
+
+pub offset_bounds-numbers-year-in_default : goal.offset_bounds-numbers-year-in_default
+offset_bounds-numbers-year-in_default c = search rules

@@ -90,3 +90,6 @@ returns-in-31 c = rw (held-text c.before) c.put_other.ensures
 
 pub returns-in_default : goal.returns-in_default
 returns-in_default c = rw (other_text_lem c.before) c.put_other-in_default.ensures
+
+pub rule_in-requires : goal.rule_in-requires
+rule_in-requires c = search rules

@@ -15,7 +15,7 @@ use Rattle.word_writer.specs.Written.{word_text, words_text, plain_year, is_quic
 use Rattle.word_writer.proofs.writing.put_words.Goals as goal
 
 -- the text of the words that are left is that of the next, and of those behind it
-next-text : (c : goal.In-loop-i invariant-loop decreases-loop) →
+next-text : (c : goal.In-loop-i) →
     let a = c.args in
     let i = c.loop-i.i in
     let ws = take a.used a.tail.now in
@@ -27,14 +27,14 @@ next-text c =
     next_word (book_in a.book.now) a.tail.now a.f a.used start.requires.1.0 c.loop-i.i c.loop-i-test.true
 
 -- whether the next is quick, and what it writes then
-quick : (c : goal.After-is_quick invariant-loop decreases-loop) →
+quick : (c : goal.After-is_quick) →
     let a = c.args in
     is_quick (plain_year a.f) (get_or a.tail.now c.loop-i.i 0) ≡ c.is_quick.result
 quick c =
     let a = c.args in
     rw (← (numbers-are a.f).year, ← c.Numbers-of.ensures) (sym c.is_quick.ensures)
 
-quickly : (c : goal.Then-is_quick invariant-loop decreases-loop) →
+quickly : (c : goal.Then-is_quick) →
     let a = c.args in
     let w = get_or a.tail.now c.loop-i.i 0 in
     word_text a.book.now a.tail.now a.f w ≡ quick_text c.Numbers-of.result w
@@ -44,7 +44,7 @@ quickly c =
     (quick-word (book_in a.book.now) a.tail.now a.f (get_or a.tail.now c.loop-i.i 0) (quick c.before ∙ c.if-is_quick.true))
 
 -- the next word is laid, quickly or not
-laid : (c : goal.Joined-is_quick invariant-loop decreases-loop) →
+laid : (c : goal.Joined-is_quick) →
     let a = c.args in
     let L = c.loop-i in
     Laid L.out c.if-is_quick.out L.at c.if-is_quick.at (word_text a.book.now a.tail.now a.f (get_or a.tail.now L.i 0))
@@ -54,7 +54,7 @@ laid c =
     (λ w. rw (w.5, w.6) w.2.ensures)
     c.if-is_quick.branch
 
-kept : (c : goal.Joined-is_quick invariant-loop decreases-loop) → length c.if-is_quick.out ≡ length c.loop-i.out
+kept : (c : goal.Joined-is_quick) → length c.if-is_quick.out ≡ length c.loop-i.out
 kept c = ⊎_elim (λ w. rw w.6 w.3.kept.1.1.0) (λ w. rw w.5 w.2.kept.1.1.1.1.0) c.if-is_quick.branch
 
 pub numbers_of-numbers-requires : goal.numbers_of-numbers-requires
@@ -105,3 +105,6 @@ returns c =
     let L = c.loop-i in
     let none = no_word (book_in a.book.now) a.tail.now a.f a.used start.requires.1.0 L.i c.loop-i-test.false in
     record { end = omega (arith, rw none at L.invariant.1); held = rw none at L.invariant.0 }
+
+pub offset_bounds-tail-i : goal.offset_bounds-tail-i
+offset_bounds-tail-i c = search rules

@@ -4,57 +4,71 @@ use Rattle.words.specs.Coding.{quantity_in}
 use Rattle.words.proofs.coding.quantity_in.Goals as goal
 
 pub returns-in-0 : goal.returns-in-0
+unfolding quantity_in
 returns-in-0 c =
     rw c.in-0.is
 
 pub returns-in-1 : goal.returns-in-1
+unfolding quantity_in
 returns-in-1 c =
     rw c.in-1.is
 
 pub returns-in-2 : goal.returns-in-2
+unfolding quantity_in
 returns-in-2 c =
     rw c.in-2.is
 
 pub returns-in-3 : goal.returns-in-3
+unfolding quantity_in
 returns-in-3 c =
     rw c.in-3.is
 
 pub returns-in-4 : goal.returns-in-4
+unfolding quantity_in
 returns-in-4 c =
     rw c.in-4.is
 
 pub returns-in-5 : goal.returns-in-5
+unfolding quantity_in
 returns-in-5 c =
     rw c.in-5.is
 
 pub returns-in-6 : goal.returns-in-6
+unfolding quantity_in
 returns-in-6 c =
     rw c.in-6.is
 
 pub returns-in-7 : goal.returns-in-7
+unfolding quantity_in
 returns-in-7 c =
     rw c.in-7.is
 
 pub returns-in-8 : goal.returns-in-8
+unfolding quantity_in
 returns-in-8 c =
     rw c.in-8.is
 
 pub returns-in-9 : goal.returns-in-9
+unfolding quantity_in
 returns-in-9 c =
     rw c.in-9.is
 
 pub returns-in-10 : goal.returns-in-10
+unfolding quantity_in
 returns-in-10 c =
     rw c.in-10.is
 
 pub returns-in-11 : goal.returns-in-11
+unfolding quantity_in
 returns-in-11 c =
     rw c.in-11.is
 
 pub returns-in-12 : goal.returns-in-12
+unfolding quantity_in
 returns-in-12 c =
     rw c.in-12.is
 
 pub returns-in_default : goal.returns-in_default
+unfolding quantity_in
 returns-in_default c =
     simp (ne_eqb _ _ c.match.rest.0.0.0.0.0.0.0.0.0.0.0.0.1, ne_eqb _ _ c.match.rest.0.0.0.0.0.0.0.0.0.0.0.1, ne_eqb _ _ c.match.rest.0.0.0.0.0.0.0.0.0.0.1, ne_eqb _ _ c.match.rest.0.0.0.0.0.0.0.0.0.1, ne_eqb _ _ c.match.rest.0.0.0.0.0.0.0.0.1, ne_eqb _ _ c.match.rest.0.0.0.0.0.0.0.1, ne_eqb _ _ c.match.rest.0.0.0.0.0.0.1, ne_eqb _ _ c.match.rest.0.0.0.0.0.1, ne_eqb _ _ c.match.rest.0.0.0.0.1, ne_eqb _ _ c.match.rest.0.0.0.1, ne_eqb _ _ c.match.rest.0.0.1, ne_eqb _ _ c.match.rest.0.1, ne_eqb _ _ c.match.rest.1)

@@ -9,7 +9,7 @@ use Rattle.words.specs.Packing.{part_words}
 use Rattle.words.proofs.packing.pack.Goals as goal
 
 -- the part is the pattern's next
-part-next : (c : goal.After-next_part-part invariant-loop decreases-loop) → Next c.args.pattern.now c.loop-place.place c.next_part-part.result
+part-next : (c : goal.After-next_part-part) → Next c.args.pattern.now c.loop-place.place c.next_part-part.result
 part-next c = next c.args.pattern.now c.loop-place.place c.next_part-part.result c.loop-place-test.true c.next_part-part.ensures
 
 pub loop-place-init : goal.loop-place-init

@@ -52,3 +52,6 @@ returns c =
       c.held_word.ensures ∙ rw (held_word inside s.args.lost (s.args.before - n.result) w, n.ensures),
       rw (held-inside inside s.args.lost w) (record { start = rw n.ensures; laid = c.lay_held.ensures }),
     )
+
+pub times_word-requires : goal.times_word-requires
+times_word-requires c = search rules

@@ -13,7 +13,7 @@ pub loop-i-init : goal.loop-i-init
 loop-i-init c = (refl, refl, refl)
 
 pub overflow_cast-tail : goal.overflow_cast-tail
-overflow_cast-tail c = omega (arith, c.shared-slice-known2.given c.loop-i.i)
+overflow_cast-tail c = omega (arith, c.type_inv.src c.loop-i.i)
 
 pub offset_bounds-tail-next : goal.offset_bounds-tail-next
 offset_bounds-tail-next c =

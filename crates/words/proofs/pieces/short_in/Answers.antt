@@ -4,25 +4,31 @@ use Rattle.words.specs.Pieces.{short_in}
 use Rattle.words.proofs.pieces.short_in.Goals as goal
 
 pub returns-in-0 : goal.returns-in-0
+unfolding short_in
 returns-in-0 c =
     rw c.in-0.is
 
 pub returns-in-1 : goal.returns-in-1
+unfolding short_in
 returns-in-1 c =
     rw c.in-1.is
 
 pub returns-in-2 : goal.returns-in-2
+unfolding short_in
 returns-in-2 c =
     rw c.in-2.is
 
 pub returns-in-3 : goal.returns-in-3
+unfolding short_in
 returns-in-3 c =
     rw c.in-3.is
 
 pub returns-in-4 : goal.returns-in-4
+unfolding short_in
 returns-in-4 c =
     rw c.in-4.is
 
 pub returns-in_default : goal.returns-in_default
+unfolding short_in
 returns-in_default c =
     simp (ne_eqb _ _ c.match.rest.0.0.0.0.1, ne_eqb _ _ c.match.rest.0.0.0.1, ne_eqb _ _ c.match.rest.0.0.1, ne_eqb _ _ c.match.rest.0.1, ne_eqb _ _ c.match.rest.1)

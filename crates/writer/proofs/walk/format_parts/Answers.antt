@@ -15,12 +15,12 @@ use Rattle.rules.specs.Steps.{means}
 use Rattle.writer.proofs.walk.format_parts.Goals as goal
 
 -- the part is the pattern's next
-part-next : (c : goal.After-next_part-part invariant-loop decreases-loop) → Next c.args.pattern.now c.loop-place.place c.next_part-part.result
+part-next : (c : goal.After-next_part-part) → Next c.args.pattern.now c.loop-place.place c.next_part-part.result
 part-next c =
     next c.args.pattern.now c.loop-place.place c.next_part-part.result c.loop-place-test.true c.next_part-part.ensures
 
 -- the text of what is left is the step's and that of what is left behind it
-step-text : (c : goal.After-step_of-step invariant-loop decreases-loop) →
+step-text : (c : goal.After-step_of-step) →
     let a = c.args in
     let p = a.pattern.now in
     let place = c.loop-place.place in

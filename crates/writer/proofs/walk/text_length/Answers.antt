@@ -12,12 +12,12 @@ use Rattle.rules.specs.Steps.{means}
 use Rattle.writer.proofs.walk.text_length.Goals as goal
 
 -- the part is the pattern's next
-part-next : (c : goal.After-next_part-part invariant-loop decreases-loop) → Next c.args.pattern.now c.loop-from.from c.next_part-part.result
+part-next : (c : goal.After-next_part-part) → Next c.args.pattern.now c.loop-from.from c.next_part-part.result
 part-next c =
     next c.args.pattern.now c.loop-from.from c.next_part-part.result c.loop-from-test.true c.next_part-part.ensures
 
 -- the whole text is as long as what is counted, the step's text and that of what is left behind it
-parted : (c : goal.After-step_of-step invariant-loop decreases-loop) →
+parted : (c : goal.After-step_of-step) →
     let a = c.args in
     let p = a.pattern.now in
     let L = c.loop-from in
