@@ -1,6 +1,5 @@
 -- `parse_format_string` meets its contract: the parts of a pattern that passes, and none of one that is refused.
 use mathlib.Core.Path.{sym, ◌∙◌}
-use borrow.Author.Rules.{rules}
 use Rattle.laws.proofs.Told.{by_whole}
 use Rattle.laws.proofs.Checks.{fine-short}
 use Rattle.pattern.proofs.Splits.{split-fine, split-refused}

@@ -35,7 +35,7 @@ take-run : (b : ℕ) (s : List ℕ) → take (run_length b s) s ≡ replicate (r
 unfolding run_length
 take-run b [] = refl
 take-run b (a ∷ s) =
-    by-test (eqb b a) (λ e. rw (e, eqb-true b a e) (ap (λ (l : List ℕ). a ∷ l) (take-run a s))) (λ e. rw e)
+    by-test (eqb b a) (λ e. rw (e, ← eqb-true b a e) (ap (λ (l : List ℕ). b ∷ l) (take-run b s))) (λ e. rw e)
 
 impossible : {A : Type 0} → ◌≡◌ {A = ℕ} 0 1 → A
 impossible e = absurd (omega arith)

@@ -1,9 +1,6 @@
-use Prim.Native.Nat.{◌-◌}
 use native.Mathlib.Omega.{arith}
-use lib.ListN.{length}
-use borrow.Author.Rules.{rules}
 use Rattle.pattern.proofs.parts.Next.{next}
-use Rattle.pattern.proofs.Splits.{Filled, filled-start, filled-turn, filled-split}
+use Rattle.pattern.proofs.Splits.{filled-start, filled-turn, filled-split}
 use Rattle.pattern.proofs.split_parts.Goals as goal
 
 pub loop-at-init : goal.loop-at-init

@@ -1,10 +1,7 @@
 -- `split_parts` meets its contract: at each turn the first entries are the parts before this place.
 use Prim.Native.Nat.{◌-◌}
-use native.Mathlib.Omega.{arith}
 use lib.ListN.{length}
-use borrow.Author.Rules.{rules}
-use Rattle.pattern.proofs.parts.Next.{next}
-use Rattle.pattern.proofs.Splits.{Filled, filled-start, filled-turn, filled-split}
+use Rattle.pattern.proofs.Splits.{Filled}
 use Rattle.pattern.proofs.split_parts.Given as goal
 
 abbrev pub invariant-loop-at : goal.invariant-loop-at

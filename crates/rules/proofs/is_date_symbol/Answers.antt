@@ -1,5 +1,6 @@
 -- The letters, one after the other.
 use borrow.Author.Tests.{ne_eqb}
+use native.Mathlib.Omega.{arith}
 use Rattle.rules.specs.Letters.{is_among}
 use Rattle.rules.proofs.is_date_symbol.Goals as goal
 
@@ -39,12 +40,12 @@ pub returns-in_default : goal.returns-in_default
 unfolding is_among
 returns-in_default c =
     simp (
-      ne_eqb _ _ c.match.rest.0.0.0.0.0.0.0.1,
-      ne_eqb _ _ c.match.rest.0.0.0.0.0.0.1,
-      ne_eqb _ _ c.match.rest.0.0.0.0.0.1,
-      ne_eqb _ _ c.match.rest.0.0.0.0.1,
-      ne_eqb _ _ c.match.rest.0.0.0.1,
-      ne_eqb _ _ c.match.rest.0.0.1,
-      ne_eqb _ _ c.match.rest.0.1,
-      ne_eqb _ _ c.match.rest.1,
+      ne_eqb c.args.b 71 (omega arith),
+      ne_eqb c.args.b 121 (omega arith),
+      ne_eqb c.args.b 113 (omega arith),
+      ne_eqb c.args.b 77 (omega arith),
+      ne_eqb c.args.b 119 (omega arith),
+      ne_eqb c.args.b 100 (omega arith),
+      ne_eqb c.args.b 68 (omega arith),
+      ne_eqb c.args.b 101 (omega arith),
     )

@@ -39,3 +39,21 @@ read-as-ruled Hour1To24 most h = refl
 read-as-ruled Minute most h = refl
 read-as-ruled Second most h = refl
 read-as-ruled (Fraction k) most h = refl
+
+-- the same, where it is known to be no month
+pub as-ruled-unless-month : (q : Quantity) (most : ℕ) → (q ≡ Month → ⊥) → most_read edition.Second q most ≡ most
+unfolding most_read
+as-ruled-unless-month Month most h = absurd (h refl)
+as-ruled-unless-month Quarter most h = refl
+as-ruled-unless-month Week most h = refl
+as-ruled-unless-month Day most h = refl
+as-ruled-unless-month DayOfYear most h = refl
+as-ruled-unless-month Weekday most h = refl
+as-ruled-unless-month WeekdayFromMonday most h = refl
+as-ruled-unless-month Hour1To12 most h = refl
+as-ruled-unless-month Hour0To11 most h = refl
+as-ruled-unless-month Hour0To23 most h = refl
+as-ruled-unless-month Hour1To24 most h = refl
+as-ruled-unless-month Minute most h = refl
+as-ruled-unless-month Second most h = refl
+as-ruled-unless-month (Fraction k) most h = refl

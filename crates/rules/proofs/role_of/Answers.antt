@@ -1,5 +1,4 @@
 -- Each way to find a role, by its law.
-use borrow.Author.Rules.{rules}
 use mathlib.Core.Path.{sym, ◌∙◌}
 use native.Mathlib.Omega.{arith}
 use Rattle.rules.proofs.Laws.{below-letters, is-date, date-is-literal, full-is-time}

@@ -1,12 +1,9 @@
 use mathlib.Core.Bool.{false}
 use mathlib.Core.Logic.{⊎_elim}
 use mathlib.Core.Path.{◌≡◌, sym, ◌∙◌}
-use Prim.Native.Nat.{◌-◌, ◌≤◌}
 use native.Mathlib.Omega.{arith}
-use lib.ListN.{length, drop, get_or}
-use borrow.Author.Rules.{rules}
-use borrow.Author.Tests.{ltb-true, ltb-false}
-use Rattle.meaning.specs.Answers.{within, byte_check, bytes_check}
+use lib.ListN.{get_or}
+use Rattle.meaning.specs.Answers.{within}
 use Rattle.meaning.specs.declared.Refusal.TheVariants.{PatternByte}
 use Rattle.pattern.proofs.checks.Checks.{within-yes, within-below, within-above, bytes-more, bytes-stop, bytes-done, long-pattern, short-pattern}
 use Rattle.pattern.proofs.checks.bytes_check.Goals as goal
@@ -24,7 +21,7 @@ returns-then-b-eq0 c =
     let i = l.loop-i.i in
     let bad : within 1 127 (get_or p i 0) ≡ false =
     ⊎_elim (λ w. within-below 1 127 (get_or p i 0) (omega arith))
-    (λ w. within-above 1 127 (get_or p i 0) (omega arith) (ltb-true 127 (get_or p i 0) w.1.taken)) c.if2.branch in
+    (λ w. within-above 1 127 (get_or p i 0) (omega arith) w.1) c.then-b-eq0.either in
     sym (l.loop-i.invariant.1 ∙ bytes-stop PatternByte 1 127 p i (omega arith) bad)
 
 pub loop-i-preserved : goal.loop-i-preserved
@@ -32,7 +29,7 @@ loop-i-preserved c =
     let l = c in
     let p = l.args.pattern.now in
     let i = l.loop-i.i in
-    let good = within-yes 1 127 (get_or p i 0) (omega arith) (ltb-false 127 (get_or p i 0) c.if-b-gt127.false) in
+    let good = within-yes 1 127 (get_or p i 0) (omega arith) c.if-b-gt127.false in
     (omega arith, l.loop-i.invariant.1 ∙ bytes-more PatternByte 1 127 p i (omega arith) good)
 
 pub returns : goal.returns

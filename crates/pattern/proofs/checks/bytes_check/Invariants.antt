@@ -1,15 +1,9 @@
 -- `bytes_check` meets its contract: at each turn the check of the whole pattern is that of the bytes from here.
-use mathlib.Core.Bool.{false}
-use mathlib.Core.Logic.{⊎_elim}
-use mathlib.Core.Path.{◌≡◌, sym, ◌∙◌}
+use mathlib.Core.Path.{◌≡◌}
 use Prim.Native.Nat.{◌-◌, ◌≤◌}
-use native.Mathlib.Omega.{arith}
-use lib.ListN.{length, drop, get_or}
-use borrow.Author.Rules.{rules}
-use borrow.Author.Tests.{ltb-true, ltb-false}
-use Rattle.meaning.specs.Answers.{within, byte_check, bytes_check}
+use lib.ListN.{length, drop}
+use Rattle.meaning.specs.Answers.{byte_check, bytes_check}
 use Rattle.meaning.specs.declared.Refusal.TheVariants.{PatternByte}
-use Rattle.pattern.proofs.checks.Checks.{within-yes, within-below, within-above, bytes-more, bytes-stop, bytes-done, long-pattern, short-pattern}
 use Rattle.pattern.proofs.checks.bytes_check.Given as goal
 
 abbrev pub invariant-loop-i : goal.invariant-loop-i

@@ -1,23 +1,20 @@
-use mathlib.Core.Logic.{⊎_elim}
-use mathlib.Core.Path.{◌≡◌, refl, sym, ◌∙◌}
-use Prim.Native.Nat.{◌-◌, ◌≤◌}
+use mathlib.Core.Path.{refl, sym, ◌∙◌}
+use Prim.Native.Nat.{◌-◌}
 use native.Mathlib.Omega.{arith}
-use lib.ListN.{length, drop, get_or}
-use borrow.Author.Rules.{rules}
-use borrow.Author.Tests.{eqb-true, eqb-false, not-true, not-false}
-use Rattle.meaning.specs.Answers.{ends_in_lone_quote}
-use Rattle.meaning.specs.Bytes.{quote}
-use Rattle.meaning.specs.Splitting.{contents}
+use lib.ListN.{length}
 use Rattle.pattern.proofs.parts.Next.{next}
 use Rattle.pattern.proofs.checks.LoneQuote.{lone-turn, lone-end, no-lone}
 use Rattle.pattern.proofs.parts.Scans.{past_end}
 use Rattle.pattern.proofs.checks.ends_in_lone_quote.Goals as goal
+use Rattle.pattern.proofs.checks.ends_in_lone_quote.Goals.{then-n-eq0-via-then-n-eq0, then-n-eq0-via-else-n-eq0+then-pattern-n-ne39}
 
 pub returns-then-n-eq0 : goal.returns-then-n-eq0
 returns-then-n-eq0 c =
     let p = c.args.pattern.now in
-    ⊎_elim (λ w. sym (no-lone p (past_end p (length p - 1) (omega arith))))
-    (λ w. sym (no-lone p (eqb-false (get_or p (length p - 1) 0) quote (not-true _ w.2.taken)))) c.if1.branch
+    elim c.then-n-eq0.branch [
+      | then-n-eq0-via-then-n-eq0 w ↦ sym (no-lone p (past_end p (length p - 1) (omega arith)))
+      | then-n-eq0-via-else-n-eq0+then-pattern-n-ne39 w ↦ sym (no-lone p w.if-pattern-n-ne39.true)
+    ]
 
 pub loop-place-init : goal.loop-place-init
 loop-place-init c = (omega arith, refl)
@@ -52,5 +49,5 @@ pub returns : goal.returns
 returns c =
     let l = c in
     let p = l.args.pattern.now in
-    let last = eqb-true (get_or p (length p - 1) 0) quote (not-false _ l.if-pattern-n-ne39.false) in
+    let last = l.if-pattern-n-ne39.false in
     sym (l.loop-place.invariant.1 ∙ lone-end p l.loop-place.place (omega arith) last)

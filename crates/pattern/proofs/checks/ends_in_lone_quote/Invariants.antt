@@ -1,17 +1,9 @@
 -- `ends_in_lone_quote` meets its contract: at each turn the pattern ends in a lone quote just if the parts from here do.
-use mathlib.Core.Logic.{⊎_elim}
-use mathlib.Core.Path.{◌≡◌, refl, sym, ◌∙◌}
+use mathlib.Core.Path.{◌≡◌}
 use Prim.Native.Nat.{◌-◌, ◌≤◌}
-use native.Mathlib.Omega.{arith}
-use lib.ListN.{length, drop, get_or}
-use borrow.Author.Rules.{rules}
-use borrow.Author.Tests.{eqb-true, eqb-false, not-true, not-false}
+use lib.ListN.{length, drop}
 use Rattle.meaning.specs.Answers.{ends_in_lone_quote}
-use Rattle.meaning.specs.Bytes.{quote}
 use Rattle.meaning.specs.Splitting.{contents}
-use Rattle.pattern.proofs.parts.Next.{next}
-use Rattle.pattern.proofs.checks.LoneQuote.{lone-turn, lone-end, no-lone}
-use Rattle.pattern.proofs.parts.Scans.{past_end}
 use Rattle.pattern.proofs.checks.ends_in_lone_quote.Given as goal
 
 abbrev pub invariant-loop-place : goal.invariant-loop-place

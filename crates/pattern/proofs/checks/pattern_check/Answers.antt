@@ -1,6 +1,5 @@
 -- Where the last byte is no quote, none stands alone.
 use mathlib.Core.Path.{sym, ◌∙◌}
-use borrow.Author.Rules.{rules}
 use Rattle.pattern.proofs.checks.LoneQuote.{check-plain}
 use Rattle.pattern.proofs.checks.pattern_check.Goals as goal
 

@@ -1,6 +1,5 @@
 -- `quoted_check` meets its contract: refusals 1 and 2, then 3.
 use mathlib.Core.Path.{sym, ◌∙◌}
-use borrow.Author.Rules.{rules}
 use Rattle.pattern.proofs.checks.LoneQuote.{lone-some, check-refused, check-lone, check-fine}
 use Rattle.pattern.proofs.checks.quoted_check.Goals as goal
 

@@ -1,14 +1,8 @@
 -- `escaped_end` meets its contract: at each turn the escaped quotes from the start end where those from here do.
-use mathlib.Core.Logic.{⊎_elim}
 use mathlib.Core.Path.{◌≡◌}
 use Prim.Native.Nat.{◌+◌, ◌*◌, ◌-◌, ◌≤◌}
-use native.Mathlib.Omega.{arith}
-use lib.ListN.{length, drop, get_or}
-use borrow.Author.Rules.{rules}
-use borrow.Author.Tests.{eqb-true, eqb-false, not-true, not-false}
-use Rattle.meaning.specs.Bytes.{quote}
+use lib.ListN.{length, drop}
 use Rattle.pattern.specs.First.{escaped_count}
-use Rattle.pattern.proofs.parts.Scans.{escaped-stop, escaped-single, escaped-more, escaped-done}
 use Rattle.pattern.proofs.parts.escaped_end.Given as goal
 
 abbrev pub invariant-loop-behind : goal.invariant-loop-behind

@@ -1,14 +1,8 @@
 -- `inside_end` meets its contract: at each turn the inside from the start ends where that from here does.
-use mathlib.Core.Logic.{⊎_elim}
 use mathlib.Core.Path.{◌≡◌}
 use Prim.Native.Nat.{◌+◌, ◌-◌, ◌≤◌}
-use native.Mathlib.Omega.{arith}
-use lib.ListN.{length, drop, get_or}
-use borrow.Author.Rules.{rules}
-use borrow.Author.Tests.{eqb-true, eqb-false, not-true, not-false}
-use Rattle.meaning.specs.Bytes.{quote}
+use lib.ListN.{length, drop}
 use Rattle.pattern.specs.First.{inside_size}
-use Rattle.pattern.proofs.parts.Scans.{inside-byte, inside-close, inside-more, inside-done, past_end}
 use Rattle.pattern.proofs.parts.inside_end.Given as goal
 
 abbrev pub invariant-loop-i : goal.invariant-loop-i

@@ -3,7 +3,6 @@ use mathlib.Core.Path.{refl}
 use Prim.Native.Nat.{◌+◌}
 use native.Mathlib.Omega.{arith}
 use lib.ListN.{length-drop}
-use borrow.Author.Rules.{rules}
 use Rattle.pattern.proofs.parts.Answers.{part-run, part-quotes, part-quoted, part-open}
 use Rattle.pattern.proofs.parts.Scans.{run_more}
 use Rattle.pattern.proofs.parts.next_part.Goals as goal

@@ -1,9 +1,4 @@
-use mathlib.Core.Path.{◌≡◌}
-use Prim.Native.Nat.{◌+◌, ◌-◌, ◌≤◌}
 use native.Mathlib.Omega.{arith}
-use lib.ListN.{length, drop}
-use borrow.Author.Rules.{rules}
-use Rattle.pattern.specs.First.{run_length}
 use Rattle.pattern.proofs.parts.Scans.{run_more, run-stop, run-done}
 use Rattle.pattern.proofs.parts.run_end.Goals as goal
 

@@ -1,11 +1,8 @@
 -- `run_end` meets its contract: at each turn the run from the start ends where the run from here does.
 use mathlib.Core.Path.{◌≡◌}
 use Prim.Native.Nat.{◌+◌, ◌-◌, ◌≤◌}
-use native.Mathlib.Omega.{arith}
 use lib.ListN.{length, drop}
-use borrow.Author.Rules.{rules}
 use Rattle.pattern.specs.First.{run_length}
-use Rattle.pattern.proofs.parts.Scans.{run_more, run-stop, run-done}
 use Rattle.pattern.proofs.parts.run_end.Given as goal
 
 abbrev pub invariant-loop-i : goal.invariant-loop-i

@@ -1,7 +1,5 @@
-use Prim.Native.Nat.{◌+◌, ◌-◌, ◌≤◌}
-use borrow.Author.Rules.{rules}
-use lib.ListN.{length, get_or, drop, drop_of_length-le}
-use mathlib.Core.Path.{◌≡◌, ap}
+use lib.ListN.{length, get_or, drop_of_length-le}
+use mathlib.Core.Path.{ap}
 use native.Mathlib.Omega.{arith}
 use Rattle.pattern.proofs.parts.Inside.{unescaped-turn, one-or-two}
 use Rattle.pattern.specs.First.{unescaped}

@@ -1,10 +1,7 @@
 -- What is counted and what the bytes still to come stand for are the whole inside.
 use Prim.Native.Nat.{◌+◌, ◌-◌, ◌≤◌}
-use borrow.Author.Rules.{rules}
-use lib.ListN.{length, get_or, drop, drop_of_length-le}
-use mathlib.Core.Path.{◌≡◌, ap}
-use native.Mathlib.Omega.{arith}
-use Rattle.pattern.proofs.parts.Inside.{unescaped-turn, one-or-two}
+use lib.ListN.{length, drop}
+use mathlib.Core.Path.{◌≡◌}
 use Rattle.pattern.specs.First.{unescaped}
 use Rattle.pattern.proofs.quoted.unescaped_length.Given as goal
 

@@ -1,27 +1,27 @@
 -- The date symbols: each arm is its symbol's rule.
 use mathlib.Core.Path.{ap}
 use borrow.Author.Tests.{ne_eqb}
+use native.Mathlib.Omega.{arith}
 use Rattle.meaning.specs.Rules.{number, role_among, date_role}
 use Rattle.meaning.specs.declared.ParseUnit.TheVariants as unit
 use Rattle.meaning.specs.declared.Quantity.TheVariants as quantity
 use Rattle.meaning.specs.declared.Role.TheVariants.{Symbol}
 use Rattle.meaning.specs.declared.Rule.TheVariants.{SkippedNumber}
 use Rattle.rules.proofs.numbers.Laws.{one-or-two-rule}
-use borrow.Author.Rules.{rules}
 use Rattle.rules.proofs.date.date_role.Goals as goal
 
 pub returns-in_default : goal.returns-in_default
 unfolding date_role role_among
 returns-in_default c =
     simp (
-      ne_eqb _ _ c.match.rest.0.0.0.0.0.0.0.1,
-      ne_eqb _ _ c.match.rest.0.0.0.0.0.0.1,
-      ne_eqb _ _ c.match.rest.0.0.0.0.0.1,
-      ne_eqb _ _ c.match.rest.0.0.0.0.1,
-      ne_eqb _ _ c.match.rest.0.0.0.1,
-      ne_eqb _ _ c.match.rest.0.0.1,
-      ne_eqb _ _ c.match.rest.0.1,
-      ne_eqb _ _ c.match.rest.1,
+      ne_eqb c.args.symbol 71 (omega arith),
+      ne_eqb c.args.symbol 121 (omega arith),
+      ne_eqb c.args.symbol 113 (omega arith),
+      ne_eqb c.args.symbol 77 (omega arith),
+      ne_eqb c.args.symbol 119 (omega arith),
+      ne_eqb c.args.symbol 100 (omega arith),
+      ne_eqb c.args.symbol 68 (omega arith),
+      ne_eqb c.args.symbol 101 (omega arith),
     )
 
 pub returns-in-71 : goal.returns-in-71

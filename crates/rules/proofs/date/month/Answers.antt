@@ -1,5 +1,4 @@
 -- Each return is its row of the table.
-use borrow.Author.Rules.{rules}
 use Rattle.laws.proofs.Tests.{chosen}
 use Rattle.meaning.specs.Rules.{rule_of, pick, otherwise_rule}
 use Rattle.rules.proofs.date.month.Goals as goal

@@ -1,7 +1,6 @@
 -- By the edition, and whether it is a month.
-use borrow.Author.Rules.{rules}
 use Rattle.meaning.specs.Reading.{most_read}
-use Rattle.rules.proofs.numbers.Laws.{read-as-ruled}
+use Rattle.rules.proofs.numbers.Laws.{as-ruled-unless-month}
 use Rattle.rules.proofs.numbers.most_read.Goals as goal
 
 pub returns-in-First : goal.returns-in-First
@@ -15,4 +14,4 @@ returns-in-Month c = rw (c.in-Second.is, c.in-Month.is)
 pub returns-in_default : goal.returns-in_default
 returns-in_default c =
     let a = c.args in
-    rw (c.in-Second.is, read-as-ruled a.quantity a.most c.match2.keys2)
+    rw (c.in-Second.is, as-ruled-unless-month a.quantity a.most c.in_default.not-Month)

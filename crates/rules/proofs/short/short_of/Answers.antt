@@ -1,6 +1,6 @@
 -- The letters, one after the other.
-use borrow.Author.Rules.{rules}
 use borrow.Author.Tests.{ne_eqb}
+use native.Mathlib.Omega.{arith}
 use Rattle.rules.specs.ShortRules.{short_of}
 use Rattle.rules.proofs.short.short_of.Goals as goal
 
@@ -17,4 +17,4 @@ returns-in-100 c =
 pub returns-in_default : goal.returns-in_default
 unfolding short_of
 returns-in_default c =
-    simp (ne_eqb _ _ c.match.rest.0.1, ne_eqb _ _ c.match.rest.1) c.short_of_pair.ensures
+    simp (ne_eqb c.args.symbol 77 (omega arith), ne_eqb c.args.symbol 100 (omega arith)) c.short_of_pair.ensures

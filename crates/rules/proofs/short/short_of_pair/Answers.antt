@@ -1,5 +1,4 @@
 -- The Date pair has no time symbols.
-use borrow.Author.Rules.{rules}
 use Rattle.rules.proofs.short.short_of_pair.Goals as goal
 
 pub returns-in-Full : goal.returns-in-Full

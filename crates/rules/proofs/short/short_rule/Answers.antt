@@ -1,5 +1,4 @@
 -- The rule of a number, of what is known of it.
-use borrow.Author.Rules.{rules}
 use Rattle.rules.proofs.short.short_rule.Goals as goal
 
 pub returns : goal.returns

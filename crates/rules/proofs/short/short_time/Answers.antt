@@ -1,5 +1,6 @@
 -- The letters, one after the other.
 use borrow.Author.Tests.{ne_eqb}
+use native.Mathlib.Omega.{arith}
 use Rattle.rules.proofs.short.short_time.Goals as goal
 
 pub returns-in-72 : goal.returns-in-72
@@ -16,4 +17,8 @@ returns-in-115 c =
 
 pub returns-in_default : goal.returns-in_default
 returns-in_default c =
-    simp (ne_eqb _ _ c.match.rest.0.0.1, ne_eqb _ _ c.match.rest.0.1, ne_eqb _ _ c.match.rest.1)
+    simp (
+      ne_eqb c.args.symbol 72 (omega arith),
+      ne_eqb c.args.symbol 109 (omega arith),
+      ne_eqb c.args.symbol 115 (omega arith),
+    )

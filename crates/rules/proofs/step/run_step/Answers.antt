@@ -1,5 +1,4 @@
 -- Each kind of run is its row of the table.
-use borrow.Author.Rules.{rules}
 use mathlib.Core.Path.{ap, sym, ◌∙◌}
 use native.Mathlib.Omega.{arith}
 use Rattle.rules.proofs.Laws.{below-letters}

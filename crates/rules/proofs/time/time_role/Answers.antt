@@ -1,30 +1,30 @@
 -- The time symbols: each arm is its symbol's rule.
 use mathlib.Core.Path.{ap}
 use borrow.Author.Tests.{ne_eqb}
+use native.Mathlib.Omega.{arith}
 use Rattle.meaning.specs.Rules.{number, role_among, time_role}
 use Rattle.meaning.specs.declared.ParseUnit.TheVariants as unit
 use Rattle.meaning.specs.declared.Quantity.TheVariants as quantity
 use Rattle.meaning.specs.declared.Role.TheVariants.{Symbol}
 use Rattle.meaning.specs.declared.Rule.TheVariants.{Number}
 use Rattle.rules.proofs.numbers.Laws.{one-or-two-rule}
-use borrow.Author.Rules.{rules}
 use Rattle.rules.proofs.time.time_role.Goals as goal
 
 pub returns-in_default : goal.returns-in_default
 unfolding time_role role_among
 returns-in_default c =
     simp (
-      ne_eqb _ _ c.match.rest.0.0.0.0.0.0.0.0.0.0.1,
-      ne_eqb _ _ c.match.rest.0.0.0.0.0.0.0.0.0.1,
-      ne_eqb _ _ c.match.rest.0.0.0.0.0.0.0.0.1,
-      ne_eqb _ _ c.match.rest.0.0.0.0.0.0.0.1,
-      ne_eqb _ _ c.match.rest.0.0.0.0.0.0.1,
-      ne_eqb _ _ c.match.rest.0.0.0.0.0.1,
-      ne_eqb _ _ c.match.rest.0.0.0.0.1,
-      ne_eqb _ _ c.match.rest.0.0.0.1,
-      ne_eqb _ _ c.match.rest.0.0.1,
-      ne_eqb _ _ c.match.rest.0.1,
-      ne_eqb _ _ c.match.rest.1,
+      ne_eqb c.args.symbol 97 (omega arith),
+      ne_eqb c.args.symbol 98 (omega arith),
+      ne_eqb c.args.symbol 104 (omega arith),
+      ne_eqb c.args.symbol 72 (omega arith),
+      ne_eqb c.args.symbol 75 (omega arith),
+      ne_eqb c.args.symbol 107 (omega arith),
+      ne_eqb c.args.symbol 109 (omega arith),
+      ne_eqb c.args.symbol 115 (omega arith),
+      ne_eqb c.args.symbol 110 (omega arith),
+      ne_eqb c.args.symbol 88 (omega arith),
+      ne_eqb c.args.symbol 120 (omega arith),
     )
 
 pub returns-in-97 : goal.returns-in-97
