@@ -8,6 +8,7 @@ ghost use Rattle.names.specs.Table.{Numbered, IsTable, Weekdays, Months, IsEngli
 
 use meaning::NameList;
 
+#[tactic(auto, unfolding(meaning::specs::Names::names))]
 pub fn table_of(list: NameList) -> usize
     ensures { Numbered result list }
 {
@@ -49,6 +50,7 @@ pub fn most_of(table: usize) -> usize
     }
 }
 
+#[tactic(auto, unfolding(meaning::specs::Names::names, meaning::specs::Names::english, meaning::specs::Bytes::bytes, meaning::specs::OpenedBooks::names_at))]
 pub fn two(n: usize) -> [u8; 42]
     requires { n < 5 }
     ensures { IsTable 20 2 result (names english (list_at n)) }
@@ -62,6 +64,7 @@ pub fn two(n: usize) -> [u8; 42]
     }
 }
 
+#[tactic(auto, unfolding(meaning::specs::Names::names, meaning::specs::Names::english, meaning::specs::Bytes::bytes, meaning::specs::OpenedBooks::names_at))]
 pub fn four(n: usize) -> [u8; 84]
     requires { (5 ≤ n) × (n < 9) }
     ensures { IsTable 20 4 result (names english (list_at n)) }
@@ -74,18 +77,21 @@ pub fn four(n: usize) -> [u8; 84]
     }
 }
 
+#[tactic(auto, unfolding(meaning::specs::Names::names, meaning::specs::Names::english, meaning::specs::Bytes::bytes, meaning::specs::OpenedBooks::names_at))]
 pub fn six() -> [u8; 126]
     ensures { IsTable 20 6 result (names english (list_at 9)) }
 {
     crate::rows::NOON_WORDS
 }
 
+#[tactic(auto, unfolding(meaning::specs::Names::names, meaning::specs::Names::english, meaning::specs::Bytes::bytes, meaning::specs::OpenedBooks::names_at))]
 pub fn seven() -> [u8; 147]
     ensures { Weekdays result }
 {
     crate::rows::WDAYS
 }
 
+#[tactic(auto, unfolding(meaning::specs::Names::names, meaning::specs::Names::english, meaning::specs::Bytes::bytes, meaning::specs::OpenedBooks::names_at))]
 pub fn twelve() -> [u8; 252]
     ensures { Months result }
 {

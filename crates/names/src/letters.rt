@@ -184,6 +184,7 @@ fn bytes_at(text: &[u8], at: usize) -> u64
 }
 
 // Whether two numbers have the same lowest bytes: the others are shifted out.
+#[tactic(auto, using(crate::proofs::letters::Laws::shifted))]
 fn same_bytes(a: u64, b: u64, n: usize) -> bool
     requires { n ≤ 8 }
     ensures { result ≡ true → bytes_of n a ≡ bytes_of n b }

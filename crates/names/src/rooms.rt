@@ -20,6 +20,7 @@ fn at(from: usize, count: usize, most: usize) -> Rooms
     Rooms { from, count, most }
 }
 
+#[tactic(auto, unfolding(meaning::specs::Names::names))]
 pub fn rooms_of(table: usize) -> Rooms
     requires { (10 ≤ table) × (table < 17) }
     ensures { InBook result (list_at table) }

@@ -13,7 +13,7 @@ use lib.Seq.{drop-cons, drop-drop, get_or-take, get_or-drop}
 use Rattle.laws.proofs.OpenedBooks.{count_at}
 use Rattle.laws.proofs.Tests.{true-is-not-false, when_true, when_false}
 use Rattle.meaning.specs.Bytes.{both, when}
-use Rattle.meaning.specs.OpenedBooks.{name_room, name_at, names_at}
+use Rattle.meaning.specs.OpenedBooks.{name_room, names_at}
 use Rattle.meaning.specs.Readers.{begins, first_name, match_name, got, stopped}
 use Rattle.meaning.specs.declared.Trouble.TheVariants.{NoName}
 use Rattle.laws.specs.Laid.{Laid}

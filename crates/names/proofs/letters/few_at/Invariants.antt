@@ -1,13 +1,8 @@
 -- The number so far is that of the bytes behind.
-use mathlib.Core.List.{List}
-use mathlib.Core.Path.{◌≡◌, sym}
-use Prim.Native.Nat.{ℕ, suc, ◌-◌, ◌^◌, ◌≤◌, ◌<◌}
-use native.Mathlib.Nat.{pow-le-pow_right}
-use native.Mathlib.Omega.{arith}
-use borrow.Author.Rules.{rules}
-use lib.ListN.{length, drop, drop_of_length-le}
+use mathlib.Core.Path.{◌≡◌}
+use Prim.Native.Nat.{◌-◌, ◌^◌, ◌≤◌, ◌<◌}
+use lib.ListN.{length, drop}
 use Rattle.names.specs.Letters.{bytes_of}
-use Rattle.names.proofs.letters.Laws.{few-turn}
 use Rattle.names.proofs.letters.few_at.Given as goal
 
 abbrev pub invariant-loop-i : goal.invariant-loop-i

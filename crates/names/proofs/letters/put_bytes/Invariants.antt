@@ -1,13 +1,9 @@
 -- What lies there and the bytes still to be laid are all the bytes.
-use mathlib.Core.Path.{◌≡◌, refl, ◌∙◌}
+use mathlib.Core.Path.{◌≡◌}
 use Prim.Native.Nat.{◌+◌, ◌-◌, ◌≤◌}
-use native.Mathlib.Nat.{add-zero, sub-zero}
-use native.Mathlib.Omega.{arith}
-use borrow.Author.Rules.{rules}
-use lib.ListN.{length, length-set}
+use lib.ListN.{length}
 use lib.Seq.{sets}
 use Rattle.names.specs.Letters.{bytes_of}
-use Rattle.names.proofs.letters.Laws.{length-bytes, lay-byte}
 use Rattle.names.proofs.letters.put_bytes.Given as goal
 
 abbrev pub invariant-loop-j : goal.invariant-loop-j

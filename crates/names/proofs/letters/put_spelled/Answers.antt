@@ -1,8 +1,7 @@
 -- The first eight letters as one number, and the ninth.
 use mathlib.Core.List.{[], ◌∷◌}
-use mathlib.Core.Path.{◌≡◌, refl}
+use mathlib.Core.Path.{refl}
 use native.Mathlib.Omega.{arith}
-use borrow.Author.Rules.{rules}
 use Rattle.laws.proofs.Laid.{laid_then}
 use Rattle.names.proofs.letters.Laws.{length-bytes, first-letters, nine-letters, length-spelled}
 use Rattle.names.proofs.letters.put_spelled.Goals as goal

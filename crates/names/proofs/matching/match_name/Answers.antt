@@ -5,4 +5,4 @@ use Rattle.names.proofs.matching.match_name.Goals as goal
 
 pub returns : goal.returns
 returns c =
-    let s = c in rw (lent-english s.args.book.now (search rules)) c.match_english.ensures
+    rw (lent-english c.args.book.now (search rules)) c.match_english.ensures

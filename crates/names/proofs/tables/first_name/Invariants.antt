@@ -1,15 +1,12 @@
 -- `tables::first_name` meets its contract. The loop over names keeps the match that remains, the loop over bytes the
 -- comparison that remains and what the name's room holds.
-use mathlib.Core.Path.{◌≡◌, refl, sym, ◌∙◌}
-use Prim.Native.Nat.{◌≤◌, ◌<◌, ◌-◌}
-use native.Mathlib.Omega.{arith}
-use borrow.Author.Rules.{rules}
-use borrow.Author.Tests.{not-true}
-use lib.ListN.{length, drop}
+use mathlib.Core.Path.{◌≡◌}
+use Prim.Native.Nat.{◌≤◌, ◌-◌}
+use lib.ListN.{drop}
 use Rattle.meaning.specs.OpenedBooks.{names_at}
 use Rattle.meaning.specs.Readers.{begins, first_name, match_name}
 use Rattle.names.specs.Table.{name_in}
-use Rattle.names.proofs.tables.Laws.{Room, room, too_long, same_byte, other_byte, all-bytes, other-letter, this-name, next-name, no_name}
+use Rattle.names.proofs.tables.Laws.{Room}
 use Rattle.names.proofs.tables.first_name.Given as goal
 
 abbrev pub invariant-loop-j : goal.invariant-loop-j

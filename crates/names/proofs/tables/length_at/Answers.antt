@@ -1,7 +1,6 @@
 -- The length that a room has, at most the most.
 use Prim.Native.Nat.{◌*◌}
 use native.Mathlib.Omega.{arith}
-use borrow.Author.Rules.{rules}
 use Rattle.names.proofs.tables.Laws.{room}
 use Rattle.names.proofs.tables.length_at.Goals as goal
 
@@ -11,8 +10,8 @@ overflow_cast-size c =
 
 pub returns-then-size-most : goal.returns-then-size-most
 returns-then-size-most c =
-    let a = c in omega (arith, (room a.args.most a.args.rows.now a.args.index a.requires.0 a.requires.1).size)
+    omega (arith, (room c.args.most c.args.rows.now c.args.index c.requires.0 c.requires.1).size)
 
 pub returns-else-size-most : goal.returns-else-size-most
 returns-else-size-most c =
-    let a = c in omega (arith, (room a.args.most a.args.rows.now a.args.index a.requires.0 a.requires.1).size)
+    omega (arith, (room c.args.most c.args.rows.now c.args.index c.requires.0 c.requires.1).size)

@@ -1,14 +1,10 @@
 -- `tables::put_name` meets its contract. The loop keeps the bytes that remain to be laid and what the name's room holds.
-use mathlib.Core.Path.{◌≡◌, refl, sym, ◌∙◌}
+use mathlib.Core.Path.{◌≡◌}
 use Prim.Native.Nat.{◌+◌, ◌≤◌, ◌-◌}
-use native.Mathlib.Nat.{add-zero}
-use native.Mathlib.Omega.{arith}
-use borrow.Author.Rules.{rules}
-use lib.ListN.{length, drop, length-set}
+use lib.ListN.{length, drop}
 use lib.Seq.{sets}
-use Rattle.laws.proofs.Laid.{lay-next, lay_done}
 use Rattle.names.specs.Table.{name_in}
-use Rattle.names.proofs.tables.Laws.{Room, room}
+use Rattle.names.proofs.tables.Laws.{Room}
 use Rattle.names.proofs.tables.put_name.Given as goal
 
 abbrev pub invariant-loop-j : goal.invariant-loop-j
