@@ -1,16 +1,13 @@
 -- By the size of the row.
-use borrow.Author.Rules.{rules}
 use Rattle.books.proofs.Answers.{opened-written, english-written}
 use Rattle.books.proofs.write_book.Goals as goal
 
 pub returns-then-book-eq-OPENED_SIZE : goal.returns-then-book-eq-OPENED_SIZE
 returns-then-book-eq-OPENED_SIZE c =
-    let m = c in
-    let a = m.args in
-    opened-written a.book.now a.out.now m.if-book-eq-OPENED_SIZE.true c.write_opened.ensures
+    let a = c.args in
+    opened-written a.book.now a.out.now c.if-book-eq-OPENED_SIZE.true c.write_opened.ensures
 
 pub returns : goal.returns
 returns c =
-    let m = c in
-    let a = m.args in
-    english-written a.book.now a.out.now m.if-book-eq-OPENED_SIZE.false c.write_english.ensures
+    let a = c.args in
+    english-written a.book.now a.out.now c.if-book-eq-OPENED_SIZE.false c.write_english.ensures

@@ -1,12 +1,9 @@
 -- What is counted and the names that are left are the whole book.
 use mathlib.Core.Path.{◌≡◌}
-use Prim.Native.Nat.{◌+◌, ◌-◌, ◌*◌, ◌≤◌, ◌<◌}
-use lib.ListN.{length, get_or, drop}
-use native.Mathlib.Omega.{arith}
-use borrow.Author.Rules.{rules}
+use Prim.Native.Nat.{◌+◌, ◌-◌, ◌*◌, ◌≤◌}
+use lib.ListN.{length, drop}
 use Rattle.meaning.specs.Books.{shelve_names, book_bytes}
 use Rattle.books.specs.Places.{names_by}
-use Rattle.books.proofs.laying.Laws.{name-short, shelved-length, none-shelved, book-size}
 use Rattle.books.proofs.laying.book_length.Given as goal
 
 abbrev pub invariant-loop-i : goal.invariant-loop-i

@@ -1,15 +1,10 @@
 -- What lies there and the names still to be laid are all of them.
-use mathlib.Core.Path.{◌≡◌, refl, ◌∙◌}
+use mathlib.Core.Path.{◌≡◌}
 use Prim.Native.Nat.{◌+◌, ◌-◌}
-use lib.ListN.{length, get_or, drop}
+use lib.ListN.{length, drop}
 use lib.Seq.{sets}
-use native.Mathlib.Omega.{arith}
-use borrow.Author.Rules.{rules}
-use Rattle.laws.proofs.Laid.{laid_then}
-use Rattle.laws.specs.Laid.{Laid}
 use Rattle.meaning.specs.Books.{shelve_names}
 use Rattle.books.specs.Places.{names_by}
-use Rattle.books.proofs.laying.Laws.{name-short, shelved-from, shelved-length, none-shelved, book-is, book-size, still-laid, still-long}
 use Rattle.books.proofs.laying.put_book.Given as goal
 
 abbrev pub invariant-loop-i : goal.invariant-loop-i

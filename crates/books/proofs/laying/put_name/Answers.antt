@@ -1,5 +1,4 @@
 -- The length, then the name.
-use borrow.Author.Rules.{rules}
 use Rattle.laws.proofs.Laid.{laid_then}
 use Rattle.books.proofs.laying.put_name.Goals as goal
 

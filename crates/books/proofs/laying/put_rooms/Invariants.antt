@@ -1,13 +1,10 @@
 -- What lies there and the names still to be laid are all of them.
-use mathlib.Core.Path.{◌≡◌, refl, ◌∙◌}
+use mathlib.Core.Path.{◌≡◌}
 use Prim.Native.Nat.{◌+◌, ◌-◌, ◌*◌}
-use lib.ListN.{length, get_or, drop}
+use lib.ListN.{length, drop}
 use lib.Seq.{sets}
-use native.Mathlib.Omega.{arith}
-use borrow.Author.Rules.{rules}
 use Rattle.meaning.specs.OpenedBooks.{opened_names}
 use Rattle.books.specs.Places.{names_by}
-use Rattle.books.proofs.laying.Laws.{name-short, opened-from, none-opened, room-length, still-laid, still-long}
 use Rattle.books.proofs.laying.put_rooms.Given as goal
 
 abbrev pub invariant-loop-i : goal.invariant-loop-i

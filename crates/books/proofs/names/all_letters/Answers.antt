@@ -1,10 +1,5 @@
-use Prim.Native.Nat.{◌-◌}
-use lib.ListN.{length, drop}
-use mathlib.Core.Path.{◌≡◌, refl, sym, ◌∙◌}
+use mathlib.Core.Path.{sym, ◌∙◌}
 use native.Mathlib.Omega.{arith}
-use borrow.Author.Tests.{not-true, not-false}
-use borrow.Author.Rules.{rules}
-use Rattle.meaning.specs.Books.{all_letters}
 use Rattle.books.proofs.names.Laws.{letter-on, no-letter, letters-done}
 use Rattle.books.proofs.names.all_letters.Goals as goal
 

@@ -1,9 +1,5 @@
-use Prim.Native.Nat.{◌-◌}
-use lib.ListN.{length, drop}
-use mathlib.Core.Path.{◌≡◌, refl, sym, ◌∙◌}
+use mathlib.Core.Path.{sym, ◌∙◌}
 use native.Mathlib.Omega.{arith}
-use borrow.Author.Rules.{rules}
-use Rattle.meaning.specs.Books.{apart}
 use Rattle.books.proofs.names.Laws.{same_byte, other_byte, first-begins, second-begins}
 use Rattle.books.proofs.names.are_apart.Goals as goal
 

@@ -1,11 +1,8 @@
 -- Whether they are apart from a byte on, while the ones before are the same.
 use Prim.Native.Nat.{◌-◌}
 use lib.ListN.{length, drop}
-use mathlib.Core.Path.{◌≡◌, refl, sym, ◌∙◌}
-use native.Mathlib.Omega.{arith}
-use borrow.Author.Rules.{rules}
+use mathlib.Core.Path.{◌≡◌}
 use Rattle.meaning.specs.Books.{apart}
-use Rattle.books.proofs.names.Laws.{same_byte, other_byte, first-begins, second-begins}
 use Rattle.books.proofs.names.are_apart.Given as goal
 
 abbrev pub invariant-loop-i : goal.invariant-loop-i

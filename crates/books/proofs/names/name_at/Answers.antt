@@ -1,7 +1,6 @@
 -- All that its length says, or all that is there.
 use native.Mathlib.Omega.{arith}
 use mathlib.Core.Path.{sym}
-use borrow.Author.Rules.{rules}
 use Rattle.books.proofs.names.Laws.{no_name, whole-name, cut-name}
 use Rattle.books.proofs.names.name_at.Goals as goal
 

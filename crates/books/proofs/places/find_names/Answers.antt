@@ -1,11 +1,8 @@
-use mathlib.Core.Path.{◌≡◌, refl, sym, ◌∙◌}
-use Prim.Native.Nat.{◌-◌}
-use lib.ListN.{length, drop, length-set}
+use mathlib.Core.Path.{refl, sym, ◌∙◌}
+use lib.ListN.{length-set}
 use native.Mathlib.Omega.{arith}
-use borrow.Author.Rules.{rules}
-use Rattle.meaning.specs.Books.{names_in}
 use Rattle.books.specs.Places.{names_by}
-use Rattle.books.proofs.places.Laws.{walked, no_length, no-letters, name-more, all-walked}
+use Rattle.books.proofs.places.Laws.{no_length, no-letters, name-more, all-walked}
 use Rattle.books.proofs.places.find_names.Goals as goal
 
 pub loop-i-init : goal.loop-i-init
@@ -25,17 +22,15 @@ overflow_add-next-in-loop-i c = omega (arith, c.type_inv.bytes c.loop-i.at)
 
 pub returns-then-bytes-next : goal.returns-then-bytes-next
 returns-then-bytes-next c =
-    let m = c in
-    let L = m.loop-i in
-    sym (no-letters m.args.bytes.now L.places L.i L.at (omega arith) (omega arith) c.if-bytes-next.true) ∙ L.invariant.1
+    let L = c.loop-i in
+    sym (no-letters c.args.bytes.now L.places L.i L.at (omega arith) (omega arith) c.if-bytes-next.true) ∙ L.invariant.1
 
 pub loop-i-preserved : goal.loop-i-preserved
 loop-i-preserved c =
-    let m = c in
-    let L = m.loop-i in
+    let L = c.loop-i in
     let byte = c.type_inv.bytes L.at in (
       simp length-set L.invariant.0,
-      sym (name-more m.args.bytes.now L.places L.i L.at (omega arith) (L.invariant.0 ∙ m.requires) (omega arith) (omega arith) c.if-bytes-next.false)
+      sym (name-more c.args.bytes.now L.places L.i L.at (omega arith) (L.invariant.0 ∙ c.requires) (omega arith) (omega arith) c.if-bytes-next.false)
           ∙ L.invariant.1,
     )
 

@@ -1,12 +1,9 @@
 -- The names of the places that are known, and those of the bytes that are left.
-use mathlib.Core.Path.{◌≡◌, refl, sym, ◌∙◌}
+use mathlib.Core.Path.{◌≡◌}
 use Prim.Native.Nat.{◌-◌}
-use lib.ListN.{length, drop, length-set}
-use native.Mathlib.Omega.{arith}
-use borrow.Author.Rules.{rules}
+use lib.ListN.{length, drop}
 use Rattle.meaning.specs.Books.{names_in}
-use Rattle.books.specs.Places.{names_by}
-use Rattle.books.proofs.places.Laws.{walked, no_length, no-letters, name-more, all-walked}
+use Rattle.books.proofs.places.Laws.{walked}
 use Rattle.books.proofs.places.find_names.Given as goal
 
 abbrev pub invariant-loop-i : goal.invariant-loop-i

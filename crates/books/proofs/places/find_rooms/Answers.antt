@@ -1,9 +1,5 @@
-use mathlib.Core.List.{List, ◌++◌}
-use mathlib.Core.Path.{◌≡◌, refl, sym, ◌∙◌}
-use Prim.Native.Nat.{ℕ, ◌-◌, ◌*◌}
-use lib.ListN.{length, take, drop, length-set}
-use borrow.Author.Rules.{rules}
-use Rattle.meaning.specs.OpenedBooks.{names_at}
+use mathlib.Core.Path.{refl, sym, ◌∙◌}
+use lib.ListN.{length-set}
 use Rattle.books.specs.Places.{names_by}
 use Rattle.books.proofs.places.Laws.{room-more, rooms-done}
 use Rattle.books.proofs.places.find_rooms.Goals as goal

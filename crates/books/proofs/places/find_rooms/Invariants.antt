@@ -1,12 +1,10 @@
 -- The names of the places that are known, and those of the rooms that are left.
 use mathlib.Core.List.{List, ◌++◌}
-use mathlib.Core.Path.{◌≡◌, refl, sym, ◌∙◌}
+use mathlib.Core.Path.{◌≡◌}
 use Prim.Native.Nat.{ℕ, ◌-◌, ◌*◌}
-use lib.ListN.{length, take, drop, length-set}
-use borrow.Author.Rules.{rules}
+use lib.ListN.{length, take, drop}
 use Rattle.meaning.specs.OpenedBooks.{names_at}
 use Rattle.books.specs.Places.{names_by}
-use Rattle.books.proofs.places.Laws.{room-more, rooms-done}
 use Rattle.books.proofs.places.find_rooms.Given as goal
 
 abbrev pub invariant-loop-i : goal.invariant-loop-i

@@ -1,13 +1,10 @@
 -- The check of the lists that are left, behind the ones before.
-use mathlib.Core.Path.{◌≡◌, refl, sym, ◌∙◌}
+use mathlib.Core.Path.{◌≡◌}
 use Prim.Native.Nat.{suc, ◌+◌, ◌-◌}
 use lib.ListN.{drop}
-use native.Mathlib.Omega.{arith}
-use borrow.Author.Rules.{rules}
 use Rattle.meaning.specs.Books.{shelves, names_check}
 use Rattle.books.specs.Places.{names_by}
-use Rattle.books.specs.Shelves.{meant}
-use Rattle.books.proofs.shelves.Laws.{total, counted, bad-list, good-list, lists-done}
+use Rattle.books.proofs.shelves.Laws.{total}
 use Rattle.books.proofs.shelves.check_names.Given as goal
 
 abbrev pub invariant-loop-k : goal.invariant-loop-k

@@ -1,13 +1,7 @@
-use mathlib.Core.List.{[]}
-use mathlib.Core.Path.{◌≡◌, sym, ◌∙◌}
-use Prim.Native.Nat.{suc, ◌+◌, ◌-◌}
-use lib.ListN.{drop}
-use borrow.Author.Tests.{not-true, not-false}
+use mathlib.Core.Path.{sym, ◌∙◌}
 use native.Mathlib.Nat.{add-zero, sub-zero}
 use native.Mathlib.Omega.{arith}
-use borrow.Author.Rules.{rules}
-use Rattle.meaning.specs.Books.{shelf_check}
-use Rattle.books.specs.Places.{names_by, earlier}
+use Rattle.books.specs.Places.{earlier}
 use Rattle.books.specs.Shelves.{meant}
 use Rattle.books.proofs.shelves.Laws.{bad-name, good-name, names-done}
 use Rattle.books.proofs.shelves.check_shelf.Goals as goal

@@ -1,16 +1,11 @@
 -- The check of the names that are left, behind the ones before.
 use mathlib.Core.List.{[]}
-use mathlib.Core.Path.{◌≡◌, sym, ◌∙◌}
+use mathlib.Core.Path.{◌≡◌}
 use Prim.Native.Nat.{suc, ◌+◌, ◌-◌}
 use lib.ListN.{drop}
-use borrow.Author.Tests.{not-true, not-false}
-use native.Mathlib.Nat.{add-zero, sub-zero}
-use native.Mathlib.Omega.{arith}
-use borrow.Author.Rules.{rules}
 use Rattle.meaning.specs.Books.{shelf_check}
 use Rattle.books.specs.Places.{names_by, earlier}
 use Rattle.books.specs.Shelves.{meant}
-use Rattle.books.proofs.shelves.Laws.{bad-name, good-name, names-done}
 use Rattle.books.proofs.shelves.check_shelf.Given as goal
 
 abbrev pub invariant-loop-count : goal.invariant-loop-count

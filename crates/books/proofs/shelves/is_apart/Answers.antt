@@ -1,10 +1,6 @@
-use Prim.Native.Nat.{◌-◌, ◌≤◌}
-use mathlib.Core.Path.{◌≡◌, refl, sym, ◌∙◌}
+use Prim.Native.Nat.{◌-◌}
+use mathlib.Core.Path.{refl, sym, ◌∙◌}
 use native.Mathlib.Omega.{arith}
-use borrow.Author.Tests.{not-true, not-false}
-use borrow.Author.Rules.{rules}
-use Rattle.meaning.specs.Books.{apart_from}
-use Rattle.books.specs.Places.{earlier}
 use Rattle.books.proofs.shelves.Laws.{earlier-apart, earlier-begins, none-earlier}
 use Rattle.books.proofs.shelves.is_apart.Goals as goal
 

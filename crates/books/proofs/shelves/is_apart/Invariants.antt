@@ -1,12 +1,8 @@
 -- Whether it is apart from those that are left, while it is from the later ones.
-use Prim.Native.Nat.{◌-◌, ◌≤◌}
-use mathlib.Core.Path.{◌≡◌, refl, sym, ◌∙◌}
-use native.Mathlib.Omega.{arith}
-use borrow.Author.Tests.{not-true, not-false}
-use borrow.Author.Rules.{rules}
+use Prim.Native.Nat.{◌≤◌}
+use mathlib.Core.Path.{◌≡◌}
 use Rattle.meaning.specs.Books.{apart_from}
 use Rattle.books.specs.Places.{earlier}
-use Rattle.books.proofs.shelves.Laws.{earlier-apart, earlier-begins, none-earlier}
 use Rattle.books.proofs.shelves.is_apart.Given as goal
 
 abbrev pub invariant-loop-left : goal.invariant-loop-left

@@ -1,5 +1,4 @@
 -- The list of that number.
-use borrow.Author.Rules.{rules}
 use Rattle.books.proofs.shelves.Laws.{shelf-there}
 use Rattle.books.proofs.shelves.shelf_at.Goals as goal
 

@@ -1,5 +1,4 @@
 -- English is a book, and its bytes are these.
-use borrow.Author.Rules.{rules}
 use Rattle.meaning.proofs.Books.{english-valid}
 use Rattle.meaning.specs.Bytes.{bytes}
 use Rattle.meaning.specs.Books.{joined, names_of, book_bytes}
@@ -14,5 +13,4 @@ returns-then-out-n c = no_room (names_of english) c.args.out.now english-valid.g
 pub returns : goal.returns
 unfolding english bytes joined book_bytes
 returns c =
-    let m = c in
-    with-room (names_of english) m.args.out.now english-valid.good m.if-out-n.false c.put_bytes.ensures
+    with-room (names_of english) c.args.out.now english-valid.good c.if-out-n.false c.put_bytes.ensures

@@ -1,52 +1,34 @@
 -- The year of the guess, or the one after.
 use mathlib.Core.Path.{◌≡◌, sym, ap, ◌∙◌}
-use Prim.Native.Nat.{suc, ◌+◌, ◌*◌, ◌/◌}
+use Prim.Native.Nat.{suc, ◌+◌}
 use native.Mathlib.Numerals.{add-one}
 use native.Mathlib.Omega.{arith}
 use Rattle.calendar.proofs.cycle.Years.{guess-begun, guess-stands, year-next}
 use Rattle.meaning.specs.Calendar.{leap, year_length}
-use borrow.Author.Rules.{rules}
 use Rattle.calendar.proofs.cycle.year_by_table.Goals as goal
-
-module _ (c : goal.Start) where
-  guess : (4 * c.args.day + 3) / 1461 ≡ c.args.place
-  guess = sym (search rules)
-
-  leap-is : c.args.leap ≡ leap (suc c.args.place)
-  leap-is = search rules
-
-module _ (c : goal.After-year_length-length) where
-  length-is : c.year_length-length.result ≡ year_length (leap (suc c.args.place))
-  length-is = c.year_length-length.ensures ∙ ap year_length (leap-is c.before)
 
 pub overflow_sub-past : goal.overflow_sub-past
 overflow_sub-past c =
-    let s = c in
-    rw c.days_before.ensures (guess-begun s.args.day s.args.place (search rules) (guess s))
+    let a = c.args in
+    rw c.days_before.ensures (guess-begun a.day a.place c.requires.0 (sym c.requires.1))
 
 pub returns-then-past-length : goal.returns-then-past-length
 returns-then-past-length c =
-    let b = c in
-    let s = b in (
-      rw b.days_before.ensures
-          (guess-stands s.args.day s.args.place (search rules) (guess s)
-          (rw (b.days_before.ensures, length-is b.before) at c.if-past-length.true)),
-      leap-is s,
+    let a = c.args in
+    let length-is : c.year_length-length.result ≡ year_length (leap (suc a.place)) = c.year_length-length.ensures ∙ ap year_length c.requires.2 in (
+      rw c.days_before.ensures
+          (guess-stands a.day a.place c.requires.0 (sym c.requires.1)
+          (rw (c.days_before.ensures, length-is) at c.if-past-length.true)),
+      c.requires.2,
     )
 
 pub returns : goal.returns
 returns c =
-    let b = c in
-    let s = b in
-    let g = s.args.place in
+    let a = c.args in
+    let g = a.place in
     let n : g + 2 ≡ suc (suc g) = omega arith in
-    rw (add-one g, b.days_before.ensures, length-is b.before) (
-      year-next s.args.day g (search rules) (guess s) (rw (b.days_before.ensures, length-is b.before) at c.if-past-length.false),
+    let length-is : c.year_length-length.result ≡ year_length (leap (suc g)) = c.year_length-length.ensures ∙ ap year_length c.requires.2 in
+    rw (add-one g, c.days_before.ensures, length-is) (
+      year-next a.day g c.requires.0 (sym c.requires.1) (rw (c.days_before.ensures, length-is) at c.if-past-length.false),
       c.is_leap.ensures ∙ ap leap n,
     )
-
-pub year_length-length-requires : goal.year_length-length-requires
-year_length-length-requires c = search rules
-
-pub days_before-requires : goal.days_before-requires
-days_before-requires c = search rules

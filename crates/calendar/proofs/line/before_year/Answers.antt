@@ -1,5 +1,4 @@
 -- By the closed form.
-use borrow.Author.Rules.{rules}
 use native.Mathlib.Omega.{arith}
 use Rattle.laws.proofs.CalendarYears.{days-on}
 use Rattle.calendar.proofs.line.before_year.Goals as goal

@@ -16,7 +16,7 @@ module _ (c : goal.Start) where
   bits₁ = to_z-of_z c.ranges.z
 
   bits₂ : to_z w64 (of_z w64 c.args.z) ≡ c.args.z
-  bits₂ = to_z-of_z (sfits_widen tt c.ranges.z)
+  bits₂ = to_z-of_z {w = w64} (sfits_widen {w = w32} {w' = w64} tt c.ranges.z)
 
   sum : c.args.z +ℤ pos 2147625900 ≡ pos (line c.args.z)
   sum = to-line c.args.z c.ranges.z.sfits

@@ -7,7 +7,6 @@ use mir.Facts.{to_z_pos, to_z-of_z}
 use mir.Syntax.{w32}
 use mir.Val.{SFits}
 use Rattle.calendar.proofs.line.Signed.{year-on, year-back, minus-year}
-use borrow.Author.Rules.{rules}
 use Rattle.calendar.proofs.line.year_at.Goals as goal
 
 pub returns-then-place-ge5880000 : goal.returns-then-place-ge5880000

@@ -1,7 +1,6 @@
 -- The days of so many months, before March and from it on.
 use native.Mathlib.Omega.{arith}
 use Rattle.calendar.proofs.months.Finding.{early, later, few-lost}
-use borrow.Author.Rules.{rules}
 use Rattle.calendar.proofs.months.days_of.Goals as goal
 
 pub returns-then-months-lt2 : goal.returns-then-months-lt2

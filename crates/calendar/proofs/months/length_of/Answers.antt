@@ -1,7 +1,6 @@
 -- A month ends where the next one begins.
 use native.Mathlib.Omega.{arith}
 use Rattle.calendar.proofs.months.Finding.{month-ends}
-use borrow.Author.Rules.{rules}
 use Rattle.calendar.proofs.months.length_of.Goals as goal
 
 pub overflow_sub-result : goal.overflow_sub-result

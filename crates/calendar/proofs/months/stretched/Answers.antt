@@ -5,7 +5,6 @@ use Prim.Native.Nat.{◌-◌}
 use Rattle.calendar.proofs.months.Finding.{few-lost}
 use Rattle.calendar.specs.Months.{lost}
 use Rattle.laws.proofs.CalendarYears.{year-short}
-use borrow.Author.Rules.{rules}
 use Rattle.calendar.proofs.months.stretched.Goals as goal
 
 pub overflow_sub-lost : goal.overflow_sub-lost

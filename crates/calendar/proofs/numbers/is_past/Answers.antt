@@ -1,6 +1,5 @@
 -- A month has 28 days, and is asked for more.
 use Prim.Native.Nat.{suc, ◌-◌, ◌≤◌}
-use borrow.Author.Rules.{rules}
 use borrow.Author.Tests.{le-ltb}
 use mathlib.Core.Path.{◌≡◌, sym}
 use native.Mathlib.Omega.{arith}

@@ -7,7 +7,6 @@ use mir.Syntax.{w32, w64}
 use mir.Val.{SFits, to_z}
 use Rattle.calendar.proofs.numbers.Shorts.{day-fits, short-yes, short-low, short-high}
 use Rattle.laws.specs.CalendarLine.{day_at}
-use borrow.Author.Rules.{rules}
 use Rattle.calendar.proofs.numbers.short.Goals as goal
 
 module _ (c : goal.Else-n-gt4295109547) where

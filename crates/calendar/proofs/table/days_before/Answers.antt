@@ -4,7 +4,6 @@ use Prim.Native.Nat.{ℕ, ◌+◌, ◌-◌, ◌*◌, ◌/◌}
 use native.Mathlib.Omega.{arith}
 use Rattle.laws.proofs.CalendarCycles.{table_is}
 use Rattle.laws.proofs.Tests.{tabulate, tabulated}
-use borrow.Author.Rules.{rules}
 use Rattle.calendar.proofs.table.days_before.Goals as goal
 
 pub returns : goal.returns
