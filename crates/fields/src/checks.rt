@@ -29,6 +29,7 @@ pub fn or_else(first: Checked, next: Checked) -> Checked
 }
 
 // The first field out of its range; 0 stands for none.
+#[tactic(auto, unfolding(crate::specs::Ranges::first_out))]
 fn field_out(f: Fields) -> u32
     ensures { result ≡ field_out f }
 {
@@ -82,6 +83,7 @@ fn first_current_year(edition: Edition) -> u64
 }
 
 // 14: the current year is 1 to 9999, in the second edition 81 to 9999.
+#[tactic(auto, unfolding(meaning::specs::Answers::current_year_check))]
 pub fn current_year_check(edition: Edition, year: i32) -> Checked
     ensures { result ≡ current_year_check edition year }
 {

@@ -46,6 +46,7 @@ fn in_place_of_zero(k: u32, n: u32) -> u32
     if n == 0 { k } else { n }
 }
 
+#[tactic(auto, unfolding(meaning::specs::Writing::quantity_of))]
 pub fn quantity_of(quantity: Quantity, f: Fields) -> u32
     requires { fields_check f ≡ Fine }
     ensures { result ≡ written.quantity_of quantity f }
@@ -93,6 +94,7 @@ fn noon_place(am: usize, midnight: usize, pm: usize, noon: usize, second: u32) -
 }
 
 // The place, in its list, of the name that is written.
+#[tactic(auto, unfolding(meaning::specs::Writing::place_of))]
 pub fn place_of(names: NameList, f: Fields) -> usize
     requires { fields_check f ≡ Fine }
     ensures { result ≡ written.place_of names f }

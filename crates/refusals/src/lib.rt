@@ -56,6 +56,7 @@ fn with_one(number: u32, n: usize) -> Told
     }
 }
 
+#[tactic(auto, unfolding(meaning::specs::Answers::number, meaning::specs::Answers::details))]
 pub fn tell(why: Refusal) -> Told
     ensures { result ≡ told why }
 {

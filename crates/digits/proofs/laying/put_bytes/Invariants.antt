@@ -1,11 +1,8 @@
 -- What lies there and the bytes still to be laid are all the bytes.
 use Prim.Native.Nat.{◌+◌, ◌-◌, ◌≤◌}
-use lib.ListN.{length, drop, length-set}
+use lib.ListN.{length, drop}
 use lib.Seq.{sets}
-use mathlib.Core.Path.{◌≡◌, refl, sym, ◌∙◌}
-use native.Mathlib.Nat.{add-zero}
-use native.Mathlib.Omega.{arith}
-use Rattle.laws.proofs.Laid.{lay-next, lay_done}
+use mathlib.Core.Path.{◌≡◌}
 use Rattle.digits.proofs.laying.put_bytes.Given as goal
 
 abbrev pub invariant-loop-j : goal.invariant-loop-j

@@ -1,12 +1,8 @@
 -- What lies there and the times still to come are all the times.
-use borrow.Author.Rules.{rules}
 use Prim.Native.Nat.{◌+◌, ◌-◌, ◌≤◌}
-use lib.ListN.{length, replicate, length-set, length-replicate}
+use lib.ListN.{length, replicate}
 use lib.Seq.{sets}
-use mathlib.Core.Path.{◌≡◌, refl, sym, ◌∙◌}
-use native.Mathlib.Nat.{add-zero, sub-zero}
-use native.Mathlib.Omega.{arith}
-use Rattle.laws.proofs.Laid.{lay-next-time, lay-times-done}
+use mathlib.Core.Path.{◌≡◌}
 use Rattle.digits.proofs.laying.put_times.Given as goal
 
 abbrev pub invariant-loop-j : goal.invariant-loop-j

@@ -1,5 +1,4 @@
 -- Two digits and two more.
-use borrow.Author.Rules.{rules}
 use Prim.Native.Nat.{◌/◌}
 use native.Mathlib.Omega.{arith}
 use Rattle.laws.proofs.Digits.{length_digits}
@@ -11,7 +10,7 @@ pub put_two-requires : goal.put_two-requires
 put_two-requires c =
     let first = c.put_two-next in
     let m = c in
-    (omega arith, omega (arith, m.requires.1, first.ensures.end, length_digits 2 (m.args.n / 100), first.auto.1.0))
+    (omega arith, omega (arith, m.requires.1, first.ensures.end, length_digits 2 (m.args.n / 100), first.auto.out))
 
 pub returns : goal.returns
 returns c =

@@ -1,5 +1,4 @@
 -- Where it has four digits, they are the number.
-use borrow.Author.Rules.{rules}
 use mathlib.Core.Path.{sym, ◌∙◌}
 use Rattle.laws.proofs.Digits.{length_digits}
 use Rattle.digits.proofs.numbers.Laws.{four-digits, four_below}

@@ -1,5 +1,4 @@
 -- One digit, four and four.
-use borrow.Author.Rules.{rules}
 use Prim.Native.Nat.{◌/◌, ◌%◌}
 use native.Mathlib.Omega.{arith}
 use Rattle.laws.proofs.Digits.{length_digits}
@@ -12,7 +11,7 @@ put_four-requires c =
     let second = c.put_four-next in
     let first = c.put_byte-first in
     let m = c in
-    (omega arith, omega (arith, m.requires.1, first.ensures.end, second.ensures.end, length_digits 4 (m.args.n / 10000 % 10000), first.auto.1.0, second.auto.1.0))
+    (omega arith, omega (arith, m.requires.1, first.ensures.end, second.ensures.end, length_digits 4 (m.args.n / 10000 % 10000), first.auto.out, second.auto.out))
 
 pub returns : goal.returns
 returns c =

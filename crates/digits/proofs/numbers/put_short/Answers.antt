@@ -1,8 +1,9 @@
 -- One digit or two are their number.
-use mathlib.Core.Logic.{⊎_elim, inl, inr}
-use borrow.Author.Rules.{rules}
+use mathlib.Core.Logic.{◌⊎◌, inl, inr}
+use Prim.Native.Nat.{◌≤◌}
 use native.Mathlib.Omega.{arith}
 use Rattle.laws.proofs.Digits.{length_digits, length-num, num-one, num-two, width-at-least}
+use Rattle.digits.proofs.numbers.put_short.Goals.{then-k-lt2+else-n-lt10, else-k-lt2}
 use Rattle.digits.proofs.numbers.put_short.Goals as goal
 
 pub put_byte-requires : goal.put_byte-requires
@@ -18,7 +19,7 @@ returns-then-n-lt10 c =
 pub put_two-requires : goal.put_two-requires
 put_two-requires c =
     let a = c in
-    let two = ⊎_elim (λ w. inl w.1.left) (λ w. inr w.left) c.if-k-lt2.branch in
+    let two : (10 ≤ c.args.n) ⊎ (2 ≤ c.args.k) = elim c.if-k-lt2.branch [ then-k-lt2+else-n-lt10 w ↦ inl (omega arith) | else-k-lt2 w ↦ inr (omega arith) ] in
     let room = rw (num-two a.args.k a.args.n a.requires.1 a.requires.0 two) at a.requires.2 in
     (a.requires.0, omega (arith, room, length_digits 2 a.args.n))
 
@@ -26,5 +27,5 @@ pub returns : goal.returns
 returns c =
     let m = c in
     let a = m in
-    let two = ⊎_elim (λ w. inl w.1.left) (λ w. inr w.left) m.if-k-lt2.branch in
+    let two : (10 ≤ c.args.n) ⊎ (2 ≤ c.args.k) = elim c.if-k-lt2.branch [ then-k-lt2+else-n-lt10 w ↦ inl (omega arith) | else-k-lt2 w ↦ inr (omega arith) ] in
     rw (num-two a.args.k a.args.n a.requires.1 a.requires.0 two) c.put_two.ensures

@@ -1,7 +1,5 @@
 -- The ones and the tens.
-use borrow.Author.Rules.{rules}
 use Prim.Native.Nat.{◌+◌, ◌/◌, ◌%◌}
-use lib.ListN.{length-set}
 use lib.Seq.{set_comm}
 use mathlib.Core.Path.{◌≡◌}
 use native.Mathlib.Numerals.{add-one}

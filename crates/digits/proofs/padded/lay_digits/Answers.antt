@@ -1,22 +1,13 @@
-use Prim.Native.Nat.{◌-◌, ◌≤◌}
-use lib.ListN.{length, length-set}
-use lib.Seq.{sets}
-use mathlib.Core.Path.{◌≡◌, refl, sym, ◌∙◌}
+use lib.ListN.{length-set}
+use mathlib.Core.Path.{sym, ◌∙◌}
 use native.Mathlib.Omega.{arith}
 use Rattle.laws.proofs.Digits.{digits-turn, digits-done}
-use Rattle.meaning.specs.Bytes as text
 use Rattle.digits.proofs.padded.lay_digits.Goals as goal
-
-pub loop-i-init : goal.loop-i-init
-loop-i-init c = (refl, omega arith, refl)
 
 pub loop-i-preserved : goal.loop-i-preserved
 loop-i-preserved c =
     let L = c.loop-i in
     (digits-turn L.out c.args.at L.i L.m c.loop-i-test.true ∙ L.invariant.0, omega arith, simp length-set L.invariant.2)
-
-pub shape_of-out : goal.shape_of-out
-shape_of-out c = c.loop-i.invariant.2
 
 pub returns : goal.returns
 returns c =

@@ -1,10 +1,8 @@
 -- What lies there and the digits still to be laid are all the digits.
-use Prim.Native.Nat.{◌-◌, ◌≤◌}
-use lib.ListN.{length, length-set}
+use Prim.Native.Nat.{◌≤◌}
+use lib.ListN.{length}
 use lib.Seq.{sets}
-use mathlib.Core.Path.{◌≡◌, refl, sym, ◌∙◌}
-use native.Mathlib.Omega.{arith}
-use Rattle.laws.proofs.Digits.{digits-turn, digits-done}
+use mathlib.Core.Path.{◌≡◌}
 use Rattle.meaning.specs.Bytes as text
 use Rattle.digits.proofs.padded.lay_digits.Given as goal
 

@@ -1,5 +1,4 @@
 -- The larger of the padding and the width.
-use borrow.Author.Rules.{rules}
 use native.Mathlib.Omega.{arith}
 use Rattle.laws.proofs.Digits.{length-num}
 use Rattle.digits.proofs.padded.padded_length.Goals as goal

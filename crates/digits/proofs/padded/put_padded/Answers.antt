@@ -1,5 +1,4 @@
 -- As many digits as the padded number has are that number.
-use borrow.Author.Rules.{rules}
 use mathlib.Core.Path.{◌∙◌}
 use Rattle.laws.proofs.Digits.{length-num}
 use Rattle.meaning.specs.Bytes.{num}

@@ -1,8 +1,5 @@
-use Prim.Native.Nat.{suc, ◌+◌, ◌≤◌}
-use mathlib.Core.Path.{◌≡◌}
 use native.Mathlib.Omega.{arith}
 use Rattle.laws.proofs.Digits.{width_small, width-turn}
-use Rattle.meaning.specs.Bytes as text
 use Rattle.digits.proofs.padded.width.Goals as goal
 
 pub loop-m-preserved : goal.loop-m-preserved

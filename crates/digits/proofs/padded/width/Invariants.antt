@@ -1,8 +1,6 @@
 -- The digits counted and those still to count are all there are, plus the last.
 use Prim.Native.Nat.{suc, ◌+◌, ◌≤◌}
 use mathlib.Core.Path.{◌≡◌}
-use native.Mathlib.Omega.{arith}
-use Rattle.laws.proofs.Digits.{width_small, width-turn}
 use Rattle.meaning.specs.Bytes as text
 use Rattle.digits.proofs.padded.width.Given as goal
 

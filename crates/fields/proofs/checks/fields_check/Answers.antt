@@ -1,5 +1,4 @@
 -- Refused for the first field that is out of its range.
-use borrow.Author.Rules.{rules}
 use borrow.Author.Tests.{ne_eqb}
 use Rattle.fields.proofs.checks.Ranges.{refused-for}
 use Rattle.fields.proofs.checks.fields_check.Goals as goal
