@@ -1,10 +1,8 @@
-use borrow.Author.Rules.{rules}
-use lib.ListN.{length, get_or, drop, drop_of_length-le}
-use mathlib.Core.Path.{◌≡◌, ap, sym, ◌∙◌}
-use Prim.Native.Nat.{◌+◌, ◌-◌, ◌<◌}
+use lib.ListN.{length, get_or, drop_of_length-le}
+use mathlib.Core.Path.{ap, sym, ◌∙◌}
+use Prim.Native.Nat.{◌<◌}
 use native.Mathlib.Omega.{arith}
 use Rattle.parse.proofs.literals.Comparing.{same-on, differs_at, all_same}
-use Rattle.parse.specs.Literals.{compared_from}
 use Rattle.pattern.proofs.parts.Inside.{unescaped-turn, one-or-two}
 use Rattle.pattern.specs.First.{unescaped}
 use Rattle.parse.proofs.literals.compare_inside.Goals as goal

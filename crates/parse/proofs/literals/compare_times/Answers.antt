@@ -1,10 +1,7 @@
-use borrow.Author.Rules.{rules}
-use lib.ListN.{replicate}
 use mathlib.Core.Path.{◌≡◌, sym, ◌∙◌}
-use Prim.Native.Nat.{◌-◌, ◌≤◌}
+use Prim.Native.Nat.{◌-◌}
 use native.Mathlib.Omega.{arith}
 use Rattle.parse.proofs.literals.Comparing.{times-from, same-on, differs_at, all_same}
-use Rattle.parse.specs.Literals.{compared_from}
 use Rattle.parse.proofs.literals.compare_times.Goals as goal
 
 pub loop-i-init : goal.loop-i-init

@@ -1,10 +1,7 @@
 -- What is compared so far is the same, and the rest decides.
-use borrow.Author.Rules.{rules}
 use lib.ListN.{replicate}
-use mathlib.Core.Path.{◌≡◌, sym, ◌∙◌}
+use mathlib.Core.Path.{◌≡◌}
 use Prim.Native.Nat.{◌-◌, ◌≤◌}
-use native.Mathlib.Omega.{arith}
-use Rattle.parse.proofs.literals.Comparing.{times-from, same-on, differs_at, all_same}
 use Rattle.parse.specs.Literals.{compared_from}
 use Rattle.parse.proofs.literals.compare_times.Given as goal
 

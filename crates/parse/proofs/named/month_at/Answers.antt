@@ -1,6 +1,5 @@
 -- The place is a number of 64 signed bits.
 use Prim.Native.Nat.{◌+◌}
-use borrow.Author.Rules.{rules}
 use native.Mathlib.Numerals.{add-one}
 use native.Mathlib.Omega.{arith}
 use Rattle.numerals.proofs.Integers.{widened}

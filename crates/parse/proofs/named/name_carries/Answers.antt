@@ -1,5 +1,4 @@
 -- Each arm is what its list carries.
-use borrow.Author.Rules.{rules}
 use Rattle.meaning.specs.Bytes.{bytes}
 use Rattle.meaning.specs.Names.{names, english}
 use Rattle.meaning.specs.Reading.{name_carries}

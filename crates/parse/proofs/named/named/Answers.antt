@@ -1,5 +1,4 @@
 -- What the match found, with what it carries.
-use borrow.Author.Rules.{rules}
 use Rattle.parse.proofs.named.named.Goals as goal
 
 pub name_carries-carried-requires : goal.name_carries-carried-requires

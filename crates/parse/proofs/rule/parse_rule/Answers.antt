@@ -1,5 +1,4 @@
 -- Each arm reads as its rule says.
-use borrow.Author.Rules.{rules}
 use lib.ListN.{drop}
 use Rattle.laws.proofs.OpenedBooks.{opened-as-many}
 use Rattle.meaning.specs.Names.{names}

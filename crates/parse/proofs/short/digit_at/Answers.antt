@@ -1,5 +1,4 @@
 -- The first byte of what is left, if it is there and a digit.
-use borrow.Author.Rules.{rules}
 use lib.ListN.{get_or, drop_of_length-le}
 use lib.Seq.{drop-cons}
 use mathlib.Core.Path.{sym, ◌∙◌}

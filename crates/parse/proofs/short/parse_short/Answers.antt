@@ -1,5 +1,4 @@
 -- Those of its rule, if it is short.
-use borrow.Author.Rules.{rules}
 use mathlib.Core.Path.{sym, ◌∙◌}
 use Rattle.parse.proofs.short.parse_short.Goals as goal
 

@@ -1,5 +1,4 @@
 -- Two digits, one, or none.
-use borrow.Author.Rules.{rules}
 use borrow.Author.Tests.{ne_eqb, lt-ltb, le-ltb}
 use native.Mathlib.Omega.{arith}
 use Rattle.parse.specs.ShortReads.{second_digits}

@@ -1,5 +1,4 @@
 -- None, one by itself, or what follows it too.
-use borrow.Author.Rules.{rules}
 use borrow.Author.Tests.{ne_eqb}
 use lib.ListN.{drop}
 use lib.Seq.{drop-drop}

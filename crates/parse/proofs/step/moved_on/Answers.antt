@@ -1,5 +1,4 @@
 -- Each variant is itself.
-use borrow.Author.Rules.{rules}
 use Rattle.parse.proofs.step.moved_on.Goals as goal
 
 pub returns-in-Stopped : goal.returns-in-Stopped

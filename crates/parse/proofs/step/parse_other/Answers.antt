@@ -1,5 +1,4 @@
 -- Each kind of step.
-use borrow.Author.Rules.{rules}
 use lib.ListN.{drop, length-replicate}
 use native.Mathlib.Omega.{arith}
 use Rattle.meaning.specs.OpenedBooks.{book_in}
@@ -9,19 +8,19 @@ use Rattle.pattern.proofs.parts.Walks.{rest_all}
 use Rattle.parse.proofs.step.parse_other.Goals as goal
 
 pub slice_bounds-unescaped_length-count : goal.slice_bounds-unescaped_length-count
-slice_bounds-unescaped_length-count c = omega (arith, rw c.in-Quoted.is at c.requires.0)
+slice_bounds-unescaped_length-count c = omega (arith, rw c.in-Quoted.is at c.requires.held)
 
 pub slice_bounds-unescaped_length-start : goal.slice_bounds-unescaped_length-start
-slice_bounds-unescaped_length-start c = omega (arith, rw c.in-Quoted.is at c.requires.0)
+slice_bounds-unescaped_length-start c = omega (arith, rw c.in-Quoted.is at c.requires.held)
 
 pub slice_bounds-unescaped_length-end : goal.slice_bounds-unescaped_length-end
-slice_bounds-unescaped_length-end c = omega (arith, rw c.in-Quoted.is at c.requires.0)
+slice_bounds-unescaped_length-end c = omega (arith, rw c.in-Quoted.is at c.requires.held)
 
 pub slice_bounds-unescaped_length-count-in-Open : goal.slice_bounds-unescaped_length-count-in-Open
-slice_bounds-unescaped_length-count-in-Open c = omega (arith, rw c.in-Open.is at c.requires.0)
+slice_bounds-unescaped_length-count-in-Open c = omega (arith, rw c.in-Open.is at c.requires.held)
 
 pub slice_bounds-unescaped_length-start-in-Open : goal.slice_bounds-unescaped_length-start-in-Open
-slice_bounds-unescaped_length-start-in-Open c = omega (arith, rw c.in-Open.is at c.requires.0)
+slice_bounds-unescaped_length-start-in-Open c = omega (arith, rw c.in-Open.is at c.requires.held)
 
 pub returns-in-Times : goal.returns-in-Times
 unfolding read_step
@@ -35,8 +34,7 @@ pub returns-in-Open : goal.returns-in-Open
 unfolding read_step
 returns-in-Open c =
     let p = c.args.pattern.now in
-    let m = c.step3.given in
-    rw (m.1, ← rest_all m.0.0 p, ← c.unescaped_length-k-in-Open.ensures) c.pass-in-Open.ensures
+    rw (c.in-Open.is, ← rest_all c.in-Open.from p, ← c.unescaped_length-k-in-Open.ensures) c.pass-in-Open.ensures
 
 pub returns-in-Short : goal.returns-in-Short
 unfolding read_step
@@ -46,8 +44,7 @@ pub returns-in-Year : goal.returns-in-Year
 unfolding read_step
 returns-in-Year c =
     let a = c.args in
-    let m = c.step5.given in
-    rw (m.1, year-read a.edition (book_in a.book.now) a.current-year m.0.0 (drop a.cursor.at a.text.now)) c.parse_year.ensures
+    rw (c.in-Year.is, year-read a.edition (book_in a.book.now) a.current_year c.in-Year.count (drop a.cursor.at a.text.now)) c.parse_year.ensures
 
 pub returns-in-MonthAbbreviated : goal.returns-in-MonthAbbreviated
 unfolding read_step read_rule

@@ -1,5 +1,4 @@
 -- At once, from the digits, or by its kind.
-use borrow.Author.Rules.{rules}
 use lib.ListN.{drop, length-drop, length-replicate}
 use mathlib.Core.Path.{◌∙◌}
 use native.Mathlib.Omega.{arith}
@@ -20,7 +19,7 @@ overflow_add-result c =
     let s = m in
     let at = s.args.cursor.at in
     let text = s.args.text.now in
-    omega (arith, quick-within s.args.pattern.now (drop at text) s.args.edition s.args.step s.requires.0 read.ensures m.if-read-lt100.true, length-drop at text)
+    omega (arith, quick-within s.args.pattern.now (drop at text) s.args.edition s.args.step s.requires.held read.ensures m.if-read-lt100.true, length-drop at text)
 
 pub returns-then-read-lt100 : goal.returns-then-read-lt100
 returns-then-read-lt100 c =
@@ -28,7 +27,7 @@ returns-then-read-lt100 c =
     let read = m.quick_digits-read in
     let s = m in
     let text = drop s.args.cursor.at s.args.text.now in
-    let law = quick-read s.args.pattern.now text s.args.edition (book_in s.args.book.now) s.args.current-year s.args.step s.requires.0 read.ensures m.if-read-lt100.true in
+    let law = quick-read s.args.pattern.now text s.args.edition (book_in s.args.book.now) s.args.current_year s.args.step s.requires.held read.ensures m.if-read-lt100.true in
     rw (law, widened read.result.size (omega (arith, m.if-read-lt100.true)), c.quick_unit-unit.ensures)
 
 pub returns : goal.returns

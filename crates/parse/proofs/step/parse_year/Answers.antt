@@ -1,5 +1,4 @@
 -- By its count.
-use borrow.Author.Rules.{rules}
 use borrow.Author.Tests.{le-leb, lt-leb}
 use native.Mathlib.Omega.{arith}
 use Rattle.parse.proofs.step.parse_year.Goals as goal

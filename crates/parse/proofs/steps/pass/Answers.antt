@@ -1,5 +1,4 @@
 -- What the skip gives.
-use borrow.Author.Rules.{rules}
 use lib.ListN.{drop}
 use Rattle.parse.proofs.steps.Parts.{part-passed}
 use Rattle.parse.proofs.steps.pass.Goals as goal

@@ -1,9 +1,5 @@
-use Prim.Native.Nat.{◌+◌, ◌-◌, ◌≤◌}
-use lib.ListN.{length, drop}
-use mathlib.Core.Path.{◌≡◌}
 use native.Mathlib.Omega.{arith}
 use Rattle.laws.proofs.Digits.{digit-yes, digit-below, digit-above}
-use Rattle.meaning.specs.Reading as reading
 use Rattle.parse.proofs.years.Runs.{run_more, run-stops, run-done}
 use Rattle.parse.proofs.years.digit_run.Goals as goal
 

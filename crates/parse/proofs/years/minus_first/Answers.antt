@@ -1,5 +1,4 @@
 -- By the byte that is there.
-use borrow.Author.Rules.{rules}
 use borrow.Author.Tests.{eq-eqb, ne_eqb}
 use mathlib.Core.Path.{sym}
 use native.Mathlib.Omega.{arith}

@@ -1,6 +1,5 @@
 -- The bytes of the year, and its sign.
 use Prim.Native.Nat.{◌+◌}
-use borrow.Author.Rules.{rules}
 use lib.ListN.{drop, length-drop}
 use native.Mathlib.Omega.{arith}
 use Rattle.meaning.specs.Reading.{minus_first}

@@ -1,5 +1,4 @@
 -- Three bytes at a minus, else two, counted.
-use borrow.Author.Rules.{rules}
 use borrow.Author.Tests.{eq-eqb, ne_eqb}
 use lib.ListN.{drop}
 use Rattle.parse.proofs.years.YearParts.{year-in-full, two_digits}
@@ -22,7 +21,7 @@ returns c =
     rw (
       ← c.minus_first.ensures,
       ne_eqb _ 1 c.if-minus_first-eq1.false,
-      two_digits a.edition a.current-year s,
+      two_digits a.edition a.current_year s,
       ← c.short_since.ensures,
     )
     c.take_year-2.ensures

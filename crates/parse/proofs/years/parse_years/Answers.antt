@@ -1,6 +1,5 @@
 -- The sign, and the digits that stand behind it.
 use Prim.Native.Nat.{◌+◌}
-use borrow.Author.Rules.{rules}
 use lib.ListN.{drop, length-drop}
 use lib.Seq.{drop-drop}
 use native.Mathlib.Omega.{arith}

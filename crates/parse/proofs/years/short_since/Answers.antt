@@ -1,5 +1,4 @@
 -- By the edition; no year is below 0.
-use borrow.Author.Rules.{rules}
 use native.Mathlib.Omega.{arith}
 use Rattle.parse.proofs.years.short_since.Goals as goal
 

@@ -1,5 +1,4 @@
 -- Behind the text there is no digit.
-use borrow.Author.Rules.{rules}
 use lib.ListN.{get_or-eq_default}
 use Rattle.parse.proofs.zones.is_digit_at.Goals as goal
 

@@ -1,5 +1,4 @@
 -- By the sign, what follows it.
-use borrow.Author.Rules.{rules}
 use lib.ListN.{drop}
 use Rattle.meaning.specs.Readers.{zone_sign}
 use Rattle.parse.proofs.zones.Within.{sign-stays, within-sign}

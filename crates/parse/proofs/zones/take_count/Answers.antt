@@ -1,5 +1,4 @@
 -- What the take gives.
-use borrow.Author.Rules.{rules}
 use lib.ListN.{drop}
 use Rattle.parse.proofs.zones.Zoning.{count-taken}
 use Rattle.parse.proofs.zones.take_count.Goals as goal

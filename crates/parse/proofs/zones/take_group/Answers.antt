@@ -1,5 +1,4 @@
 -- The colon, and what the count behind it gives.
-use borrow.Author.Rules.{rules}
 use lib.ListN.{drop}
 use mathlib.Core.Path.{sym, ◌∙◌}
 use Rattle.meaning.specs.Readers.{skip}

@@ -5,7 +5,6 @@ use mathlib.Core.Path.{sym, ◌∙◌}
 use mir.Syntax.{w64}
 use mir.ValLaws.{to_z-of_z}
 use native.Mathlib.Nat.{add-zero}
-use native.Mathlib.Omega.{arith}
 use Rattle.meaning.specs.Readers.{take_count}
 use Rattle.meaning.specs.Reading.{zone_group}
 use Rattle.parse.proofs.steps.Within.{within_count}

@@ -1,5 +1,4 @@
 -- What the first byte says.
-use borrow.Author.Rules.{rules}
 use borrow.Author.Tests.{eq-eqb, ne_eqb}
 use mathlib.Core.Path.{sym}
 use native.Mathlib.Nat.{add-zero}

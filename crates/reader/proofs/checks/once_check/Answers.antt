@@ -1,5 +1,4 @@
 -- The checks, one after the other, once the bits of the year are taken away.
-use borrow.Author.Rules.{rules}
 use mir.Syntax.{w32}
 use mir.ValLaws.{to_z-of_z}
 use Rattle.meaning.specs.Trust.{trust_check}
@@ -13,5 +12,5 @@ returns c =
       c.or_else.ensures,
       c.current_year_check-of_year.ensures,
       c.pattern_check-of_pattern.ensures,
-      to_z-of_z w32 a.args.current-year a.ranges.current-year,
+      to_z-of_z w32 a.args.current_year a.ranges.current_year,
     )

@@ -1,6 +1,5 @@
 -- Where the largest byte is allowed, all are.
 use native.Mathlib.Omega.{arith}
-use borrow.Author.Rules.{rules}
 use borrow.Author.Tests.{le-leb}
 use Rattle.meaning.specs.Answers.{text_check}
 use Rattle.meaning.specs.declared.Refusal.TheVariants.{TextByte}

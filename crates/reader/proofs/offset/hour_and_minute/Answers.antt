@@ -1,5 +1,4 @@
 -- Two numbers, one after the other: each is taken, or why it is not.
-use borrow.Author.Rules.{rules}
 use Rattle.reader.proofs.offset.Offsets.{six-taken}
 use Rattle.reader.proofs.offset.hour_and_minute.Goals as goal
 

@@ -1,10 +1,14 @@
 -- The checks, then the first byte, the length and the two numbers.
-use mathlib.Core.Logic.{⊎_elim}
-use mathlib.Core.Path.{sym, ◌∙◌}
+use mathlib.Core.Bool.{false}
+use borrow.Author.Tests.{eq-eqb, ne_eqb}
+use mathlib.Core.Path.{◌≡◌, sym, ◌∙◌}
+use Prim.Native.Char.{code}
+use lib.Dec.{eqb}
+use lib.ListN.{get_or}
 use Rattle.laws.proofs.Told.{by_whole}
 use Rattle.reader.proofs.offset.Offsets.{refused-offset, no-first, z-offset, other_length, six-offset}
-use borrow.Author.Rules.{rules}
 use Rattle.reader.proofs.offset.parse_offset.Goals as goal
+use Rattle.reader.proofs.offset.parse_offset.Goals.{else-n-gt0-via-then-n-gt0+else-text-eq90, else-n-gt0-via-else-n-gt0}
 
 pub returns-in-Refused : goal.returns-in-Refused
 returns-in-Refused c =
@@ -17,14 +21,18 @@ returns-then-text-eq90 c =
     let told = c in
     let s = told.args.text.now in
     let fine = sym told.text_check.ensures ∙ told.in_default.is in
-    by_whole (sym (z-offset s fine c.if-text-eq90.true))
+    by_whole (sym (z-offset s fine (eq-eqb _ 90 c.if-text-eq90.true)))
 
 pub returns-then-n-ne6 : goal.returns-then-n-ne6
 returns-then-n-ne6 c =
     let told = c in
     let s = told.args.text.now in
     let fine = sym told.text_check.ensures ∙ told.in_default.is in
-    let other = ⊎_elim (λ w. w.2.left) (λ w. no-first s w.left) c.if1.branch in
+    let other : eqb (get_or s 0 0) (code "Z") ≡ false =
+    elim c.else-n-gt0.branch [
+      | else-n-gt0-via-then-n-gt0+else-text-eq90 w ↦ ne_eqb _ 90 w.if-text-eq90.false
+      | else-n-gt0-via-else-n-gt0 w ↦ no-first s w.if-n-gt0.false
+    ] in
     by_whole (sym (other_length s fine other c.if-n-ne6.true))
 
 pub returns : goal.returns
@@ -32,5 +40,9 @@ returns c =
     let told = c in
     let s = told.args.text.now in
     let fine = sym told.text_check.ensures ∙ told.in_default.is in
-    let other = ⊎_elim (λ w. w.2.left) (λ w. no-first s w.left) c.if1.branch in
+    let other : eqb (get_or s 0 0) (code "Z") ≡ false =
+    elim c.else-n-gt0.branch [
+      | else-n-gt0-via-then-n-gt0+else-text-eq90 w ↦ ne_eqb _ 90 w.if-text-eq90.false
+      | else-n-gt0-via-else-n-gt0 w ↦ no-first s w.if-n-gt0.false
+    ] in
     by_whole (c.hour_and_minute.ensures ∙ sym (six-offset s fine other c.if-n-ne6.false))

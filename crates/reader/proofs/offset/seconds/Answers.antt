@@ -1,5 +1,4 @@
 -- The tests, as the definition has them; a day has fewer seconds than 32 signed bits.
-use borrow.Author.Rules.{rules}
 use borrow.Author.Tests.{le-leb}
 use Prim.Native.Nat.{◌+◌, ◌*◌}
 use mir.Facts.{to_z_pos}

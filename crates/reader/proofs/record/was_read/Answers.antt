@@ -1,5 +1,4 @@
 -- The bit of the unit, as the code takes it out.
-use borrow.Author.Rules.{rules}
 use native.Mathlib.Omega.{arith}
 use lib.Bits.{and_mask}
 use Rattle.meaning.specs.Whole.{marked}

@@ -1,23 +1,22 @@
-use Prim.Native.Nat.{◌-◌, ◌≤◌}
+use Prim.Native.Nat.{◌≤◌}
 use borrow.Author.Rules.{rules}
-use borrow.Author.Tests.{ltb-true, ltb-false}
-use lib.ListN.{length, drop}
-use mathlib.Core.List.{List, [], ◌∷◌}
-use mathlib.Core.Logic.{⊎_elim, inl, inr}
+use lib.ListN.{length}
+use mathlib.Core.List.{[], ◌∷◌}
+use mathlib.Core.Bool.{false}
+use mathlib.Core.Logic.{◌⊎◌, inl, inr}
 use mathlib.Core.Path.{◌≡◌, refl, sym, ◌∙◌}
 use mir.Syntax.{w64}
 use mir.ValLaws.{to_z-of_z}
 use native.Mathlib.Omega.{arith}
 use Rattle.meaning.specs.OpenedBooks.{book_in}
-use Rattle.meaning.specs.Whole.{Gave, walk}
-use Rattle.meaning.specs.Writing.{steps}
 use Rattle.meaning.specs.declared.Carried.TheVariants.{Nothing, Value}
 use Rattle.parse.proofs.literals.Strict.{same-either, value_same, ended}
 use Rattle.pattern.proofs.parts.Next.{next, starts-here}
 use Rattle.rules.specs.Steps.{means}
 use Rattle.reader.proofs.walk.Walks.{step-here, part-inside, walk-stops, walk-differs, walk-goes-on, walk-left, walk-done}
-use Rattle.reader.proofs.record.Units.{Holds, holds-none, unit-below, holds-nothing, holds-value, holds-reading}
+use Rattle.reader.proofs.record.Units.{holds-none, unit-below, holds-nothing, holds-value, holds-reading}
 use Rattle.reader.proofs.walk.parse_parts.Goals as goal
+use Rattle.reader.proofs.walk.parse_parts.Goals.{in-Value, in_default+then-choices+in_default-compare_part, in_default+else-choices, else-choices-2-via-then-choices-2+else-at-text, else-choices-2-via-else-choices-2}
 
 pub loop-place-init : goal.loop-place-init
 loop-place-init c = ([], holds-none, refl, omega arith, omega arith)
@@ -29,7 +28,7 @@ step_of-step-requires c =
     starts-here (next p L.place c.next_part-part.result c.loop-place-test.true c.next_part-part.ensures)
 
 pub parse_step-requires : goal.parse_step-requires
-parse_step-requires c = (c.step_of_lem.ensures.held, c.loop-place.invariant.3)
+parse_step-requires c = record { held = c.step_of-step.ensures.held; at_in_bounds = c.loop-place.invariant.3 }
 
 pub returns-in-Stopped : goal.returns-in-Stopped
 returns-in-Stopped c =
@@ -38,7 +37,7 @@ returns-in-Stopped c =
     let a = m.args in
     let n = next a.pattern.now L.place m.next_part-part.result m.loop-place-test.true m.next_part-part.ensures in
     let gave = sym c.parse_step.ensures ∙ c.in-Stopped.is in
-    let stops = walk-stops a.choices (book_in a.book.now) a.current-year L.i a.text.now L.invariant.0 L.at L.place n m.step_of_lem.ensures gave in
+    let stops = walk-stops a.choices (book_in a.book.now) a.current_year L.i a.text.now L.invariant.0 L.at L.place n m.step_of-step.ensures gave in
     rw (← rw stops at L.invariant.2) c.refused_in.ensures
 
 pub offset_bounds-values-k : goal.offset_bounds-values-k
@@ -64,7 +63,7 @@ overflow_cast-ends c =
     let L = m.loop-place in
     let a = m.args in
     let gave = sym c.parse_step.ensures ∙ c.in-Got.is in
-    let inside = part-inside a.choices.edition (book_in a.book.now) a.text.now L.at a.current-year (means a.pattern.now m.step_of_lem.result) gave L.invariant.3 in
+    let inside = part-inside a.choices.edition (book_in a.book.now) a.text.now L.at a.current_year (means a.pattern.now m.step_of-step.result) gave L.invariant.3 in
     omega (arith, inside, m.requires)
 
 pub offset_bounds-ends-k : goal.offset_bounds-ends-k
@@ -87,8 +86,11 @@ compare_part-requires c =
     let p = a.pattern.now in
     let n = next p L.place m.next_part-part.result m.loop-place-test.true m.next_part-part.ensures in
     let gave = sym c.parse_step.ensures ∙ c.in-Got.is in
-    let end = ended a.text.now L.at a.choices.edition (book_in a.book.now) a.current-year (means p m.step_of_lem.result) gave L.invariant.3 in
-    (m.loop-place-test.true, rw (step-here n m.step_of_lem.ensures) end)
+    let end = ended a.text.now L.at a.choices.edition (book_in a.book.now) a.current_year (means p m.step_of-step.result) gave L.invariant.3 in
+    record {
+      place_in_bounds = m.loop-place-test.true;
+      ended = rw (step-here n m.step_of-step.ensures) end;
+    }
 
 pub returns-in-Differs : goal.returns-in-Differs
 returns-in-Differs c =
@@ -100,9 +102,9 @@ returns-in-Differs c =
     let n = next p L.place m.next_part-part.result m.loop-place-test.true m.next_part-part.ensures in
     let g = c in
     let gave = sym g.parse_step.ensures ∙ g.in-Got.is in
-    let seen = rw (step-here n m.step_of_lem.ensures) at c.compare_part.ensures in
+    let seen = rw (step-here n m.step_of-step.ensures) at c.compare_part.ensures in
     let differs = sym seen ∙ c.in-Differs.is in
-    let stops = walk-differs a.choices (book_in a.book.now) a.current-year L.i text L.invariant.0 L.at L.place n m.step_of_lem.ensures gave g.if-choices.true differs in
+    let stops = walk-differs a.choices (book_in a.book.now) a.current_year L.i text L.invariant.0 L.at L.place n m.step_of-step.ensures gave g.if-choices.true differs in
     rw (← rw stops at L.invariant.2) c.refused_in-in-Differs.ensures
 
 pub overflow_add-place : goal.overflow_add-place
@@ -129,55 +131,57 @@ loop-place-preserved c =
     let p = a.pattern.now in
     let text = a.text.now in
     let n = next p L.place m.next_part-part.result m.loop-place-test.true m.next_part-part.ensures in
-    let k = means p m.step_of_lem.result in
+    let k = means p m.step_of-step.result in
     let gave = sym c.parse_step.ensures ∙ c.in-Got.is in
-    let moved = walk-goes-on a.choices (book_in a.book.now) a.current-year L.i text L.invariant.0 L.at L.place n m.step_of_lem.ensures gave in
-    let inside = part-inside a.choices.edition (book_in a.book.now) text L.at a.current-year k gave L.invariant.3 in
+    let moved = walk-goes-on a.choices (book_in a.book.now) a.current_year L.i text L.invariant.0 L.at L.place n m.step_of-step.ensures gave in
+    let inside = part-inside a.choices.edition (book_in a.book.now) text L.at a.current_year k gave L.invariant.3 in
     let from = L.at in
     let to = c.in-Got.next.at in
-    ⊎_elim
-    (λ l.
-    let u = l.1.given.0.0 in
-    let z = l.1.given.0.1.0 in
-    let same = value_same text L.at a.choices.edition (book_in a.book.now) a.current-year k (rw l.1.given.1 at gave) in (
-      record { carried = Value u z; start = from; end = to } ∷ L.invariant.0,
-      rw (l.4, l.5, l.6, l.7, l.3.ensures, to_z-of_z w64 z (search rules)) (holds-value L.invariant.1 from to u z),
-      rw l.1.given.1 at (sym (moved (rw same (same-either a.choices.strict))) ∙ L.invariant.2),
-      inside,
-      omega (arith, n.some),
-    ))
-    (λ r. ⊎_elim
-    (λ t.
-    let seen = rw (step-here n m.step_of_lem.ensures) at t.3.ensures in (
-      record { carried = Nothing; start = from; end = to } ∷ L.invariant.0,
-      rw (t.6, t.7, t.8, t.9) (holds-nothing L.invariant.1 from to),
-      rw t.1.given.1 at (sym (moved (rw t.2.taken (sym seen ∙ t.5.given.1))) ∙ L.invariant.2),
-      inside,
-      omega (arith, n.some),
-    ))
-    (λ e. (
-      record { carried = Nothing; start = from; end = to } ∷ L.invariant.0,
-      rw (e.3, e.4, e.5, e.6) (holds-nothing L.invariant.1 from to),
-      rw e.1.given.1 at (sym (moved (rw e.2.left)) ∙ L.invariant.2),
-      inside,
-      omega (arith, n.some),
-    ))
-    r)
-    c.match2.branch
+    elim c.match-carried.branch [
+      | in-Value w ↦
+          let u = w.in-Value.unit in
+          let z = w.in-Value.value in
+          let same = value_same text L.at a.choices.edition (book_in a.book.now) a.current_year k (rw w.in-Value.is at gave) in (
+            record { carried = Value u z; start = from; end = to } ∷ L.invariant.0,
+            rw (w.values-is, w.starts-is, w.ends-is, w.mask-is, w.unit_number-k.ensures, to_z-of_z w64 z (search rules)) (holds-value L.invariant.1 from to u z),
+            rw w.in-Value.is at (sym (moved (rw same (same-either a.choices.strict))) ∙ L.invariant.2),
+            inside,
+            omega (arith, n.some),
+          )
+      | in_default+then-choices+in_default-compare_part w ↦
+          let seen = rw (step-here n m.step_of-step.ensures) at w.compare_part.ensures in (
+            record { carried = Nothing; start = from; end = to } ∷ L.invariant.0,
+            rw (w.values-is, w.starts-is, w.ends-is, w.mask-is) (holds-nothing L.invariant.1 from to),
+            rw w.in_default.is at (sym (moved (rw w.if-choices.true (sym seen ∙ w.in_default-compare_part.is))) ∙ L.invariant.2),
+            inside,
+            omega (arith, n.some),
+          )
+      | in_default+else-choices w ↦ (
+        record { carried = Nothing; start = from; end = to } ∷ L.invariant.0,
+        rw (w.values-is, w.starts-is, w.ends-is, w.mask-is) (holds-nothing L.invariant.1 from to),
+        rw w.in_default.is at (sym (moved (rw w.if-choices.false)) ∙ L.invariant.2),
+        inside,
+        omega (arith, n.some),
+      )
+    ]
 
 pub returns-then-at-text : goal.returns-then-at-text
 returns-then-at-text c =
     let m = c in
     let a = m.args in
     let L = m.loop-place in
-    let ends = walk-left a.choices (book_in a.book.now) a.current-year L.i a.text.now L.invariant.0 L.at L.place a.pattern.now m.loop-place-test.false in
-    rw (← rw (ends c.if2.true (ltb-true L.at (length a.text.now) c.if-at-text.true)) at L.invariant.2) c.no_reading.ensures
+    let ends = walk-left a.choices (book_in a.book.now) a.current_year L.i a.text.now L.invariant.0 L.at L.place a.pattern.now m.loop-place-test.false in
+    rw (← rw (ends c.if-choices-2.true c.if-at-text.true) at L.invariant.2) c.no_reading.ensures
 
 pub returns : goal.returns
 returns c =
     let m = c in
     let a = m.args in
     let L = m.loop-place in
-    let ends = walk-done a.choices (book_in a.book.now) a.current-year L.i a.text.now L.invariant.0 L.at L.place a.pattern.now m.loop-place-test.false in
-    let none_left = ⊎_elim (λ t. inr (ltb-false L.at (length a.text.now) t.1.left)) (λ e. inl e.left) c.if2.branch in
+    let ends = walk-done a.choices (book_in a.book.now) a.current_year L.i a.text.now L.invariant.0 L.at L.place a.pattern.now m.loop-place-test.false in
+    let none_left : (a.choices.strict ≡ false) ⊎ (length a.text.now ≤ L.at) =
+    elim c.else-choices-2.branch [
+      | else-choices-2-via-then-choices-2+else-at-text w ↦ inr w.if-at-text.false
+      | else-choices-2-via-else-choices-2 w ↦ inl w.if-choices-2.false
+    ] in
     rw (← rw (ends none_left) at L.invariant.2) (holds-reading L.invariant.1 L.at)

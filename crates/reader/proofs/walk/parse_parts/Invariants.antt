@@ -1,23 +1,12 @@
 -- What is read so far, and the walk that is left.
 use Prim.Native.Nat.{◌-◌, ◌≤◌}
-use borrow.Author.Rules.{rules}
-use borrow.Author.Tests.{ltb-true, ltb-false}
 use lib.ListN.{length, drop}
-use mathlib.Core.List.{List, [], ◌∷◌}
-use mathlib.Core.Logic.{⊎_elim, inl, inr}
-use mathlib.Core.Path.{◌≡◌, refl, sym, ◌∙◌}
-use mir.Syntax.{w64}
-use mir.ValLaws.{to_z-of_z}
-use native.Mathlib.Omega.{arith}
+use mathlib.Core.List.{List, []}
+use mathlib.Core.Path.{◌≡◌}
 use Rattle.meaning.specs.OpenedBooks.{book_in}
 use Rattle.meaning.specs.Whole.{Gave, walk}
 use Rattle.meaning.specs.Writing.{steps}
-use Rattle.meaning.specs.declared.Carried.TheVariants.{Nothing, Value}
-use Rattle.parse.proofs.literals.Strict.{same-either, value_same, ended}
-use Rattle.pattern.proofs.parts.Next.{next, starts-here}
-use Rattle.rules.specs.Steps.{means}
-use Rattle.reader.proofs.walk.Walks.{step-here, part-inside, walk-stops, walk-differs, walk-goes-on, walk-left, walk-done}
-use Rattle.reader.proofs.record.Units.{Holds, holds-none, unit-below, holds-nothing, holds-value, holds-reading}
+use Rattle.reader.proofs.record.Units.{Holds}
 use Rattle.reader.proofs.walk.parse_parts.Given as goal
 
 abbrev pub invariant-loop-place : goal.invariant-loop-place

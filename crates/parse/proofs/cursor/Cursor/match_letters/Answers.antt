@@ -1,6 +1,5 @@
 -- What the matcher finds in the bytes that the letters have.
 use Prim.Native.Nat.{◌+◌, ◌-◌, ◌≤◌}
-use borrow.Author.Rules.{rules}
 use lib.ListN.{length, drop, length-drop}
 use lib.ListN.{take, length-take}
 use mathlib.Core.Path.{◌≡◌, sym, ◌∙◌}

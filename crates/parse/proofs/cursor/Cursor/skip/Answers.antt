@@ -1,5 +1,4 @@
 -- By how many bytes remain.
-use borrow.Author.Rules.{rules}
 use lib.ListN.{drop, length-drop}
 use mathlib.Core.Path.{sym}
 use native.Mathlib.Omega.{arith}

@@ -1,5 +1,4 @@
 -- What the number reader finds in the remaining text.
-use borrow.Author.Rules.{rules}
 use lib.ListN.{drop, length-drop}
 use mathlib.Core.Path.{sym, ◌∙◌}
 use native.Mathlib.Omega.{arith}
