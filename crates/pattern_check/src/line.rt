@@ -1,8 +1,8 @@
 // The line for a pattern: what the check says of it, in words.
 ghost use Rattle.std.specs.Prelude.{◌++◌, ◌+◌, ◌≤◌, length};
-ghost use Rattle.io.specs.Counts.{IsPrefixLen};
 ghost use Rattle.laws.specs.Laid.{Laid};
 ghost use Rattle.meaning.specs.Bytes.{num};
+ghost use Rattle.pattern_check.specs.Input.{IsPrefixLen};
 ghost use Rattle.pattern_check.specs.Line.{PartFits, verdict_text, Printed};
 
 use digits::laying::{put_byte, put_bytes};

@@ -9,30 +9,37 @@ mod line;
 ghost use Rattle.std.specs.Prelude.{◌≤◌, length};
 
 use input::{Input, first_line};
-use libc::{STDERR_FILENO, STDOUT_FILENO};
 use line::put_line;
+use std::env::{Env, FillError};
+use std::io;
+use std::io::Write;
 
-fn print_line(pattern: &[u8])
+// Whether there is an argument beside the program's name.
+fn has_argument(rt: &impl Env) -> bool {
+    let mut start = [0u8; 1];
+    !matches!(rt.arg(1, &mut start), Err(FillError::NotPresent))
+}
+
+fn print_line(rt: &(impl Print + Eprint), pattern: &[u8]) -> io::Result<()>
     requires { length pattern.now ≤ 65536 }
 {
     let mut out = [0u8; 20];
     let n = put_line(pattern, &mut out);
-    if !io::write_all(STDOUT_FILENO, &out[..n]) {
-        os::fail(b"pattern_check: standard output");
+    match io::writer(rt).write_all(&out[..n]) {
+        Ok(()) => Ok(()),
+        Err(error) => eprintln!(rt; "pattern_check: standard output: {error}"),
     }
 }
 
-fn main() {
-    if 1 < os::arg_count() {
-        io::write_all(
-            STDERR_FILENO,
-            b"pattern_check: no argument is taken; the pattern is read from standard input\n",
+fn main(rt: HostRuntime) -> io::Result<()> {
+    if has_argument(&rt) {
+        return eprintln!(rt;
+            "pattern_check: no argument is taken; the pattern is read from standard input"
         );
-        return;
     }
-    let mut row = io::large_buffer();
-    match first_line(&mut row) {
-        Input::Held(n) => print_line(&row[..n]),
-        Input::Unreadable => os::fail(b"pattern_check: standard input"),
+    let mut row = [0u8; 65536];
+    match first_line(&mut rt.reader(), &mut row) {
+        Input::Held(n) => print_line(&rt, &row[..n]),
+        Input::Unreadable(error) => eprintln!(rt; "pattern_check: standard input: {error}"),
     }
 }
