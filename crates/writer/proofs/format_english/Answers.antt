@@ -1,5 +1,4 @@
 -- An empty row stands for the English book.
-use borrow.Author.Rules.{rules}
 use Rattle.meaning.proofs.Books.{english-unopened}
 use Rattle.writer.proofs.format_english.Goals as goal
 

@@ -1,5 +1,4 @@
 -- The name is there, and it is measured.
-use borrow.Author.Rules.{rules}
 use Rattle.laws.proofs.Fields.{allowed}
 use Rattle.laws.proofs.OpenedBooks.{opened-there}
 use Rattle.meaning.specs.Writing.{name_text}
@@ -7,8 +6,7 @@ use Rattle.format.proofs.lengths.length_of_name.Goals as goal
 
 pub name_length-requires : goal.name_length-requires
 name_length-requires c =
-    let a = c in
-    rw c.place_of.ensures (opened-there a.args.book.now a.args.names a.args.f (allowed a.args.f a.requires))
+    rw c.place_of.ensures (opened-there c.args.book.now c.args.names c.args.f (allowed c.args.f c.requires))
 
 pub returns : goal.returns
 unfolding name_text

@@ -1,5 +1,4 @@
 -- One byte less where the last two are an escaped quote.
-use borrow.Author.Rules.{rules}
 use native.Mathlib.Omega.{arith}
 use Rattle.format.proofs.lengths.Laws.{open-less}
 use Rattle.format.proofs.literals.Open.{open_kept}
@@ -7,18 +6,15 @@ use Rattle.format.proofs.lengths.open_length.Goals as goal
 
 pub overflow_sub-result : goal.overflow_sub-result
 overflow_sub-result c =
-    let a = c in
     let last = rw c.ends_in_quote.ensures at c.if-ends_in_quote.true in
-    omega (arith, open-less a.args.src.now a.requires last, c.unescaped_length-n.ensures)
+    omega (arith, open-less c.args.src.now c.requires last, c.unescaped_length-n.ensures)
 
 pub returns-then-ends_in_quote : goal.returns-then-ends_in_quote
 returns-then-ends_in_quote c =
-    let a = c in
     let last = rw c.ends_in_quote.ensures at c.if-ends_in_quote.true in
-    omega (arith, open-less a.args.src.now a.requires last, c.unescaped_length-n.ensures)
+    omega (arith, open-less c.args.src.now c.requires last, c.unescaped_length-n.ensures)
 
 pub returns-else-ends_in_quote : goal.returns-else-ends_in_quote
 returns-else-ends_in_quote c =
-    let a = c in
     let last = rw c.ends_in_quote.ensures at c.if-ends_in_quote.false in
-    rw (open_kept a.args.src.now a.requires last) c.unescaped_length-n.ensures
+    rw (open_kept c.args.src.now c.requires last) c.unescaped_length-n.ensures

@@ -11,31 +11,27 @@ use Rattle.meaning.specs.declared.Quantity.TheVariants.{Quarter}
 use Rattle.format.proofs.lengths.rule_length.Goals as goal
 
 -- a quarter has one digit
-returns-3 : tie.Need-returns-3
+pub returns-in-LetterQuarter : goal.returns-in-LetterQuarter
 unfolding rule_text most_digits
-returns-3 c =
-    let a = c in
+returns-in-LetterQuarter c =
     rw c.in-LetterQuarter.is
-    (omega (arith, num-fits 1 (quantity_of Quarter a.args.f) (omega arith) (quantity-below Quarter a.args.f (allowed a.args.f a.requires.0))))
+    (omega (arith, num-fits 1 (quantity_of Quarter c.args.f) (omega arith) (quantity-below Quarter c.args.f (allowed c.args.f c.requires.f_value))))
 
 pub year_length-requires : goal.year_length-requires
 unfolding rule_text
 year_length-requires c =
-    let a = c in
-    let e = to_z-of_z w32 a.args.f.year (record { sfits = c.struct_told.given.0.1 }) in
-    rw e (rw c.in-Years.is at a.requires.1)
+    let e = to_z-of_z w32 c.args.f.year (search rules) in
+    rw e (rw c.in-Years.is at c.requires.f_len_bound)
 
 pub year_length-requires-in-FixedYear : goal.year_length-requires-in-FixedYear
 unfolding rule_text
 year_length-requires-in-FixedYear c =
-    let a = c in
-    let e = to_z-of_z w32 a.args.f.year (record { sfits = c.struct-told2.given.0.1 }) in
-    rw e (rw c.in-FixedYear.is at a.requires.1)
+    let e = to_z-of_z w32 c.args.f.year (search rules) in
+    rw e (rw c.in-FixedYear.is at c.requires.f_len_bound)
 
 pub zone_length-requires : goal.zone_length-requires
 zone_length-requires c =
-    let a = c in
-    rw (to_z-of_z w32 a.args.f.offset (record { sfits = c.struct-told4.given.1.1.1.1.1.1.1.0.1 })) (allowed a.args.f a.requires.0).offset
+    rw (to_z-of_z w32 c.args.f.offset (search rules)) (allowed c.args.f c.requires.f_value).offset
 
 pub returns-in-Number : goal.returns-in-Number
 unfolding rule_text
@@ -60,27 +56,23 @@ returns-in-Letters c = rw c.in-Letters.is c.length_of_name-in-Letters.ensures
 pub returns-in-Years : goal.returns-in-Years
 unfolding rule_text
 returns-in-Years c =
-    let a = c in
-    let e = to_z-of_z w32 a.args.f.year (record { sfits = c.struct_told.given.0.1 }) in
+    let e = to_z-of_z w32 c.args.f.year (search rules) in
     rw c.in-Years.is (rw e at c.year_length.ensures)
 
 pub returns-in-FixedYear : goal.returns-in-FixedYear
 unfolding rule_text
 returns-in-FixedYear c =
-    let a = c in
-    let e = to_z-of_z w32 a.args.f.year (record { sfits = c.struct-told2.given.0.1 }) in
+    let e = to_z-of_z w32 c.args.f.year (search rules) in
     rw c.in-FixedYear.is (rw e at c.year_length-in-FixedYear.ensures)
 
 pub returns-in-TwoDigitYear : goal.returns-in-TwoDigitYear
 unfolding rule_text
 returns-in-TwoDigitYear c =
-    let a = c in
-    let e = to_z-of_z w32 a.args.f.year (record { sfits = c.struct-told3.given.0.1 }) in
+    let e = to_z-of_z w32 c.args.f.year (search rules) in
     rw c.in-TwoDigitYear.is (rw e at c.two_digit_length.ensures)
 
 pub returns-in-Zone : goal.returns-in-Zone
 unfolding rule_text
 returns-in-Zone c =
-    let a = c in
-    let e = to_z-of_z w32 a.args.f.offset (record { sfits = c.struct-told4.given.1.1.1.1.1.1.1.0.1 }) in
+    let e = to_z-of_z w32 c.args.f.offset (search rules) in
     rw c.in-Zone.is (rw e at c.zone_length.ensures)

@@ -1,5 +1,4 @@
 -- Each kind of step, from what it relies on.
-use borrow.Author.Rules.{rules}
 use lib.ListN.{length-replicate}
 use native.Mathlib.Omega.{arith}
 use Rattle.format.proofs.step.Texts.{open-text, year-text}
@@ -8,51 +7,38 @@ use Rattle.pattern.proofs.parts.Walks.{rest_all}
 use Rattle.format.proofs.lengths.step_length.Goals as goal
 
 -- the places of a quoted part, and of an unclosed one
-sub-unescaped-length : tie.Need-overflow-sub-unescaped-length
-sub-unescaped-length c = omega (arith, rw c.in-Quoted.is at c.requires.1.0)
-
 pub slice_bounds-unescaped_length-start : goal.slice_bounds-unescaped_length-start
-slice_bounds-unescaped_length-start c = omega (arith, rw c.in-Quoted.is at c.requires.1.0)
+slice_bounds-unescaped_length-start c = omega (arith, rw c.in-Quoted.is at c.requires.held)
 
 pub slice_bounds-unescaped_length-end : goal.slice_bounds-unescaped_length-end
-slice_bounds-unescaped_length-end c = omega (arith, rw c.in-Quoted.is at c.requires.1.0)
-
-pub slice_bounds-open_length-count : goal.slice_bounds-open_length-count
-slice_bounds-open_length-count c = omega (arith, (rw c.in-Open.is at c.requires.1.0).0)
+slice_bounds-unescaped_length-end c = omega (arith, rw c.in-Quoted.is at c.requires.held)
 
 pub slice_bounds-open_length-start : goal.slice_bounds-open_length-start
-slice_bounds-open_length-start c = omega (arith, (rw c.in-Open.is at c.requires.1.0).0)
+slice_bounds-open_length-start c = omega (arith, (rw c.in-Open.is at c.requires.held).0)
 
 pub open_length-requires : goal.open_length-requires
 open_length-requires c =
-    let a = c in
-    let told = c.step3.given in
-    rw (rest_all told.0.0 a.args.pattern.now) (rw told.1 at a.requires.1.0).1
+    rw (rest_all c.in-Open.from c.args.pattern.now) (rw c.in-Open.is at c.requires.held).1
 
-pub rule_length-requires : goal.rule_length-requires
+pub rule_length-requires-clause-f_len_bound : goal.rule_length-requires-clause-f_len_bound
 unfolding step_text rule_text
-rule_length-requires c =
-    let a = c in
-    (a.requires.0, rw year-text at (rw c.in-Year.is at a.requires.1.1))
+rule_length-requires-clause-f_len_bound c = rw year-text at (rw c.in-Year.is at c.requires.step_len_bound)
 
-pub rule_length-requires-in-MonthAbbreviated : goal.rule_length-requires-in-MonthAbbreviated
+pub rule_length-requires-in-MonthAbbreviated-clause-f_len_bound : goal.rule_length-requires-in-MonthAbbreviated-clause-f_len_bound
 unfolding step_text
-rule_length-requires-in-MonthAbbreviated c = let a = c in (a.requires.0, rw c.in-MonthAbbreviated.is at a.requires.1.1)
+rule_length-requires-in-MonthAbbreviated-clause-f_len_bound c = rw c.in-MonthAbbreviated.is at c.requires.step_len_bound
 
-pub rule_length-requires-in-MonthWide : goal.rule_length-requires-in-MonthWide
+pub rule_length-requires-in-MonthWide-clause-f_len_bound : goal.rule_length-requires-in-MonthWide-clause-f_len_bound
 unfolding step_text
-rule_length-requires-in-MonthWide c = let a = c in (a.requires.0, rw c.in-MonthWide.is at a.requires.1.1)
+rule_length-requires-in-MonthWide-clause-f_len_bound c = rw c.in-MonthWide.is at c.requires.step_len_bound
 
-pub rule_length-requires-in-WdayWide : goal.rule_length-requires-in-WdayWide
+pub rule_length-requires-in-WdayWide-clause-f_len_bound : goal.rule_length-requires-in-WdayWide-clause-f_len_bound
 unfolding step_text
-rule_length-requires-in-WdayWide c = let a = c in (a.requires.0, rw c.in-WdayWide.is at a.requires.1.1)
+rule_length-requires-in-WdayWide-clause-f_len_bound c = rw c.in-WdayWide.is at c.requires.step_len_bound
 
-pub rule_length-requires-in-Symbol : goal.rule_length-requires-in-Symbol
+pub rule_length-requires-in-Symbol-clause-f_len_bound : goal.rule_length-requires-in-Symbol-clause-f_len_bound
 unfolding step_text
-rule_length-requires-in-Symbol c =
-    let run = c in
-    let a = run in
-    (a.requires.0, rw (run.in-Run.is, c.in-Symbol.is) at a.requires.1.1)
+rule_length-requires-in-Symbol-clause-f_len_bound c = rw (c.in-Run.is, c.in-Symbol.is) at c.requires.step_len_bound
 
 pub returns-in-Times : goal.returns-in-Times
 unfolding step_text
@@ -64,9 +50,7 @@ returns-in-Quoted c = rw c.in-Quoted.is c.unescaped_length.ensures
 
 pub returns-in-Open : goal.returns-in-Open
 returns-in-Open c =
-    let a = c in
-    let told = c.step3.given in
-    rw (told.1, open-text) (rw (rest_all told.0.0 a.args.pattern.now) at c.open_length.ensures)
+    rw (c.in-Open.is, open-text) (rw (rest_all c.in-Open.from c.args.pattern.now) at c.open_length.ensures)
 
 pub returns-in-Short : goal.returns-in-Short
 unfolding step_text rule_text

@@ -1,5 +1,4 @@
 -- The digits, and one more for a minus, once the bits are taken away.
-use borrow.Author.Rules.{rules}
 use mathlib.Core.Path.{sym, ◌∙◌}
 use mir.Syntax.{w32}
 use mir.ValLaws.{to_z-of_z}
@@ -9,24 +8,21 @@ use Rattle.format.proofs.lengths.year_length.Goals as goal
 
 pub overflow_add-result : goal.overflow_add-result
 overflow_add-result c =
-    let a = c in
-    let e = to_z-of_z w32 a.args.z a.ranges.z in
+    let e = to_z-of_z w32 c.args.z c.ranges.z in
     let n = rw (rw e at c.size.ensures) at c.padded_length-n.ensures in
     let sign = sym (rw e at c.is_negative.ensures) ∙ c.if-is_negative.true in
-    omega (arith, n, rw sign at (signed-length a.args.k a.args.z), a.requires)
+    omega (arith, n, rw sign at (signed-length c.args.k c.args.z), c.requires)
 
 pub returns-then-is_negative : goal.returns-then-is_negative
 returns-then-is_negative c =
-    let a = c in
-    let e = to_z-of_z w32 a.args.z a.ranges.z in
+    let e = to_z-of_z w32 c.args.z c.ranges.z in
     let n = rw (rw e at c.size.ensures) at c.padded_length-n.ensures in
     let sign = sym (rw e at c.is_negative.ensures) ∙ c.if-is_negative.true in
-    omega (arith, n, rw sign at (signed-length a.args.k a.args.z))
+    omega (arith, n, rw sign at (signed-length c.args.k c.args.z))
 
 pub returns-else-is_negative : goal.returns-else-is_negative
 returns-else-is_negative c =
-    let a = c in
-    let e = to_z-of_z w32 a.args.z a.ranges.z in
+    let e = to_z-of_z w32 c.args.z c.ranges.z in
     let n = rw (rw e at c.size.ensures) at c.padded_length-n.ensures in
     let sign = sym (rw e at c.is_negative.ensures) ∙ c.if-is_negative.false in
-    omega (arith, n, rw sign at (signed-length a.args.k a.args.z))
+    omega (arith, n, rw sign at (signed-length c.args.k c.args.z))

@@ -1,5 +1,4 @@
 -- A Z, or a sign, two digits of hours and the groups, once the bits are taken away.
-use borrow.Author.Rules.{rules}
 use mir.Syntax.{w32}
 use mir.ValLaws.{to_z-of_z}
 use native.Mathlib.Omega.{arith}
@@ -9,32 +8,28 @@ use Rattle.format.proofs.lengths.zone_length.Goals as goal
 
 pub returns-then-is_z : goal.returns-then-is_z
 returns-then-is_z c =
-    let a = c in
-    let n = rw (to_z-of_z w32 a.args.z a.ranges.z) at c.size-n.ensures in
+    let n = rw (to_z-of_z w32 c.args.z c.ranges.z) at c.size-n.ensures in
     rw (← (rw n at c.is_z.ensures), c.if-is_z.true)
 
 pub overflow_add-result : goal.overflow_add-result
 overflow_add-result c =
-    let a = c in
     let n = c.size-n.result in
-    omega (arith, c.group_length-m.ensures, group-most a.args.colon a.args.minutes (n % 3600 / 60) (omega arith))
+    omega (arith, c.group_length-m.ensures, group-most c.args.colon c.args.minutes (n % 3600 / 60) (omega arith))
 
 pub overflow_add-result-2 : goal.overflow_add-result-2
 overflow_add-result-2 c =
-    let a = c in
     let n = c.size-n.result in
     omega (
       arith,
       c.group_length-m.ensures,
       c.group_length.ensures,
-      group-most a.args.colon a.args.minutes (n % 3600 / 60) (omega arith),
-      group-most a.args.colon a.args.seconds (n % 60) (omega arith),
+      group-most c.args.colon c.args.minutes (n % 3600 / 60) (omega arith),
+      group-most c.args.colon c.args.seconds (n % 60) (omega arith),
     )
 
 pub returns : goal.returns
 returns c =
-    let a = c in
-    let n = rw (to_z-of_z w32 a.args.z a.ranges.z) at c.size-n.ensures in
-    let long = offset-length a.args.colon a.args.minutes a.args.seconds a.args.z a.requires in
+    let n = rw (to_z-of_z w32 c.args.z c.ranges.z) at c.size-n.ensures in
+    let long = offset-length c.args.colon c.args.minutes c.args.seconds c.args.z c.requires in
     rw (← (rw n at c.is_z.ensures), c.if-is_z.false)
     (omega (arith, rw (← n) at long, c.group_length-m.ensures, c.group_length.ensures))

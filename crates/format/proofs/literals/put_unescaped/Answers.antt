@@ -1,8 +1,5 @@
-use Prim.Native.Nat.{◌+◌, ◌-◌}
-use borrow.Author.Rules.{rules}
-use lib.ListN.{length, get_or, drop, length-set, drop_of_length-le}
-use lib.Seq.{sets}
-use mathlib.Core.Path.{◌≡◌, refl, ap}
+use lib.ListN.{length, get_or, length-set, drop_of_length-le}
+use mathlib.Core.Path.{refl, ap}
 use native.Mathlib.Numerals.{add-one}
 use native.Mathlib.Omega.{arith}
 use Rattle.pattern.proofs.parts.Inside.{unescaped-turn, one-or-two}

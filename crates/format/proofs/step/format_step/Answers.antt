@@ -14,74 +14,73 @@ use Rattle.format.proofs.step.format_step.Goals as goal
 
 pub put_times-requires : goal.put_times-requires
 unfolding step_text
-put_times-requires c = rw length-replicate at (rw c.in-Times.is at c.requires.1.1)
-
-pub slice_bounds-put_unescaped-count : goal.slice_bounds-put_unescaped-count
-slice_bounds-put_unescaped-count c = omega (arith, rw c.in-Quoted.is at c.requires.1.0)
+put_times-requires c = rw length-replicate at (rw c.in-Times.is at c.requires.step_in_bounds)
 
 pub slice_bounds-put_unescaped-start : goal.slice_bounds-put_unescaped-start
-slice_bounds-put_unescaped-start c = omega (arith, rw c.in-Quoted.is at c.requires.1.0)
+slice_bounds-put_unescaped-start c = omega (arith, rw c.in-Quoted.is at c.requires.held)
 
 pub slice_bounds-put_unescaped-end : goal.slice_bounds-put_unescaped-end
-slice_bounds-put_unescaped-end c = omega (arith, rw c.in-Quoted.is at c.requires.1.0)
+slice_bounds-put_unescaped-end c = omega (arith, rw c.in-Quoted.is at c.requires.held)
 
 pub put_unescaped-requires : goal.put_unescaped-requires
 unfolding step_text
-put_unescaped-requires c = rw c.in-Quoted.is at c.requires.1.1
-
-pub slice_bounds-put_open-count : goal.slice_bounds-put_open-count
-slice_bounds-put_open-count c = omega (arith, (rw c.in-Open.is at c.requires.1.0).0)
+put_unescaped-requires c = rw c.in-Quoted.is at c.requires.step_in_bounds
 
 pub slice_bounds-put_open-start : goal.slice_bounds-put_open-start
-slice_bounds-put_open-start c = omega (arith, (rw c.in-Open.is at c.requires.1.0).0)
+slice_bounds-put_open-start c = omega (arith, (rw c.in-Open.is at c.requires.held).0)
 
-pub put_open-requires : goal.put_open-requires
-put_open-requires c =
-    let a = c in
-    let told = c.step3.given in
-    rw (rest_all told.0.0 a.args.pattern.now) ((rw told.1 at a.requires.1.0).1, rw open-text at (rw told.1 at a.requires.1.1))
+pub put_open-requires-clause-lost : goal.put_open-requires-clause-lost
+put_open-requires-clause-lost c =
+    rw (rest_all c.in-Open.from c.args.pattern.now) (rw c.in-Open.is at c.requires.held).1
+
+pub put_open-requires-clause-src_in_bounds : goal.put_open-requires-clause-src_in_bounds
+put_open-requires-clause-src_in_bounds c =
+    rw (rest_all c.in-Open.from c.args.pattern.now) (rw open-text at (rw c.in-Open.is at c.requires.step_in_bounds))
 
 pub put_short-requires : goal.put_short-requires
 unfolding step_text rule_text
 put_short-requires c =
-    let a = c in
-    let short = c.step4.given in
-    let small = short-small short.0.0 a.args.f (allowed a.args.f a.requires.0) in
-    rw c.short_number.ensures (small, (rw short.1 at a.requires.1.0).2, rw short.1 at a.requires.1.1)
+    let small = short-small c.in-Short.number c.args.f (allowed c.args.f c.requires.f_value) in
+    rw c.short_number.ensures (small, (rw c.in-Short.is at c.requires.held).2, rw c.in-Short.is at c.requires.step_in_bounds)
 
 pub zero_padded_i-requires : goal.zero_padded_i-requires
 unfolding step_text
 zero_padded_i-requires c =
-    let a = c in
-    let e = to_z-of_z w32 a.args.f.year (record { sfits = c.struct_told.given.0.1 }) in
-    rw e (rw year-text at (rw c.in-Year.is at a.requires.1.1))
+    let e = to_z-of_z w32 c.args.f.year (search rules) in
+    rw e (rw year-text at (rw c.in-Year.is at c.requires.step_in_bounds))
 
 pub overflow_sub-f : goal.overflow_sub-f
-overflow_sub-f c = omega (arith, allowed c.args.f c.requires.0)
+overflow_sub-f c = omega (arith, allowed c.args.f c.requires.f_value)
 
-pub format_name-requires : goal.format_name-requires
+pub format_name-requires-clause-index_in_bounds : goal.format_name-requires-clause-index_in_bounds
+unfolding place_of
+format_name-requires-clause-index_in_bounds c = opened-there c.args.book.now MonthAbbreviated c.args.f (allowed c.args.f c.requires.f_value)
+
+pub format_name-requires-clause-index_in_bounds_2 : goal.format_name-requires-clause-index_in_bounds_2
 unfolding step_text rule_text name_text place_of
-format_name-requires c =
-    let a = c in
-    (opened-there a.args.book.now MonthAbbreviated a.args.f (allowed a.args.f a.requires.0), rw c.in-MonthAbbreviated.is at a.requires.1.1)
+format_name-requires-clause-index_in_bounds_2 c = rw c.in-MonthAbbreviated.is at c.requires.step_in_bounds
 
 pub overflow_sub-f-in-MonthWide : goal.overflow_sub-f-in-MonthWide
-overflow_sub-f-in-MonthWide c = omega (arith, allowed c.args.f c.requires.0)
+overflow_sub-f-in-MonthWide c = omega (arith, allowed c.args.f c.requires.f_value)
 
-pub format_name-requires-in-MonthWide : goal.format_name-requires-in-MonthWide
+pub format_name-requires-in-MonthWide-clause-index_in_bounds : goal.format_name-requires-in-MonthWide-clause-index_in_bounds
+unfolding place_of
+format_name-requires-in-MonthWide-clause-index_in_bounds c = opened-there c.args.book.now MonthWide c.args.f (allowed c.args.f c.requires.f_value)
+
+pub format_name-requires-in-MonthWide-clause-index_in_bounds_2 : goal.format_name-requires-in-MonthWide-clause-index_in_bounds_2
 unfolding step_text rule_text name_text place_of
-format_name-requires-in-MonthWide c =
-    let a = c in
-    (opened-there a.args.book.now MonthWide a.args.f (allowed a.args.f a.requires.0), rw c.in-MonthWide.is at a.requires.1.1)
+format_name-requires-in-MonthWide-clause-index_in_bounds_2 c = rw c.in-MonthWide.is at c.requires.step_in_bounds
 
-pub format_name-requires-in-WdayWide : goal.format_name-requires-in-WdayWide
+pub format_name-requires-in-WdayWide-clause-index_in_bounds : goal.format_name-requires-in-WdayWide-clause-index_in_bounds
+unfolding place_of
+format_name-requires-in-WdayWide-clause-index_in_bounds c = opened-there c.args.book.now WdayWide c.args.f (allowed c.args.f c.requires.f_value)
+
+pub format_name-requires-in-WdayWide-clause-index_in_bounds_2 : goal.format_name-requires-in-WdayWide-clause-index_in_bounds_2
 unfolding step_text rule_text name_text place_of
-format_name-requires-in-WdayWide c =
-    let a = c in
-    (opened-there a.args.book.now WdayWide a.args.f (allowed a.args.f a.requires.0), rw c.in-WdayWide.is at a.requires.1.1)
+format_name-requires-in-WdayWide-clause-index_in_bounds_2 c = rw c.in-WdayWide.is at c.requires.step_in_bounds
 
-pub put_run-requires : goal.put_run-requires
-put_run-requires c = (c.requires.0, rw c.in-Run.is at c.requires.1.1)
+pub put_run-requires-clause-count_in_bounds : goal.put_run-requires-clause-count_in_bounds
+put_run-requires-clause-count_in_bounds c = rw c.in-Run.is at c.requires.step_in_bounds
 
 pub returns-in-Times : goal.returns-in-Times
 unfolding step_text
@@ -93,9 +92,7 @@ returns-in-Quoted c = rw c.in-Quoted.is c.put_unescaped.ensures
 
 pub returns-in-Open : goal.returns-in-Open
 returns-in-Open c =
-    let a = c in
-    let told = c.step3.given in
-    rw (told.1, open-text) (rw (rest_all told.0.0 a.args.pattern.now) at c.put_open.ensures)
+    rw (c.in-Open.is, open-text) (rw (rest_all c.in-Open.from c.args.pattern.now) at c.put_open.ensures)
 
 pub returns-in-Short : goal.returns-in-Short
 unfolding step_text rule_text
@@ -104,8 +101,7 @@ returns-in-Short c = rw (c.in-Short.is, ← c.short_number.ensures) c.put_short.
 pub returns-in-Year : goal.returns-in-Year
 unfolding step_text
 returns-in-Year c =
-    let a = c in
-    let e = to_z-of_z w32 a.args.f.year (record { sfits = c.struct_told.given.0.1 }) in
+    let e = to_z-of_z w32 c.args.f.year (search rules) in
     rw (c.in-Year.is, year-text) (rw e at c.zero_padded_i.ensures)
 
 pub returns-in-MonthAbbreviated : goal.returns-in-MonthAbbreviated

@@ -1,5 +1,4 @@
 -- Each arm is its quantity, within the bounds of an allowed record.
-use borrow.Author.Rules.{rules}
 use native.Mathlib.Omega.{arith}
 use Rattle.laws.proofs.Fields.{allowed}
 use Rattle.meaning.specs.Writing.{quantity_of}

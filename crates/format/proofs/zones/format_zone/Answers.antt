@@ -1,5 +1,4 @@
 -- Z for no offset where the rule has it, else the signed offset, once the bits are taken away.
-use borrow.Author.Rules.{rules}
 use native.Mathlib.Omega.{arith}
 use Rattle.meaning.specs.Writing.{offset_text}
 use mir.Syntax.{w32}
@@ -8,17 +7,15 @@ use Rattle.format.proofs.zones.format_zone.Goals as goal
 
 pub put_byte-requires : goal.put_byte-requires
 put_byte-requires c =
-    let a = c in
-    let e = to_z-of_z w32 a.args.z a.ranges.z in
+    let e = to_z-of_z w32 c.args.z c.ranges.z in
     let n = rw e at c.size-n.ensures in
     let test = rw n at c.is_z.ensures in
     let taken = c.if-is_z.true in
-    omega (arith, rw (← test, taken) at a.requires)
+    omega (arith, rw (← test, taken) at c.requires)
 
 pub returns-then-is_z : goal.returns-then-is_z
 returns-then-is_z c =
-    let a = c in
-    let e = to_z-of_z w32 a.args.z a.ranges.z in
+    let e = to_z-of_z w32 c.args.z c.ranges.z in
     let n = rw e at c.size-n.ensures in
     let test = rw n at c.is_z.ensures in
     let taken = c.if-is_z.true in
@@ -27,19 +24,16 @@ returns-then-is_z c =
 pub put_zone-requires : goal.put_zone-requires
 unfolding offset_text
 put_zone-requires c =
-    let a = c in
-    let e = to_z-of_z w32 a.args.z a.ranges.z in
+    let e = to_z-of_z w32 c.args.z c.ranges.z in
     let n = rw e at c.size-n.ensures in
     let test = rw n at c.is_z.ensures in
-    rw n (rw (← test, c.if-is_z.false) at a.requires)
+    rw n (rw (← test, c.if-is_z.false) at c.requires)
 
 pub returns : goal.returns
 unfolding offset_text
 returns c =
-    let b = c in
-    let a = b in
-    let e = to_z-of_z w32 a.args.z a.ranges.z in
-    let n = rw e at b.size-n.ensures in
-    let test = rw n at b.is_z.ensures in
-    let sign = rw e at (b.is_minus.ensures a.args.colon) in
-    rw (← test, b.if-is_z.false, ← sign, ← n) c.put_zone.ensures
+    let e = to_z-of_z w32 c.args.z c.ranges.z in
+    let n = rw e at c.size-n.ensures in
+    let test = rw n at c.is_z.ensures in
+    let sign = rw e at (c.is_minus.ensures c.args.colon) in
+    rw (← test, c.if-is_z.false, ← sign, ← n) c.put_zone.ensures

@@ -1,5 +1,4 @@
 -- Both tests, once the bits are taken away.
-use borrow.Author.Rules.{rules}
 use mir.Syntax.{w32}
 use mir.ValLaws.{to_z-of_z}
 use Rattle.meaning.specs.Writing.{is_minus}
@@ -9,15 +8,13 @@ pub returns-then-is_nothing : goal.returns-then-is_nothing
 unfolding is_minus
 returns-then-is_nothing c =
     λ colon.
-    let a = c in
-    let n = rw (to_z-of_z w32 a.args.z a.ranges.z) at c.size.ensures in
+    let n = rw (to_z-of_z w32 c.args.z c.ranges.z) at c.size.ensures in
     rw (← n, ← c.is_nothing.ensures colon, c.if-is_nothing.true)
 
 pub returns : goal.returns
 unfolding is_minus
 returns c =
     λ colon.
-    let a = c in
-    let e = to_z-of_z w32 a.args.z a.ranges.z in
+    let e = to_z-of_z w32 c.args.z c.ranges.z in
     let n = rw e at c.size.ensures in
     rw (← n, ← c.is_nothing.ensures colon, c.if-is_nothing.false) (rw e at c.is_negative.ensures)

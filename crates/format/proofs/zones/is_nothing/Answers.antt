@@ -1,5 +1,4 @@
 -- Hours, minutes and seconds, each in its turn.
-use borrow.Author.Rules.{rules}
 use borrow.Author.Tests.{eq-eqb, ne_eqb}
 use Rattle.laws.proofs.Zones.{zero-each}
 use Rattle.format.proofs.zones.is_nothing.Goals as goal

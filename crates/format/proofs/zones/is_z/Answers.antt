@@ -1,5 +1,4 @@
 -- Both tests.
-use borrow.Author.Rules.{rules}
 use Rattle.format.proofs.zones.is_z.Goals as goal
 
 pub returns-then-utc : goal.returns-then-utc

@@ -1,5 +1,4 @@
 -- Each arm, by what the group is worth.
-use borrow.Author.Rules.{rules}
 use mathlib.Core.Path.{sym}
 use Rattle.laws.proofs.Zones.{zero-group}
 use Rattle.meaning.specs.declared.Group.TheVariants.{Never, NotZero, Always}

@@ -1,5 +1,4 @@
 -- Two digits where the group is there, else nothing.
-use borrow.Author.Rules.{rules}
 use mathlib.Core.Path.{refl}
 use native.Mathlib.Omega.{arith}
 use Rattle.format.proofs.zones.put_group.Goals as goal

@@ -1,5 +1,4 @@
 -- Three writers, one after the other.
-use borrow.Author.Rules.{rules}
 use lib.ListN.{length-append}
 use native.Mathlib.Omega.{arith}
 use Rattle.laws.proofs.Laid.{laid_then}

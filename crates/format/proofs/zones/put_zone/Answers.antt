@@ -1,5 +1,4 @@
 -- The sign, then the offset.
-use borrow.Author.Rules.{rules}
 use Rattle.laws.proofs.Laid.{laid_then}
 use Rattle.format.proofs.zones.put_zone.Goals as goal
 

@@ -9,20 +9,19 @@ use Rattle.pattern_check.proofs.line.put_verdict.Goals as goal
 
 pub put_bytes-requires : goal.put_bytes-requires
 put_bytes-requires c =
-    let a = c in
-    let text = rw (c.in-Yes.is, yes-text) at a.requires.1 in
+    let text = rw (c.in-Yes.is, yes-text) at c.requires.verdict_in_bounds in
     omega (arith, text)
 
 pub overflow_cast-part : goal.overflow_cast-part
-overflow_cast-part c = Fits-below {n = 65536} tt (rw c.in-No.is at c.requires.0)
+overflow_cast-part c = Fits-below {n = 65536} tt (rw c.in-No.is at c.requires.part_fits)
 
 pub put_counted-requires : goal.put_counted-requires
 put_counted-requires c =
-    rw (c.in-No.is, no_text) at c.requires.1
+    rw (c.in-No.is, no_text) at c.requires.verdict_in_bounds
 
 pub put_counted-requires-in-Refused : goal.put_counted-requires-in-Refused
 put_counted-requires-in-Refused c =
-    rw (c.in-Refused.is, refused-text, ← ap (λ (t : Told). t.number) c.tell.ensures) at c.requires.1
+    rw (c.in-Refused.is, refused-text, ← ap (λ (t : Told). t.number) c.tell.ensures) at c.requires.verdict_in_bounds
 
 pub returns-in-Yes : goal.returns-in-Yes
 returns-in-Yes c = rw (c.in-Yes.is, yes-text) c.put_bytes.ensures

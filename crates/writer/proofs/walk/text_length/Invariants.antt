@@ -1,15 +1,9 @@
 -- What is counted and the text of what is left of the pattern are as long as the whole text.
 use Prim.Native.Nat.{◌+◌, ◌-◌}
-use lib.ListN.{length, drop, length-append}
+use lib.ListN.{length, drop}
 use mathlib.Core.Path.{◌≡◌}
-use native.Mathlib.Omega.{arith}
-use Rattle.writer.proofs.walk.Texts.{text-step, text-done}
 use Rattle.meaning.specs.OpenedBooks.{book_in}
 use Rattle.meaning.specs.Whole.{text}
-use Rattle.meaning.specs.Writing.{step_text}
-use Rattle.pattern.proofs.parts.Next.{next, starts-here}
-use Rattle.pattern.specs.Next.{Next}
-use Rattle.rules.specs.Steps.{means}
 use Rattle.writer.proofs.walk.text_length.Given as goal
 
 abbrev pub invariant-loop-from : goal.invariant-loop-from
