@@ -1,15 +1,8 @@
-use Prim.Native.Nat.{◌-◌}
-use borrow.Author.Rules.{rules}
-use lib.ListN.{length, drop, drop_of_length-le}
+use lib.ListN.{drop_of_length-le}
 use lib.Seq.{drop-cons}
-use mathlib.Core.Path.{◌≡◌, refl}
 use native.Mathlib.Numerals.{add-one}
-use native.Mathlib.Omega.{arith}
 use Rattle.words.specs.Rows.{xor_from}
 use Rattle.words.proofs.checking.check_word.Goals as goal
-
-pub offset_bounds-words-i : goal.offset_bounds-words-i
-offset_bounds-words-i c = omega (arith, c.well-formed)
 
 pub loop-i-preserved : goal.loop-i-preserved
 unfolding xor_from

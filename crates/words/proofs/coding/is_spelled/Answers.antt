@@ -1,6 +1,5 @@
 -- Both tests.
 use mathlib.Core.Path.{sym, ◌∙◌}
-use borrow.Author.Rules.{rules}
 use Rattle.words.proofs.coding.is_spelled.Goals as goal
 
 pub returns-then-is_matched_name : goal.returns-then-is_matched_name

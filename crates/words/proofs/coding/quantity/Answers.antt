@@ -1,5 +1,4 @@
 -- What it is of, with its digits.
-use borrow.Author.Rules.{rules}
 use Rattle.words.proofs.coding.quantity.Goals as goal
 
 pub returns : goal.returns

@@ -1,5 +1,6 @@
 -- Each number by itself; the last quantity is the one that is left.
 use borrow.Author.Tests.{ne_eqb}
+use native.Mathlib.Omega.{arith}
 use Rattle.words.specs.Coding.{quantity_in}
 use Rattle.words.proofs.coding.quantity_in.Goals as goal
 
@@ -70,5 +71,4 @@ returns-in-12 c =
 
 pub returns-in_default : goal.returns-in_default
 unfolding quantity_in
-returns-in_default c =
-    simp (ne_eqb _ _ c.match.rest.0.0.0.0.0.0.0.0.0.0.0.0.1, ne_eqb _ _ c.match.rest.0.0.0.0.0.0.0.0.0.0.0.1, ne_eqb _ _ c.match.rest.0.0.0.0.0.0.0.0.0.0.1, ne_eqb _ _ c.match.rest.0.0.0.0.0.0.0.0.0.1, ne_eqb _ _ c.match.rest.0.0.0.0.0.0.0.0.1, ne_eqb _ _ c.match.rest.0.0.0.0.0.0.0.1, ne_eqb _ _ c.match.rest.0.0.0.0.0.0.1, ne_eqb _ _ c.match.rest.0.0.0.0.0.1, ne_eqb _ _ c.match.rest.0.0.0.0.1, ne_eqb _ _ c.match.rest.0.0.0.1, ne_eqb _ _ c.match.rest.0.0.1, ne_eqb _ _ c.match.rest.0.1, ne_eqb _ _ c.match.rest.1)
+returns-in_default c = simp (ne_eqb c.args.n 0 (omega arith), ne_eqb c.args.n 1 (omega arith), ne_eqb c.args.n 2 (omega arith), ne_eqb c.args.n 3 (omega arith), ne_eqb c.args.n 4 (omega arith), ne_eqb c.args.n 5 (omega arith), ne_eqb c.args.n 6 (omega arith), ne_eqb c.args.n 7 (omega arith), ne_eqb c.args.n 8 (omega arith), ne_eqb c.args.n 9 (omega arith), ne_eqb c.args.n 10 (omega arith), ne_eqb c.args.n 11 (omega arith), ne_eqb c.args.n 12 (omega arith))

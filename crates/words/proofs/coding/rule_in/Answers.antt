@@ -1,7 +1,8 @@
 -- The rule of each kind.
 use borrow.Author.Tests.{ne_eqb}
+use Prim.Native.Nat.{◌/◌, ◌%◌}
+use native.Mathlib.Omega.{arith}
 use Rattle.words.specs.Coding.{rule_of_kind}
-use borrow.Author.Rules.{rules}
 use Rattle.words.proofs.coding.rule_in.Goals as goal
 
 pub returns-in-0 : goal.returns-in-0
@@ -10,7 +11,7 @@ returns-in-0 c = rw (c.in-0.is, c.quantity.ensures, c.least.ensures, c.most.ensu
 
 pub returns-in-1 : goal.returns-in-1
 unfolding rule_of_kind
-returns-in-1 c = rw (c.in-1.is, c.quantity2.ensures, c.least2.ensures, c.most2.ensures)
+returns-in-1 c = rw (c.in-1.is, c.quantity-in-1.ensures, c.least-in-1.ensures, c.most-in-1.ensures)
 
 pub returns-in-2 : goal.returns-in-2
 unfolding rule_of_kind
@@ -34,4 +35,4 @@ returns-in-6 c = rw c.in-6.is
 
 pub returns-in_default : goal.returns-in_default
 unfolding rule_of_kind
-returns-in_default c = simp (c.zone.ensures, ne_eqb _ _ c.match.rest.0.0.0.0.0.0.1, ne_eqb _ _ c.match.rest.0.0.0.0.0.1, ne_eqb _ _ c.match.rest.0.0.0.0.1, ne_eqb _ _ c.match.rest.0.0.0.1, ne_eqb _ _ c.match.rest.0.0.1, ne_eqb _ _ c.match.rest.0.1, ne_eqb _ _ c.match.rest.1)
+returns-in_default c = simp (c.zone.ensures, ne_eqb (c.args.w / 32 % 16) 0 (omega arith), ne_eqb (c.args.w / 32 % 16) 1 (omega arith), ne_eqb (c.args.w / 32 % 16) 2 (omega arith), ne_eqb (c.args.w / 32 % 16) 3 (omega arith), ne_eqb (c.args.w / 32 % 16) 4 (omega arith), ne_eqb (c.args.w / 32 % 16) 5 (omega arith), ne_eqb (c.args.w / 32 % 16) 6 (omega arith))

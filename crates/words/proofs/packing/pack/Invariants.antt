@@ -1,12 +1,7 @@
 -- What is laid, and what the parts still to come are packed into, are all of it.
-use Prim.Native.Nat.{◌+◌, ◌-◌}
-use lib.ListN.{length, drop}
-use mathlib.Core.Path.{◌∙◌}
-use native.Mathlib.Omega.{arith}
-use Rattle.pattern.proofs.parts.Next.{next, starts-here}
-use Rattle.pattern.specs.Next.{Next}
-use Rattle.words.proofs.packing.Turns.{Left, all_left, behind_part, part-few, held-few, words-few, left-next, first_fits, second_fits, all-packed}
-use Rattle.words.specs.Packing.{part_words}
+use Prim.Native.Nat.{◌-◌}
+use lib.ListN.{length}
+use Rattle.words.proofs.packing.Turns.{Left}
 use Rattle.words.proofs.packing.pack.Given as goal
 
 abbrev pub invariant-loop-place : goal.invariant-loop-place

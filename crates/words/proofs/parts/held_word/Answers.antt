@@ -1,6 +1,5 @@
 -- The sum of its fields.
 use native.Mathlib.Omega.{arith}
-use borrow.Author.Rules.{rules}
 use Rattle.words.proofs.parts.held_word.Goals as goal
 
 pub returns-then-lost : goal.returns-then-lost

@@ -1,57 +1,70 @@
 -- A byte by itself, or all of the inside.
-use mathlib.Core.Bool.{true, false}
-use mathlib.Core.Logic.{⊎_elim}
+use mathlib.Core.Bool.{Bool, false}
+use mathlib.Core.List.{List}
 use mathlib.Core.Path.{◌≡◌, refl, sym, ◌∙◌}
-use Prim.Native.Nat.{ℕ, ◌+◌, ◌-◌, ◌≤◌, ◌<◌}
+use Prim.Native.Nat.{ℕ, ◌-◌, ◌≤◌}
 use native.Mathlib.Omega.{arith}
-use lib.ListN.{length, get_or}
+use lib.ListN.{length}
 use Rattle.pattern.specs.First.{unescaped}
-use Rattle.words.proofs.parts.Words.{is-not, is-so, some-inside, one-held, one_word, lost-is-held, many-are-held, held-inside, held_word}
-use Rattle.words.specs.Packing.{is_one}
-use borrow.Author.Rules.{rules}
+use Rattle.words.proofs.parts.Words.{some-inside, one-held, one_word, lost-is-held, many-are-held, held-inside, held_word_lem}
+use Rattle.words.specs.Packing.{is_one, held_inside}
 use Rattle.words.proofs.parts.hold.Goals as goal
+use Rattle.words.proofs.parts.hold.Goals.{then-n-eq1+else-not-lost, else-n-eq1}
 
-one : (c : goal.After-shared_slice_known-then-not-lost-1) → length (unescaped c.args.src.now) ≡ 1
-one c = sym c.unescaped_length-n.ensures ∙ c.if-n-eq1.true
-
-lost-not : (c : goal.After-shared_slice_known-then-not-lost-1) → c.args.lost ≡ false
-lost-not c = is-not c.args.lost c.if-not-lost.true
-
-whole : (c : goal.Joined-n-eq1) → is_one (unescaped c.args.src.now) c.args.lost ≡ false
-whole c = ⊎_elim (λ w. lost-is-held (unescaped c.args.src.now) c.args.lost (is-so c.args.lost w.1.left))
-    (λ w. many-are-held (unescaped c.args.src.now) c.args.lost c.unescaped_length-n.result c.unescaped_length-n.ensures w.left) c.if-n-eq1.branch
-
-few : (c : goal.Joined-n-eq1) → c.unescaped_length-n.result ≤ c.args.before
-few c =
-    let s = c in
-    omega (arith, c.unescaped_length-n.ensures, rw (held-inside (unescaped s.args.src.now) s.args.lost (whole c)) at s.requires.0)
+-- of an inside that is not just one byte, as many bytes are held as it has
+few : (src : List ℕ) (lost : Bool) (n before : ℕ) → n ≡ length (unescaped src) → is_one (unescaped src) lost ≡ false
+    → length (held_inside (unescaped src) lost) ≤ before → n ≤ before
+few src lost n before e w h = omega (arith, e, rw (held-inside (unescaped src) lost w) at h)
 
 pub bounds-src-0 : goal.bounds-src-0
-bounds-src-0 c = some-inside c.args.src.now (one c)
+bounds-src-0 c = some-inside c.args.src.now (sym c.unescaped_length-n.ensures ∙ c.if-n-eq1.true)
 
 pub returns-then-not-lost : goal.returns-then-not-lost
 returns-then-not-lost c =
     let src = c.args.src.now in
-    rw (lost-not c.before) (c.times_word.ensures ∙ one_word src c.args.before (one c.before), rw (one-held (unescaped src) (one c.before)) (record { start = omega arith; laid = refl }))
+    let one = sym c.unescaped_length-n.ensures ∙ c.if-n-eq1.true in
+    rw (c.if-not-lost.true)
+    (c.times_word.ensures ∙ one_word src c.args.before one, rw (one-held (unescaped src) one) (record { start = omega arith; laid = refl }))
 
 pub overflow_sub-at : goal.overflow_sub-at
-overflow_sub-at c = omega (arith, few c)
+overflow_sub-at c =
+    let whole : is_one (unescaped c.args.src.now) c.args.lost ≡ false =
+    elim c.if-n-eq1.branch [
+      | then-n-eq1+else-not-lost w ↦ lost-is-held (unescaped c.args.src.now) c.args.lost w.if-not-lost.false
+      | else-n-eq1 w ↦ many-are-held (unescaped c.args.src.now) c.args.lost c.unescaped_length-n.result c.unescaped_length-n.ensures w.if-n-eq1.false
+    ] in
+    let fits = few c.args.src.now c.args.lost c.unescaped_length-n.result c.args.before c.unescaped_length-n.ensures whole c.requires.0 in
+    fits
 
 pub lay_held-requires : goal.lay_held-requires
-lay_held-requires c = omega (arith, few c.before, c.unescaped_length-n.ensures, c.requires)
+lay_held-requires c =
+    let whole : is_one (unescaped c.args.src.now) c.args.lost ≡ false =
+    elim c.if-n-eq1.branch [
+      | then-n-eq1+else-not-lost w ↦ lost-is-held (unescaped c.args.src.now) c.args.lost w.if-not-lost.false
+      | else-n-eq1 w ↦ many-are-held (unescaped c.args.src.now) c.args.lost c.unescaped_length-n.result c.unescaped_length-n.ensures w.if-n-eq1.false
+    ] in
+    let fits = few c.args.src.now c.args.lost c.unescaped_length-n.result c.args.before c.unescaped_length-n.ensures whole c.requires.0 in
+    omega (arith, c.unescaped_length-n.ensures, c.requires)
 
 pub held_word-requires : goal.held_word-requires
-held_word-requires c = (omega (arith, c.requires), omega (arith, few c.before, c.requires))
+held_word-requires c =
+    let whole : is_one (unescaped c.args.src.now) c.args.lost ≡ false =
+    elim c.if-n-eq1.branch [
+      | then-n-eq1+else-not-lost w ↦ lost-is-held (unescaped c.args.src.now) c.args.lost w.if-not-lost.false
+      | else-n-eq1 w ↦ many-are-held (unescaped c.args.src.now) c.args.lost c.unescaped_length-n.result c.unescaped_length-n.ensures w.if-n-eq1.false
+    ] in
+    let fits = few c.args.src.now c.args.lost c.unescaped_length-n.result c.args.before c.unescaped_length-n.ensures whole c.requires.0 in
+    (omega (arith, c.requires), omega (arith, c.requires))
 
 pub returns : goal.returns
 returns c =
-    let s = c in
-    let inside = unescaped s.args.src.now in
+    let inside = unescaped c.args.src.now in
     let n = c.unescaped_length-n in
-    let w = whole c.before in (
-      c.held_word.ensures ∙ rw (held_word inside s.args.lost (s.args.before - n.result) w, n.ensures),
-      rw (held-inside inside s.args.lost w) (record { start = rw n.ensures; laid = c.lay_held.ensures }),
+    let whole : is_one (unescaped c.args.src.now) c.args.lost ≡ false =
+    elim c.if-n-eq1.branch [
+      | then-n-eq1+else-not-lost w ↦ lost-is-held (unescaped c.args.src.now) c.args.lost w.if-not-lost.false
+      | else-n-eq1 w ↦ many-are-held (unescaped c.args.src.now) c.args.lost c.unescaped_length-n.result c.unescaped_length-n.ensures w.if-n-eq1.false
+    ] in (
+      c.held_word.ensures ∙ rw (held_word_lem inside c.args.lost (c.args.before - n.result) whole, n.ensures),
+      rw (held-inside inside c.args.lost whole) (record { start = rw n.ensures; laid = c.lay_held.ensures }),
     )
-
-pub times_word-requires : goal.times_word-requires
-times_word-requires c = search rules

@@ -1,8 +1,5 @@
-use Prim.Native.Nat.{◌+◌, ◌-◌}
-use borrow.Author.Rules.{rules}
-use lib.ListN.{length, get_or, drop, length-set, drop_of_length-le}
-use lib.Seq.{sets}
-use mathlib.Core.Path.{◌≡◌, refl, ap}
+use lib.ListN.{length, get_or, length-set, drop_of_length-le}
+use mathlib.Core.Path.{refl, ap}
 use native.Mathlib.Numerals.{add-one}
 use native.Mathlib.Omega.{arith}
 use Rattle.pattern.proofs.parts.Inside.{unescaped-turn, one-or-two}
@@ -19,7 +16,7 @@ pub offset_bounds-tail-next : goal.offset_bounds-tail-next
 offset_bounds-tail-next c =
     let L = c.loop-i in
     let src = c.args.src.now in
-    omega (arith, ap length (unescaped-turn src L.i c.loop-i-test.true), L.invariant.1, c.well-formed)
+    omega (arith, ap length (unescaped-turn src L.i c.loop-i-test.true), L.invariant.1)
 
 pub bounds-tail-next : goal.bounds-tail-next
 bounds-tail-next c =

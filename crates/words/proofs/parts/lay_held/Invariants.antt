@@ -1,12 +1,8 @@
 -- What lies there and what the bytes still to come stand for are the whole inside.
 use Prim.Native.Nat.{◌+◌, ◌-◌}
-use borrow.Author.Rules.{rules}
-use lib.ListN.{length, get_or, drop, length-set, drop_of_length-le}
+use lib.ListN.{length, drop}
 use lib.Seq.{sets}
-use mathlib.Core.Path.{◌≡◌, refl, ap}
-use native.Mathlib.Numerals.{add-one}
-use native.Mathlib.Omega.{arith}
-use Rattle.pattern.proofs.parts.Inside.{unescaped-turn, one-or-two}
+use mathlib.Core.Path.{◌≡◌}
 use Rattle.pattern.specs.First.{unescaped}
 use Rattle.words.proofs.parts.lay_held.Given as goal
 

@@ -3,28 +3,25 @@ use mathlib.Core.Path.{refl, ◌∙◌}
 use Rattle.words.proofs.parts.Words.{run-content, quotes-content, quoted-content, open-content, open-lost}
 use Rattle.words.specs.Packing.{part_word, held_in}
 use native.Mathlib.Omega.{arith}
-use borrow.Author.Rules.{rules}
 use Rattle.words.proofs.parts.part_word.Goals as goal
 
 pub slice_bounds-hold-count : goal.slice_bounds-hold-count
-slice_bounds-hold-count c = omega (arith, c.requires.0.two c.in-Quoted.is)
+slice_bounds-hold-count c = omega (arith, c.requires.next.two c.in-Quoted.is)
 
 pub slice_bounds-hold-start : goal.slice_bounds-hold-start
-slice_bounds-hold-start c = omega (arith, c.requires.0.two c.in-Quoted.is)
+slice_bounds-hold-start c = omega (arith, c.requires.next.two c.in-Quoted.is)
 
 pub hold-requires : goal.hold-requires
 unfolding held_in
 hold-requires c =
-    let s = c in
-    (rw (quoted-content c.args.pattern.now c.args.part c.in-Quoted.is) at s.requires.1.1, s.requires.1.2, s.requires.1.3)
+    (rw (quoted-content c.args.pattern.now c.args.part c.in-Quoted.is) at c.requires.length_bound.1, c.requires.length_bound.2, c.requires.length_bound.3)
 
 pub hold-requires-in-Open : goal.hold-requires-in-Open
 unfolding held_in
 hold-requires-in-Open c =
-    let s = c in
     let unclosed = c.in-Open.is in
-    let lost = c.ends_in_quote.ensures ∙ open-lost c.args.pattern.now c.args.part s.requires.0 unclosed in
-    (rw lost (rw (open-content c.args.pattern.now c.args.part unclosed) at s.requires.1.1), s.requires.1.2, s.requires.1.3)
+    let lost = c.ends_in_quote.ensures ∙ open-lost c.args.pattern.now c.args.part c.requires.next unclosed in
+    (rw lost (rw (open-content c.args.pattern.now c.args.part unclosed) at c.requires.length_bound.1), c.requires.length_bound.2, c.requires.length_bound.3)
 
 pub returns-in-Run : goal.returns-in-Run
 unfolding part_word held_in
@@ -42,5 +39,5 @@ pub returns-in-Open : goal.returns-in-Open
 unfolding part_word held_in
 returns-in-Open c =
     let unclosed = c.in-Open.is in
-    let lost = c.ends_in_quote.ensures ∙ open-lost c.args.pattern.now c.args.part c.requires.0 unclosed in
+    let lost = c.ends_in_quote.ensures ∙ open-lost c.args.pattern.now c.args.part c.requires.next unclosed in
     rw (open-content c.args.pattern.now c.args.part unclosed, ← lost) c.hold-in-Open.ensures

@@ -1,5 +1,4 @@
 -- Each step by itself.
-use borrow.Author.Rules.{rules}
 use Rattle.words.proofs.parts.role_meant.Goals as goal
 
 pub returns-in-Short : goal.returns-in-Short

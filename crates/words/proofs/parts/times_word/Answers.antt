@@ -1,6 +1,5 @@
 -- By itself, or with a count.
 use borrow.Author.Tests.{eq-eqb, ne_eqb}
-use borrow.Author.Rules.{rules}
 use Rattle.words.proofs.parts.times_word.Goals as goal
 
 pub returns-then-n-eq1 : goal.returns-then-n-eq1

@@ -1,7 +1,6 @@
 -- The tests, one after the other.
 use mathlib.Core.Path.{sym, ◌∙◌}
 use borrow.Author.Tests.{eq-eqb, ne_eqb}
-use borrow.Author.Rules.{rules}
 use Rattle.words.proofs.pending.are_three.Goals as goal
 
 pub returns-then-has_byte : goal.returns-then-has_byte

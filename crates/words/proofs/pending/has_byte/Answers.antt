@@ -1,6 +1,5 @@
 -- The two tests.
 use borrow.Author.Tests.{eq-eqb, ne_eqb}
-use borrow.Author.Rules.{rules}
 use Rattle.words.proofs.pending.has_byte.Goals as goal
 
 pub returns-then-w-fields : goal.returns-then-w-fields

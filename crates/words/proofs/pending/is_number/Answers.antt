@@ -1,5 +1,6 @@
 -- Each code by itself.
 use borrow.Author.Tests.{ne_eqb}
+use native.Mathlib.Omega.{arith}
 use Rattle.words.proofs.pending.is_number.Goals as goal
 
 pub returns-in-3 : goal.returns-in-3
@@ -18,4 +19,4 @@ pub returns-in-15 : goal.returns-in-15
 returns-in-15 c = rw c.in-15.is
 
 pub returns-in_default : goal.returns-in_default
-returns-in_default c = simp (ne_eqb _ _ c.match.rest.0.0.0.0.1, ne_eqb _ _ c.match.rest.0.0.0.1, ne_eqb _ _ c.match.rest.0.0.1, ne_eqb _ _ c.match.rest.0.1, ne_eqb _ _ c.match.rest.1)
+returns-in_default c = simp (ne_eqb c.args.c 3 (omega arith), ne_eqb c.args.c 4 (omega arith), ne_eqb c.args.c 9 (omega arith), ne_eqb c.args.c 10 (omega arith), ne_eqb c.args.c 15 (omega arith))

@@ -1,25 +1,15 @@
 -- Each way that a word goes: into the one before it, as the third of three, or behind one that is final.
-use mathlib.Core.List.{List, ◌∷◌}
-use mathlib.Core.Path.{◌≡◌, sym, ◌∙◌}
+use mathlib.Core.List.{List}
+use mathlib.Core.Path.{sym, ◌∙◌}
 use Prim.Native.Nat.{ℕ, ◌+◌, ◌-◌, ◌≤◌, ◌<◌}
 use native.Mathlib.Omega.{arith}
 use Rattle.words.proofs.pending.Steps.{joined-byte, joined-date, joined-time, joined-kept, kept-laid, kept-end, kept-fits, byte_fits}
-use Rattle.words.specs.Packing.{kept, joined}
-use borrow.Author.Rules.{rules}
+use Rattle.words.specs.Packing.{joined}
 use Rattle.words.proofs.pending.join.Goals as goal
 
 -- the byte fits beside the word
-joins : (c : goal.Then-joins_byte) → (1 ≤ c.args.w) × (c.args.second + (c.args.w - 1) < 18446744073709551616)
-joins c = byte_fits c.args.second c.args.w (sym c.joins_byte.ensures ∙ c.if-joins_byte.true) (omega arith)
-
--- the first that is pending is final
-stays : (c : goal.Else-are_three-2) (ws : List ℕ) →
-    let s = c in
-    joined s.args.first s.args.second (s.args.w ∷ ws) ≡ kept s.args.first (joined s.args.second s.args.w ws)
-stays c ws =
-    let s = c in
-    joined-kept s.args.first s.args.second s.args.w ws (sym c.joins_byte.ensures ∙ c.if-joins_byte.false)
-    (sym c.are_three.ensures ∙ c.if-are_three.false) (sym c.are_three-2.ensures ∙ c.if-are_three-2.false)
+joins : (c : goal.Then-joins_byte) → (1 ≤ c.args.w) × (c.args.before.second + (c.args.w - 1) < 18446744073709551616)
+joins c = byte_fits c.args.before.second c.args.w (sym c.joins_byte.ensures ∙ c.if-joins_byte.true) (omega arith)
 
 pub overflow_sub-result : goal.overflow_sub-result
 overflow_sub-result c = omega (arith, joins c)
@@ -59,16 +49,16 @@ returns-then-are_three-2 c =
 
 pub keep-requires : goal.keep-requires
 keep-requires c =
-    let s = c in
-    let p = s.args.before in
-    omega (arith, kept-fits p.first (joined p.second s.args.w s.requires.rest), rw (stays c.before s.requires.rest) at s.requires.fits)
+    let p = c.args.before in
+    let stays = λ (ws : List ℕ). joined-kept p.first p.second c.args.w ws (sym c.joins_byte.ensures ∙ c.if-joins_byte.false) (sym c.are_three.ensures ∙ c.if-are_three.false) (sym c.are_three-2.ensures ∙ c.if-are_three-2.false) in
+    omega (arith, kept-fits p.first (joined p.second c.args.w c.requires.rest), rw (stays c.requires.rest) at c.requires.fits)
 
 pub returns : goal.returns
 returns c =
-    let s = c in
-    let p = s.args.before in
+    let p = c.args.before in
+    let stays = λ (ws : List ℕ). joined-kept p.first p.second c.args.w ws (sym c.joins_byte.ensures ∙ c.if-joins_byte.false) (sym c.are_three.ensures ∙ c.if-are_three.false) (sym c.are_three-2.ensures ∙ c.if-are_three-2.false) in
     let k = c.keep.ensures in
     record {
-      laid = λ ws. rw (stays c.before ws) (kept-laid p.first k (joined p.second s.args.w ws));
-      end = λ ws. rw (stays c.before ws) (kept-end p.first k (joined p.second s.args.w ws));
+      laid = λ ws. rw (stays ws) (kept-laid p.first k (joined p.second c.args.w ws));
+      end = λ ws. rw (stays ws) (kept-end p.first k (joined p.second c.args.w ws));
     }

@@ -1,7 +1,6 @@
 -- The tests, one after the other.
 use mathlib.Core.Path.{sym, ◌∙◌}
 use borrow.Author.Tests.{lt-ltb, le-ltb}
-use borrow.Author.Rules.{rules}
 use Rattle.words.proofs.pending.joins_byte.Goals as goal
 
 pub returns-then-is_number : goal.returns-then-is_number

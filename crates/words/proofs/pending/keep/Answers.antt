@@ -2,7 +2,6 @@
 use mathlib.Core.Path.{refl}
 use native.Mathlib.Omega.{arith}
 use borrow.Author.Tests.{eq-eqb, ne_eqb}
-use borrow.Author.Rules.{rules}
 use Rattle.words.proofs.pending.keep.Goals as goal
 
 pub returns-then-w-eq0 : goal.returns-then-w-eq0

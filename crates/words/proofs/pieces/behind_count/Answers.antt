@@ -2,7 +2,6 @@
 use mathlib.Core.Path.{sym, ◌∙◌}
 use native.Mathlib.Omega.{arith}
 use borrow.Author.Tests.{eq-eqb, ne_eqb}
-use borrow.Author.Rules.{rules}
 use Rattle.words.proofs.pieces.behind_count.Goals as goal
 
 pub returns-then-last_byte-eq0 : goal.returns-then-last_byte-eq0

@@ -1,8 +1,9 @@
 -- By the code.
 use mathlib.Core.Path.{refl, sym, ◌∙◌}
+use native.Mathlib.Omega.{arith}
+use Rattle.words.specs.Fields.{code}
 use Rattle.words.specs.Pieces.{pieces_of_code}
 use Rattle.words.proofs.pieces.Codes.{of_code, of_none}
-use borrow.Author.Rules.{rules}
 use Rattle.words.proofs.pieces.first_piece.Goals as goal
 
 pub returns-in-1 : goal.returns-in-1
@@ -47,4 +48,4 @@ returns-in-31 c = rw (of_code _ (sym c.code.ensures ∙ c.in-31.is)) (rw (c.from
 
 pub returns-in_default : goal.returns-in_default
 unfolding pieces_of_code
-returns-in_default c = rw (of_code _ refl, of_none _ _ (λ e. c.match.rest.0.0.0.0.0.0.0.0.0.1 (c.code.ensures ∙ e)) (λ e. c.match.rest.0.0.0.0.0.0.0.0.1 (c.code.ensures ∙ e)) (λ e. c.match.rest.0.0.0.0.0.0.0.1 (c.code.ensures ∙ e)) (λ e. c.match.rest.0.0.0.0.0.0.1 (c.code.ensures ∙ e)) (λ e. c.match.rest.0.0.0.0.0.1 (c.code.ensures ∙ e)) (λ e. c.match.rest.0.0.0.0.1 (c.code.ensures ∙ e)) (λ e. c.match.rest.0.0.0.1 (c.code.ensures ∙ e)) (λ e. c.match.rest.0.0.1 (c.code.ensures ∙ e)) (λ e. c.match.rest.0.1 (c.code.ensures ∙ e)) (λ e. c.match.rest.1 (c.code.ensures ∙ e))) c.once-in_default.ensures
+returns-in_default c = rw (of_code _ refl, of_none c.args.w (code c.args.w) (λ e. omega (arith, c.code.ensures ∙ e)) (λ e. omega (arith, c.code.ensures ∙ e)) (λ e. omega (arith, c.code.ensures ∙ e)) (λ e. omega (arith, c.code.ensures ∙ e)) (λ e. omega (arith, c.code.ensures ∙ e)) (λ e. omega (arith, c.code.ensures ∙ e)) (λ e. omega (arith, c.code.ensures ∙ e)) (λ e. omega (arith, c.code.ensures ∙ e)) (λ e. omega (arith, c.code.ensures ∙ e)) (λ e. omega (arith, c.code.ensures ∙ e))) c.once-in_default.ensures

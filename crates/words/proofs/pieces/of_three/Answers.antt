@@ -1,7 +1,8 @@
 -- By the place.
 use mathlib.Core.Path.{◌∙◌, sym}
+use native.Mathlib.Omega.{arith}
 use Rattle.words.proofs.pieces.Codes.{behind-at, none-of-three}
-use borrow.Author.Rules.{rules}
+use Rattle.words.specs.Pieces.{shortly}
 use Rattle.words.proofs.pieces.of_three.Goals as goal
 
 pub returns-in-1 : goal.returns-in-1
@@ -20,4 +21,4 @@ pub returns-in-5 : goal.returns-in-5
 returns-in-5 c = rw c.in-5.is (c.once-in-5.ensures ∙ rw c.last_byte.ensures (sym (behind-at _)))
 
 pub returns-in_default : goal.returns-in_default
-returns-in_default c = c.once-in_default.ensures ∙ sym (none-of-three _ _ _ _ (λ e. c.match.rest.0.0.0.0.1 (e)) (λ e. c.match.rest.0.0.0.1 (e)) (λ e. c.match.rest.0.0.1 (e)) (λ e. c.match.rest.0.1 (e)) (λ e. c.match.rest.1 (e)))
+returns-in_default c = c.once-in_default.ensures ∙ sym (none-of-three (shortly c.args.second 2) (shortly c.args.third 2) c.args.w c.args.k (λ e. omega (arith, e)) (λ e. omega (arith, e)) (λ e. omega (arith, e)) (λ e. omega (arith, e)) (λ e. omega (arith, e)))

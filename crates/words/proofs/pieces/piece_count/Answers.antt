@@ -1,9 +1,9 @@
 -- By the code.
 use mathlib.Core.Path.{refl, sym, ◌∙◌}
 use native.Mathlib.Omega.{arith}
+use Rattle.words.specs.Fields.{code}
 use Rattle.words.specs.Pieces.{pieces_of_code}
 use Rattle.words.proofs.pieces.Codes.{of_code, of_none}
-use borrow.Author.Rules.{rules}
 use Rattle.words.proofs.pieces.piece_count.Goals as goal
 
 pub returns-in-1 : goal.returns-in-1
@@ -48,4 +48,4 @@ returns-in-31 c = rw (of_code _ (sym c.code.ensures ∙ c.in-31.is)) (refl, omeg
 
 pub returns-in_default : goal.returns-in_default
 unfolding pieces_of_code
-returns-in_default c = rw (of_code _ refl, of_none _ _ (λ e. c.match.rest.0.0.0.0.0.0.0.0.0.1 (c.code.ensures ∙ e)) (λ e. c.match.rest.0.0.0.0.0.0.0.0.1 (c.code.ensures ∙ e)) (λ e. c.match.rest.0.0.0.0.0.0.0.1 (c.code.ensures ∙ e)) (λ e. c.match.rest.0.0.0.0.0.0.1 (c.code.ensures ∙ e)) (λ e. c.match.rest.0.0.0.0.0.1 (c.code.ensures ∙ e)) (λ e. c.match.rest.0.0.0.0.1 (c.code.ensures ∙ e)) (λ e. c.match.rest.0.0.0.1 (c.code.ensures ∙ e)) (λ e. c.match.rest.0.0.1 (c.code.ensures ∙ e)) (λ e. c.match.rest.0.1 (c.code.ensures ∙ e)) (λ e. c.match.rest.1 (c.code.ensures ∙ e))) (refl, omega arith)
+returns-in_default c = rw (of_code _ refl, of_none c.args.w (code c.args.w) (λ e. omega (arith, c.code.ensures ∙ e)) (λ e. omega (arith, c.code.ensures ∙ e)) (λ e. omega (arith, c.code.ensures ∙ e)) (λ e. omega (arith, c.code.ensures ∙ e)) (λ e. omega (arith, c.code.ensures ∙ e)) (λ e. omega (arith, c.code.ensures ∙ e)) (λ e. omega (arith, c.code.ensures ∙ e)) (λ e. omega (arith, c.code.ensures ∙ e)) (λ e. omega (arith, c.code.ensures ∙ e)) (λ e. omega (arith, c.code.ensures ∙ e))) (refl, omega arith)

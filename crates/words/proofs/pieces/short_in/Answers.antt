@@ -1,5 +1,6 @@
 -- Each slot by itself.
 use borrow.Author.Tests.{ne_eqb}
+use native.Mathlib.Omega.{arith}
 use Rattle.words.specs.Pieces.{short_in}
 use Rattle.words.proofs.pieces.short_in.Goals as goal
 
@@ -30,5 +31,4 @@ returns-in-4 c =
 
 pub returns-in_default : goal.returns-in_default
 unfolding short_in
-returns-in_default c =
-    simp (ne_eqb _ _ c.match.rest.0.0.0.0.1, ne_eqb _ _ c.match.rest.0.0.0.1, ne_eqb _ _ c.match.rest.0.0.1, ne_eqb _ _ c.match.rest.0.1, ne_eqb _ _ c.match.rest.1)
+returns-in_default c = simp (ne_eqb c.args.n 0 (omega arith), ne_eqb c.args.n 1 (omega arith), ne_eqb c.args.n 2 (omega arith), ne_eqb c.args.n 3 (omega arith), ne_eqb c.args.n 4 (omega arith))

@@ -1,5 +1,4 @@
 -- Each list by itself.
-use borrow.Author.Rules.{rules}
 use native.Mathlib.Omega.{arith}
 use mathlib.Core.Path.{refl}
 use Rattle.words.proofs.rule_words.list_number.Goals as goal

@@ -2,7 +2,6 @@
 use native.Mathlib.Omega.{arith}
 use borrow.Author.Tests.{lt-ltb, le-ltb}
 use Rattle.words.specs.Packing.{rule_word}
-use borrow.Author.Rules.{rules}
 use Rattle.words.proofs.rule_words.number_word.Goals as goal
 
 pub returns-then-slot-lt5 : goal.returns-then-slot-lt5

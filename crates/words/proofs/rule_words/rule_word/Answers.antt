@@ -1,7 +1,6 @@
 -- The sum of a rule's fields, by its kind.
 use native.Mathlib.Omega.{arith}
 use Rattle.words.specs.Packing.{rule_word}
-use borrow.Author.Rules.{rules}
 use Rattle.words.proofs.rule_words.rule_word.Goals as goal
 
 pub overflow_mul-result-in-SkippedName-2 : goal.overflow_mul-result-in-SkippedName-2

@@ -1,6 +1,5 @@
 -- One of the two.
 use borrow.Author.Tests.{eq-eqb, ne_eqb}
-use borrow.Author.Rules.{rules}
 use Rattle.words.proofs.rule_words.slot_word.Goals as goal
 
 pub returns-then-least-eq2 : goal.returns-then-least-eq2
