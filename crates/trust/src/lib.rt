@@ -3,7 +3,6 @@
 // part does not come back whatever follows, nor does one that loses digits of the year.
 #![tactic(auto)]
 
-
 #[derive(Clone, Copy)]
 pub enum Need {
     Nothing,
