@@ -29,7 +29,7 @@ step_of-requires c =
     starts-here n
 
 pub step_need-need-requires : goal.step_need-need-requires
-step_need-need-requires c = c.step_of_lem.ensures.held
+step_need-need-requires c = c.step_of.ensures.held
 
 pub overflow_add-place : goal.overflow_add-place
 overflow_add-place c =
@@ -48,7 +48,7 @@ returns-then-not-meets c =
     let part = c.next_part-part.result in
     let n = next p L.place part (omega arith) c.next_part-part.ensures in
     let q = contents (drop (L.place + part.length) p) in
-    let chosen = c.step_of_lem.ensures in
+    let chosen = c.step_of.ensures in
     let need = rw chosen.meant at c.step_need-need.ensures in
     let answered = c.if-not-meets.true in
     let fails = rw need at (sym c.meets.ensures ∙ answered) in
@@ -79,7 +79,7 @@ loop-place-preserved c =
     let part = c.next_part-part.result in
     let n = next p L.place part (omega arith) c.next_part-part.ensures in
     let q = contents (drop (L.place + part.length) p) in
-    let chosen = c.step_of_lem.ensures in
+    let chosen = c.step_of.ensures in
     let need = rw chosen.meant at c.step_need-need.ensures in
     let answered = c.if-not-meets.false in
     let holds = rw need at (sym c.meets.ensures ∙ answered) in

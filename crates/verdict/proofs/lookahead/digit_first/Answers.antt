@@ -24,4 +24,4 @@ returns c =
     let a = c.args in
     let part = c.next_part-part in
     let n = next a.pattern.now a.place part.result (omega arith) part.ensures in
-    rw (steps_next Full a.pattern.now a.place part.result n, ← c.step_of_lem.ensures.meant) c.step_first.ensures
+    rw (steps_next Full a.pattern.now a.place part.result n, ← c.step_of.ensures.meant) c.step_first.ensures

@@ -31,5 +31,5 @@ returns c =
     let a = c.args in
     let part = c.next_part-part in
     let n = next a.pattern.now a.place part.result (omega arith) part.ensures in
-    rw (steps_next Full a.pattern.now a.place part.result n, ← c.digit_first-behind.ensures, ← c.step_of_lem.ensures.meant)
+    rw (steps_next Full a.pattern.now a.place part.result n, ← c.digit_first-behind.ensures, ← c.step_of.ensures.meant)
     c.step_second.ensures

@@ -35,9 +35,7 @@ slice_bounds-inside_first-start-in-Open c =
 pub returns-in-Times : goal.returns-in-Times
 unfolding step_first
 returns-in-Times c =
-    let s = c in
-    let known = c.step.given in
-    rw (known.1, run-first known.0.0 known.0.1.0 (rw known.1 at s.requires)) c.is_digit.ensures
+    rw (c.in-Times.is, run-first _ _ (rw c.in-Times.is at c.requires)) c.is_digit.ensures
 
 pub returns-in-Quoted : goal.returns-in-Quoted
 unfolding step_first
@@ -46,8 +44,7 @@ returns-in-Quoted c = rw c.in-Quoted.is c.inside_first.ensures
 pub returns-in-Open : goal.returns-in-Open
 unfolding step_first
 returns-in-Open c =
-    let known = c.step3.given in
-    rw (known.1, ← rest_all known.0.0 c.args.pattern.now) c.inside_first-in-Open.ensures
+    rw (c.in-Open.is, ← rest_all c.in-Open.from c.args.pattern.now) c.inside_first-in-Open.ensures
 
 pub returns-in-Short : goal.returns-in-Short
 unfolding step_first rule_first
@@ -72,10 +69,7 @@ returns-in-WdayWide c = rw c.in-WdayWide.is
 pub returns-in-Literal : goal.returns-in-Literal
 unfolding step_first
 returns-in-Literal c =
-    let s = c in
-    let known = c.step4.given in
-    rw (known.1, c.in-Literal.is, run-first known.0.1.0 known.0.1.1.0 (rw known.1 at s.requires))
-    c.is_digit-in-Literal.ensures
+    rw (c.in-Run.is, c.in-Literal.is, run-first _ _ (rw c.in-Run.is at c.requires)) c.is_digit-in-Literal.ensures
 
 pub returns-in-Symbol : goal.returns-in-Symbol
 unfolding step_first

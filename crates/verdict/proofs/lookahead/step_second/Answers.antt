@@ -43,8 +43,7 @@ returns-in-Quoted c = rw c.in-Quoted.is c.inside_second.ensures
 pub returns-in-Open : goal.returns-in-Open
 unfolding step_second inside_second
 returns-in-Open c =
-    let known = c.step3.given in
-    rw (known.1, ← rest_all known.0.0 c.args.pattern.now) c.inside_second-in-Open.ensures
+    rw (c.in-Open.is, ← rest_all c.in-Open.from c.args.pattern.now) c.inside_second-in-Open.ensures
 
 pub returns-in-Short : goal.returns-in-Short
 unfolding step_second

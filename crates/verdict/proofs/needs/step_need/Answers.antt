@@ -26,10 +26,8 @@ returns-in-Quoted c = rw c.in-Quoted.is
 pub returns-in-Open : goal.returns-in-Open
 unfolding step_need
 returns-in-Open c =
-    let s = c in
-    let known = c.step.given in
-    let held = rw known.1 at s.requires in
-    rw (known.1, held.1.told, ← rest_all known.0.0 s.args.pattern.now, ← c.ends_in_quote.ensures) c.loss_need.ensures
+    let held = rw c.in-Open.is at c.requires in
+    rw (c.in-Open.is, held.1.told, ← rest_all c.in-Open.from c.args.pattern.now, ← c.ends_in_quote.ensures) c.loss_need.ensures
 
 pub returns-in-Short : goal.returns-in-Short
 unfolding step_need rule_need
