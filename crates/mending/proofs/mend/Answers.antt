@@ -1,6 +1,4 @@
 -- The checks, the length of the mended pattern, it, and the list of its changes.
-use Prim.Native.Nat.{◌≤◌}
-use lib.ListN.{length}
 use mathlib.Core.Path.{◌≡◌, sym, ◌∙◌}
 use mir.Syntax.{w32}
 use mir.ValLaws.{to_z-of_z}
@@ -10,56 +8,80 @@ use Rattle.meaning.specs.Trust.{trust_check}
 use Rattle.meaning.specs.declared.Checked.TheVariants.{Fine}
 use Rattle.trust.specs.Mending.{mended, changes}
 use Rattle.mending.proofs.Answers.{checked-short, check-refused, too_long, no_room, with-room, mended-with}
-use borrow.Author.Rules.{rules}
 use Rattle.mending.proofs.mend.Goals as goal
-
-checked : (c : goal.After-trust_check) → let a = c.args in c.trust_check.result ≡ trust_check a.edition a.pattern.now a.year
-checked c =
-    let s = c in
-    let same-year = to_z-of_z w32 s.args.year s.ranges.year in
-    let ensured = c.trust_check.ensures in
-    cc
-
-fine : (c : goal.In_default) → let a = c.args in trust_check a.edition a.pattern.now a.year ≡ Fine
-fine c = sym (checked c.before) ∙ c.in_default.is
-
--- a pattern that passes the checks is short
-short : (c : goal.In_default) → length c.args.pattern.now ≤ 256
-short c = let a = c.args in checked-short a.edition a.pattern.now a.year (fine c)
 
 pub returns-in-Refused : goal.returns-in-Refused
 returns-in-Refused c =
     let a = c.args in
-    let m = check-refused a.edition a.pattern.now a.year a.out.now (sym (checked c.before) ∙ c.in-Refused.is) in
+    let same-year = to_z-of_z w32 a.year c.ranges.year in
+    let ensured = c.trust_check.ensures in
+    let checked : c.trust_check.result ≡ trust_check a.edition a.pattern.now a.year = cc in
+    let m = check-refused a.edition a.pattern.now a.year a.out.now (sym checked ∙ c.in-Refused.is) in
     (by_whole (c.refused.ensures ∙ sym m.0), sym m.1)
 
 pub mended_length-n-requires : goal.mended_length-n-requires
-mended_length-n-requires c = short c
+mended_length-n-requires c =
+    let a = c.args in
+    let same-year = to_z-of_z w32 a.year c.ranges.year in
+    let ensured = c.trust_check.ensures in
+    let is = c.in_default.is in
+    let fine : trust_check a.edition a.pattern.now a.year ≡ Fine = cc in
+    checked-short a.edition a.pattern.now a.year fine
 
 pub returns-then-n-gt256 : goal.returns-then-n-gt256
 returns-then-n-gt256 c =
     let a = c.args in
+    let same-year = to_z-of_z w32 a.year c.ranges.year in
+    let ensured = c.trust_check.ensures in
+    let is = c.in_default.is in
+    let fine : trust_check a.edition a.pattern.now a.year ≡ Fine = cc in
     let n = c.mended_length-n.ensures in
-    let m = too_long a.edition a.pattern.now a.year a.out.now (fine c.before) (omega (arith, n, c.if-n-gt256.true)) in
+    let m = too_long a.edition a.pattern.now a.year a.out.now fine (omega (arith, n, c.if-n-gt256.true)) in
     (by_whole (c.refused-then-n-gt256.ensures ∙ sym m.0), sym m.1)
 
 pub returns-then-out-n : goal.returns-then-out-n
 returns-then-out-n c =
     let a = c.args in
+    let same-year = to_z-of_z w32 a.year c.ranges.year in
+    let ensured = c.trust_check.ensures in
+    let is = c.in_default.is in
+    let fine : trust_check a.edition a.pattern.now a.year ≡ Fine = cc in
     let n = c.mended_length-n.ensures in
-    let m = no_room a.edition a.pattern.now a.year a.out.now (fine c.before) (omega (arith, n, c.if-n-gt256.false)) (omega (arith, n, c.if-out-n.true)) in
+    let m = no_room a.edition a.pattern.now a.year a.out.now fine (omega (arith, n, c.if-n-gt256.false)) (omega (arith, n, c.if-out-n.true)) in
     (by_whole (c.refused-then-out-n.ensures ∙ rw n (sym m.0)), sym m.1)
 
 pub put_mended-requires : goal.put_mended-requires
-put_mended-requires c = (short c.before, omega (arith, c.mended_length-n.ensures, c.if-out-n.false))
+put_mended-requires c =
+    let a = c.args in
+    let same-year = to_z-of_z w32 a.year c.ranges.year in
+    let ensured = c.trust_check.ensures in
+    let is = c.in_default.is in
+    let fine : trust_check a.edition a.pattern.now a.year ≡ Fine = cc in
+    record {
+      pattern_len_bound = checked-short a.edition a.pattern.now a.year fine;
+      pattern_in_bounds = omega (arith, c.mended_length-n.ensures, c.if-out-n.false);
+    }
 
 pub list_changes-requires : goal.list_changes-requires
-list_changes-requires c = (short c.before, omega (arith, c.mended_length-n.ensures, c.if-n-gt256.false))
+list_changes-requires c =
+    let a = c.args in
+    let same-year = to_z-of_z w32 a.year c.ranges.year in
+    let ensured = c.trust_check.ensures in
+    let is = c.in_default.is in
+    let fine : trust_check a.edition a.pattern.now a.year ≡ Fine = cc in
+    record {
+      pattern_len_bound = checked-short a.edition a.pattern.now a.year fine;
+      pattern_len_bound_2 = omega (arith, c.mended_length-n.ensures, c.if-n-gt256.false);
+    }
 
 pub returns : goal.returns
 returns c =
     let a = c.args in
+    let same-year = to_z-of_z w32 a.year c.ranges.year in
+    let ensured = c.trust_check.ensures in
+    let is = c.in_default.is in
+    let fine : trust_check a.edition a.pattern.now a.year ≡ Fine = cc in
     let n = c.mended_length-n.ensures in
     let laid = c.put_mended.ensures in
-    let m = with-room a.edition a.pattern.now a.year a.out.now (fine c.before) (omega (arith, n, c.if-n-gt256.false)) (omega (arith, n, c.if-out-n.false)) in
+    let m = with-room a.edition a.pattern.now a.year a.out.now fine (omega (arith, n, c.if-n-gt256.false)) (omega (arith, n, c.if-out-n.false)) in
     (by_whole (rw (c.list_changes.ensures, laid.end) (mended-with (mended a.edition a.pattern.now) (changes a.edition a.pattern.now) ∙ sym m.0)), laid.held ∙ sym m.1)

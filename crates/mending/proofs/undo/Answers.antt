@@ -1,17 +1,10 @@
 -- Whether the changes fit, the length of what was, and it.
-use borrow.Author.Tests.{not-true, not-false}
-use mathlib.Core.Bool.{true}
-use mathlib.Core.Path.{◌≡◌, sym, ap, ◌∙◌}
+use mathlib.Core.Path.{sym, ap, ◌∙◌}
 use native.Mathlib.Omega.{arith}
-use Rattle.meaning.specs.Mending.{changes_in, all_fit}
+use Rattle.meaning.specs.Mending.{changes_in}
 use Rattle.meaning.specs.declared.Undone.TheVariants as undone
 use Rattle.mending.proofs.Answers.{misfit, undo-no-room, undo-with-room}
-use borrow.Author.Rules.{rules}
 use Rattle.mending.proofs.undo.Goals as goal
-
--- every change fits
-fine : (c : goal.Else-not-all_fit) → all_fit c.args.pattern.now 0 (changes_in c.args.changes) ≡ true
-fine c = sym c.all_fit.ensures ∙ c.if-not-all_fit.false
 
 pub returns-then-not-all_fit : goal.returns-then-not-all_fit
 returns-then-not-all_fit c =
@@ -20,21 +13,27 @@ returns-then-not-all_fit c =
     (sym m.0, sym m.1)
 
 pub undone_length-length-requires : goal.undone_length-length-requires
-undone_length-length-requires c = fine c
+undone_length-length-requires c = sym c.all_fit.ensures ∙ c.if-not-all_fit.false
 
 pub returns-then-out-length : goal.returns-then-out-length
 returns-then-out-length c =
     let a = c.args in
+    let fine = sym c.all_fit.ensures ∙ c.if-not-all_fit.false in
     let n = c.undone_length-length.ensures in
-    let m = undo-no-room a.pattern.now (changes_in a.changes) a.out.now (fine c.before) (omega (arith, n, c.if-out-length.true)) in
+    let m = undo-no-room a.pattern.now (changes_in a.changes) a.out.now fine (omega (arith, n, c.if-out-length.true)) in
     rw n (sym m.0, sym m.1)
 
 pub put_undone-requires : goal.put_undone-requires
-put_undone-requires c = (fine c.before, omega (arith, c.undone_length-length.ensures, c.if-out-length.false))
+put_undone-requires c =
+    record {
+      changes_value = sym c.all_fit.ensures ∙ c.if-not-all_fit.false;
+      changes_in_bounds = omega (arith, c.undone_length-length.ensures, c.if-out-length.false);
+    }
 
 pub returns : goal.returns
 returns c =
     let a = c.args in
+    let fine = sym c.all_fit.ensures ∙ c.if-not-all_fit.false in
     let laid = c.put_undone.ensures in
-    let m = undo-with-room a.pattern.now (changes_in a.changes) a.out.now (fine c.before) (omega (arith, c.undone_length-length.ensures, c.if-out-length.false)) in
+    let m = undo-with-room a.pattern.now (changes_in a.changes) a.out.now fine (omega (arith, c.undone_length-length.ensures, c.if-out-length.false)) in
     (ap undone.Length (laid.end ∙ omega arith) ∙ sym m.0, laid.held ∙ sym m.1)

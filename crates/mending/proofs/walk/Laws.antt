@@ -50,6 +50,11 @@ pub record Found (edition : Edition) (p : List ℕ) (at place : ℕ) (part : Par
   pub own-told : own ≡ own_change edition at (content_of p part)
   pub spaces-told : spaces ≡ gap edition (content_of p part) (contents (drop (part.start + part.length) p))
 
+pub found : {edition : Edition} {p : List ℕ} {at place : ℕ} {part : Part} {own : Change} {spaces : ℕ} → Next p place part
+    → own ≡ own_change edition at (content_of p part) → spaces ≡ gap edition (content_of p part) (contents (drop (part.start + part.length) p))
+    → Found edition p at place part own spaces
+found n own spaces = record { next = n; own-told = own; spaces-told = spaces }
+
 module _ {edition : Edition} {p : List ℕ} {at place : ℕ} {part : Part} {own : Change} {spaces : ℕ} (f : Found edition p at place part own spaces) where
   pub grows : own.before ≤ own.after
   grows = rw f.own-told (own-grows edition at (content_of p part))

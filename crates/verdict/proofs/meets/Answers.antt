@@ -1,5 +1,4 @@
 -- Each arm is its need.
-use borrow.Author.Rules.{rules}
 use Rattle.trust.specs.Check.{meets}
 use Rattle.verdict.proofs.meets.Goals as goal
 

@@ -1,5 +1,4 @@
 -- Yes, or the part with the record that its need has.
-use borrow.Author.Rules.{rules}
 use Rattle.verdict.proofs.shown.Goals as goal
 
 pub returns-in-At : goal.returns-in-At

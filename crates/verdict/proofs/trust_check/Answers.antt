@@ -1,5 +1,4 @@
 -- The checks, one after the other, once the bits of the year are taken away.
-use borrow.Author.Rules.{rules}
 use mir.Syntax.{w32}
 use mir.ValLaws.{to_z-of_z}
 use Rattle.meaning.specs.Trust.{trust_check}

@@ -1,7 +1,6 @@
 -- The tests, as the definition has them.
 use borrow.Author.Tests.{le-leb, lt-leb}
 use Rattle.meaning.specs.Mending.{fits}
-use borrow.Author.Rules.{rules}
 use Rattle.mending.proofs.undoing.fits.Goals as goal
 
 pub returns-then-change-at : goal.returns-then-change-at

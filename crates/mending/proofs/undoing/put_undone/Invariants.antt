@@ -1,15 +1,10 @@
 -- What lies there and what is left are the whole.
-use Prim.Native.Nat.{◌+◌, ◌-◌, ◌≤◌, ◌<◌}
-use borrow.Author.Rules.{rules}
-use lib.ListN.{length, get_or, take, drop, length-replicate}
+use Prim.Native.Nat.{◌+◌, ◌-◌, ◌≤◌}
+use lib.ListN.{length, drop}
 use lib.Seq.{sets}
 use mathlib.Core.Bool.{true}
-use mathlib.Core.Path.{◌≡◌, refl, ap, ◌∙◌}
-use native.Mathlib.Omega.{arith}
-use Rattle.laws.proofs.Laid.{sets-append, laid_then}
-use Rattle.meaning.specs.Mending.{no_change, changes_in, all_fit, undone_from}
-use Rattle.mending.proofs.undoing.Laws.{Fitting, fits-here, fits-later, kept-long, undone-next, undone-long, undone-last}
-use Rattle.pattern.proofs.parts.Walks.{rest_all}
+use mathlib.Core.Path.{◌≡◌}
+use Rattle.meaning.specs.Mending.{changes_in, all_fit, undone_from}
 use Rattle.mending.proofs.undoing.put_undone.Given as goal
 
 abbrev pub invariant-loop-i : goal.invariant-loop-i

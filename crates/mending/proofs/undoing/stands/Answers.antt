@@ -1,9 +1,7 @@
-use Prim.Native.Nat.{◌+◌, ◌-◌, ◌≤◌}
-use lib.ListN.{length, drop, replicate, length-drop, length-replicate}
-use mathlib.Core.Path.{◌≡◌, sym, ◌∙◌}
+use lib.ListN.{drop, replicate, length-drop, length-replicate}
+use mathlib.Core.Path.{sym, ◌∙◌}
 use native.Mathlib.Nat.{add-zero, sub-zero}
 use native.Mathlib.Omega.{arith}
-use Rattle.meaning.specs.Readers.{begins}
 use Rattle.mending.proofs.undoing.Laws.{begins-short, stands_on, stands-not, stands-done}
 use Rattle.mending.proofs.undoing.stands.Goals as goal
 

@@ -1,11 +1,8 @@
 -- What is left to stand there, and what stood there, are all the times.
 use Prim.Native.Nat.{◌+◌, ◌-◌, ◌≤◌}
-use lib.ListN.{length, drop, replicate, length-drop, length-replicate}
-use mathlib.Core.Path.{◌≡◌, sym, ◌∙◌}
-use native.Mathlib.Nat.{add-zero, sub-zero}
-use native.Mathlib.Omega.{arith}
+use lib.ListN.{length, drop, replicate}
+use mathlib.Core.Path.{◌≡◌}
 use Rattle.meaning.specs.Readers.{begins}
-use Rattle.mending.proofs.undoing.Laws.{begins-short, stands_on, stands-not, stands-done}
 use Rattle.mending.proofs.undoing.stands.Given as goal
 
 abbrev pub invariant-loop-j : goal.invariant-loop-j

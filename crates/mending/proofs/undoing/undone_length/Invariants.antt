@@ -1,12 +1,9 @@
 -- What is counted and what is left are as long as the whole.
-use Prim.Native.Nat.{◌+◌, ◌-◌, ◌≤◌, ◌<◌}
-use borrow.Author.Rules.{rules}
-use lib.ListN.{length, get_or, drop, length-drop}
+use Prim.Native.Nat.{◌+◌, ◌-◌, ◌≤◌}
+use lib.ListN.{length, drop}
 use mathlib.Core.Bool.{true}
-use mathlib.Core.Path.{◌≡◌, ap}
-use native.Mathlib.Omega.{arith}
-use Rattle.meaning.specs.Mending.{no_change, changes_in, all_fit, undone_from}
-use Rattle.mending.proofs.undoing.Laws.{Fitting, fits-here, fits-later, undone-long, undone-last}
+use mathlib.Core.Path.{◌≡◌}
+use Rattle.meaning.specs.Mending.{changes_in, all_fit, undone_from}
 use Rattle.mending.proofs.undoing.undone_length.Given as goal
 
 abbrev pub invariant-loop-i : goal.invariant-loop-i

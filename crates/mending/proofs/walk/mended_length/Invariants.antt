@@ -1,13 +1,8 @@
 -- What is counted and the mended pattern of what is left are as long as the whole.
-use Prim.Native.Nat.{◌+◌, ◌-◌, ◌≤◌}
-use borrow.Author.Rules.{rules}
+use Prim.Native.Nat.{◌+◌, ◌-◌}
 use lib.ListN.{length}
-use mathlib.Core.Path.{◌≡◌, ap}
-use native.Mathlib.Omega.{arith}
-use Rattle.mending.proofs.walk.Laws.{left_from, all_left, none_left, Found, grows, length-next}
-use Rattle.pattern.proofs.parts.Next.{next, starts-here}
-use Rattle.pattern.specs.Next.{Next}
-use Rattle.trust.proofs.MendedSizes.{mended-short}
+use mathlib.Core.Path.{◌≡◌}
+use Rattle.mending.proofs.walk.Laws.{left_from}
 use Rattle.trust.specs.Mending.{mended}
 use Rattle.mending.proofs.walk.mended_length.Given as goal
 

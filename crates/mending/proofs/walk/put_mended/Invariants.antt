@@ -1,14 +1,9 @@
 -- What lies there and the mended pattern of what is left are the whole mended pattern.
 use Prim.Native.Nat.{◌+◌, ◌-◌}
-use borrow.Author.Rules.{rules}
 use lib.ListN.{length}
 use lib.Seq.{sets}
-use mathlib.Core.Path.{◌≡◌, refl, ◌∙◌}
-use native.Mathlib.Omega.{arith}
-use Rattle.laws.proofs.Laid.{sets-append}
-use Rattle.mending.proofs.walk.Laws.{left_from, all_left, none_left, Found, grows, slice-bytes, slice-long, text-long, bytes_next, length-next}
-use Rattle.pattern.proofs.parts.Next.{next, starts-here}
-use Rattle.pattern.specs.Next.{Next}
+use mathlib.Core.Path.{◌≡◌}
+use Rattle.mending.proofs.walk.Laws.{left_from}
 use Rattle.trust.specs.Mending.{mended}
 use Rattle.mending.proofs.walk.put_mended.Given as goal
 

@@ -1,5 +1,4 @@
 -- The next part says it, with the one behind it.
-use borrow.Author.Rules.{rules}
 use native.Mathlib.Omega.{arith}
 use Rattle.meaning.specs.declared.Pair.TheVariants.{Full}
 use Rattle.pattern.proofs.parts.Next.{next, starts-here}

@@ -1,5 +1,4 @@
 -- The first byte stands for itself.
-use borrow.Author.Rules.{rules}
 use native.Mathlib.Omega.{arith}
 use Rattle.meaning.specs.Bytes.{digit_at}
 use Rattle.verdict.proofs.lookahead.Literals.{inside-none, inside-first}

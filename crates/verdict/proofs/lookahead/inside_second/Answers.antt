@@ -1,5 +1,4 @@
 -- The second element begins behind the first.
-use borrow.Author.Rules.{rules}
 use mathlib.Core.Path.{sym}
 use native.Mathlib.Omega.{arith}
 use Rattle.verdict.proofs.lookahead.Literals.{second_none, second-behind, second-byte}

@@ -1,6 +1,5 @@
 -- What the opening says.
 use Rattle.trust.specs.Ahead.{has_letters}
-use borrow.Author.Rules.{rules}
 use Rattle.verdict.proofs.lookahead.name_second.Goals as goal
 
 pub returns-in-Digit : goal.returns-in-Digit

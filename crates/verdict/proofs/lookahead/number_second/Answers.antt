@@ -1,5 +1,4 @@
 -- The tests, as the definition has them.
-use borrow.Author.Rules.{rules}
 use borrow.Author.Tests.{lt-ltb, le-ltb}
 use native.Mathlib.Omega.{arith}
 use Rattle.verdict.proofs.lookahead.number_second.Goals as goal

@@ -1,5 +1,4 @@
 -- Each arm is what its list says.
-use borrow.Author.Rules.{rules}
 use Rattle.trust.specs.Ahead.{opening}
 use Rattle.verdict.proofs.lookahead.opening_of.Goals as goal
 

@@ -1,5 +1,4 @@
 -- Each arm is what its rule says.
-use borrow.Author.Rules.{rules}
 use Rattle.trust.specs.Ahead.{rule_first}
 use Rattle.verdict.proofs.lookahead.rule_first.Goals as goal
 

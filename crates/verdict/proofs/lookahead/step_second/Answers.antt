@@ -1,5 +1,4 @@
 -- Each kind of step.
-use borrow.Author.Rules.{rules}
 use native.Mathlib.Omega.{arith}
 use Rattle.pattern.proofs.parts.Walks.{rest_all}
 use Rattle.trust.specs.Ahead.{opening, has_letters, rule_second, step_second}

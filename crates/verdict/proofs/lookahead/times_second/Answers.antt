@@ -1,5 +1,4 @@
 -- One byte leaves the second to what is behind it.
-use borrow.Author.Rules.{rules}
 use borrow.Author.Tests.{lt-ltb, le-ltb}
 use lib.ListN.{length-replicate}
 use Rattle.verdict.proofs.lookahead.Literals.{run-second}

@@ -1,5 +1,4 @@
 -- Each arm is what its quantity says.
-use borrow.Author.Rules.{rules}
 use Rattle.laws.specs.Widths.{most_digits}
 use Rattle.verdict.proofs.needs.most_digits.Goals as goal
 

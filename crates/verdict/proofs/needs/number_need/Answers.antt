@@ -1,5 +1,4 @@
 -- The tests, as the definition has them.
-use borrow.Author.Rules.{rules}
 use borrow.Author.Tests.{lt-ltb, le-ltb}
 use Rattle.verdict.proofs.needs.number_need.Goals as goal
 

@@ -1,5 +1,4 @@
 -- With the most that the edition reads.
-use borrow.Author.Rules.{rules}
 use Rattle.verdict.proofs.needs.read_need.Goals as goal
 
 pub returns : goal.returns

@@ -1,5 +1,4 @@
 -- Each arm is what its rule needs.
-use borrow.Author.Rules.{rules}
 use Rattle.trust.specs.Needs.{rule_need}
 use Rattle.verdict.proofs.needs.rule_need.Goals as goal
 

@@ -1,5 +1,4 @@
 -- By the test of the count.
-use borrow.Author.Rules.{rules}
 use borrow.Author.Tests.{le-leb, lt-leb}
 use native.Mathlib.Omega.{arith}
 use Rattle.trust.specs.Needs.{rule_need}
