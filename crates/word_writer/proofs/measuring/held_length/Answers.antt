@@ -1,5 +1,4 @@
 -- As many as are there, less the last where that is lost.
-use borrow.Author.Rules.{rules}
 use mathlib.Core.Path.{◌≡◌, sym, ◌∙◌}
 use native.Mathlib.Omega.{arith}
 use Prim.Native.Nat.{◌-◌, min}
@@ -8,27 +7,21 @@ use Rattle.word_writer.proofs.Held.{held-lost, held_kept}
 use Rattle.words.specs.Fields.{count, from}
 use Rattle.word_writer.proofs.measuring.held_length.Goals as goal
 
--- how many are there
-there : (c : goal.After-is_lost) →
-    let a = c.args in
-    c.at_most-n.result ≡ min (count a.w) (length a.tail.now - from a.w)
-there c = rw (← c.count.ensures.0, ← c.from.ensures.0) c.at_most-n.ensures
-
 pub returns-then-n-gt0 : goal.returns-then-n-gt0
 returns-then-n-gt0 c =
-    let s = c in
-    let a = s.args in
-    (held-lost a.tail.now a.w s.at_most-n.result (there s) (sym s.is_lost.ensures ∙ c.if-is_lost.true), omega (arith, there s))
+    let a = c.args in
+    let there : c.at_most-n.result ≡ min (count a.w) (length a.tail.now - from a.w) = rw (← c.count.ensures.0, ← c.from.ensures.0) c.at_most-n.ensures in
+    (held-lost a.tail.now a.w c.at_most-n.result there (sym c.is_lost.ensures ∙ c.if-is_lost.true), omega (arith, there))
 
 pub returns-else-n-gt0 : goal.returns-else-n-gt0
 returns-else-n-gt0 c =
-    let s = c in
-    let a = s.args in
-    let none : s.at_most-n.result - 1 ≡ s.at_most-n.result = omega (arith, c.if-n-gt0.false) in
-    (rw none at (held-lost a.tail.now a.w s.at_most-n.result (there s) (sym s.is_lost.ensures ∙ c.if-is_lost.true)), omega (arith, there s))
+    let a = c.args in
+    let there : c.at_most-n.result ≡ min (count a.w) (length a.tail.now - from a.w) = rw (← c.count.ensures.0, ← c.from.ensures.0) c.at_most-n.ensures in
+    let none : c.at_most-n.result - 1 ≡ c.at_most-n.result = omega (arith, c.if-n-gt0.false) in
+    (rw none at (held-lost a.tail.now a.w c.at_most-n.result there (sym c.is_lost.ensures ∙ c.if-is_lost.true)), omega (arith, there))
 
 pub returns-else-is_lost : goal.returns-else-is_lost
 returns-else-is_lost c =
-    let s = c in
-    let a = s.args in
-    (held_kept a.tail.now a.w s.at_most-n.result (there s) (sym s.is_lost.ensures ∙ c.if-is_lost.false), omega (arith, there s))
+    let a = c.args in
+    let there : c.at_most-n.result ≡ min (count a.w) (length a.tail.now - from a.w) = rw (← c.count.ensures.0, ← c.from.ensures.0) c.at_most-n.ensures in
+    (held_kept a.tail.now a.w c.at_most-n.result there (sym c.is_lost.ensures ∙ c.if-is_lost.false), omega (arith, there))

@@ -1,6 +1,5 @@
 -- With the count or without.
 use native.Mathlib.Omega.{arith}
-use borrow.Author.Rules.{rules}
 use borrow.Author.Tests.{le-leb, lt-leb}
 use Rattle.words.specs.Pieces.{most_bytes}
 use Rattle.word_writer.proofs.measuring.most_bytes.Goals as goal

@@ -1,14 +1,8 @@
 -- What is summed and the words still to come make up what all of them write at most.
-use mathlib.Core.List.{List}
 use mathlib.Core.Path.{◌≡◌}
-use Prim.Native.Nat.{ℕ, ◌+◌, ◌-◌, ◌*◌, ◌≤◌, ◌<◌}
-use native.Mathlib.Numerals.{add-one}
-use native.Mathlib.Omega.{arith}
-use borrow.Author.Rules.{rules}
-use lib.ListN.{length, get_or, drop, drop_of_length-le}
-use lib.Seq.{drop-cons}
-use Rattle.words.specs.Pieces.{most_bytes, most_of}
-use Rattle.word_writer.proofs.Bounds.{most-small}
+use Prim.Native.Nat.{◌+◌, ◌-◌, ◌*◌, ◌≤◌}
+use lib.ListN.{length, drop}
+use Rattle.words.specs.Pieces.{most_of}
 use Rattle.word_writer.proofs.measuring.most_of.Given as goal
 
 abbrev pub invariant-loop-i : goal.invariant-loop-i

@@ -1,4 +1,4 @@
-use Prim.Native.Nat.{◌+◌, ◌-◌}
+use Prim.Native.Nat.{◌+◌}
 use lib.ListN.{length, take, drop, get_or, length-append, length-take}
 use mathlib.Core.Path.{◌≡◌}
 use native.Mathlib.Omega.{arith}
@@ -8,45 +8,37 @@ use Rattle.word_writer.proofs.Texts.{next_word, no_word}
 use Rattle.word_writer.specs.Written.{word_text, words_text}
 use Rattle.word_writer.proofs.measuring.words_length.Goals as goal
 
--- the whole text is as long as what is counted, the next word's and that of the words behind it
-parted : (c : goal.In-loop-i) →
-    let a = c.args in
-    let L = c.loop-i in
-    L.n + (length (word_text a.book.now a.tail.now a.f (get_or a.tail.now L.i 0)) + length (words_text a.book.now a.tail.now a.f (drop (L.i + 1) (take a.used a.tail.now))))
-    ≡ length (words_text a.book.now a.tail.now a.f (take a.used a.tail.now))
-parted c =
-    let start = c in
-    let a = start.args in
-    let L = c.loop-i in
-    rw (next_word (book_in a.book.now) a.tail.now a.f a.used start.requires.1.0 L.i c.loop-i-test.true, length-append) at L.invariant
-
 pub word_length-n-requires : goal.word_length-n-requires
-word_length-n-requires c = c.requires.0
+word_length-n-requires c = c.requires.f_value
 
 pub overflow_add-n : goal.overflow_add-n
 overflow_add-n c =
-    let turn = c in
-    let start = turn in
-    let a = start.args in
+    let a = c.args in
+    let L = c.loop-i in
+    let parted : L.n + (length (word_text a.book.now a.tail.now a.f (get_or a.tail.now L.i 0)) + length (words_text a.book.now a.tail.now a.f (drop (L.i + 1) (take a.used a.tail.now))))
+    ≡ length (words_text a.book.now a.tail.now a.f (take a.used a.tail.now)) =
+    rw (next_word (book_in a.book.now) a.tail.now a.f a.used c.requires.used_in_bounds L.i c.loop-i-test.true, length-append) at L.invariant in
     omega (
       arith,
-      parted turn,
+      parted,
       c.word_length-n.ensures,
-      words-fit a.book.now a.tail.now a.f start.requires.0 (take a.used a.tail.now),
+      words-fit a.book.now a.tail.now a.f c.requires.f_value (take a.used a.tail.now),
       most-all (take a.used a.tail.now),
       length-take a.used a.tail.now,
-      start.requires.1.1,
+      c.requires.used_bound,
     )
 
 pub loop-i-preserved : goal.loop-i-preserved
-loop-i-preserved c = omega (arith, parted c.before, c.word_length-n.ensures)
+loop-i-preserved c =
+    let a = c.args in
+    let L = c.loop-i in
+    let parted : L.n + (length (word_text a.book.now a.tail.now a.f (get_or a.tail.now L.i 0)) + length (words_text a.book.now a.tail.now a.f (drop (L.i + 1) (take a.used a.tail.now))))
+    ≡ length (words_text a.book.now a.tail.now a.f (take a.used a.tail.now)) =
+    rw (next_word (book_in a.book.now) a.tail.now a.f a.used c.requires.used_in_bounds L.i c.loop-i-test.true, length-append) at L.invariant in
+    omega (arith, parted, c.word_length-n.ensures)
 
 pub returns : goal.returns
 returns c =
-    let start = c in
-    let a = start.args in
+    let a = c.args in
     let L = c.loop-i in
-    omega (arith, rw (no_word (book_in a.book.now) a.tail.now a.f a.used start.requires.1.0 L.i c.loop-i-test.false) at L.invariant)
-
-pub offset_bounds-tail-i : goal.offset_bounds-tail-i
-offset_bounds-tail-i c = search rules
+    omega (arith, rw (no_word (book_in a.book.now) a.tail.now a.f a.used c.requires.used_in_bounds L.i c.loop-i-test.false) at L.invariant)

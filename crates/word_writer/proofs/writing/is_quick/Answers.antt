@@ -1,7 +1,7 @@
 -- Each code by itself.
-use borrow.Author.Rules.{rules}
 use borrow.Author.Tests.{ne_eqb}
 use mathlib.Core.Path.{sym, ◌∙◌}
+use native.Mathlib.Omega.{arith}
 use Rattle.words.specs.Fields.{code, slot}
 use Rattle.word_writer.proofs.writing.is_quick.Goals as goal
 
@@ -28,13 +28,11 @@ returns-in-15 c = rw (sym c.code.ensures ∙ c.in-15.is)
 
 pub returns-in_default : goal.returns-in_default
 returns-in_default c =
-    let told = c.code.ensures in
-    let not = c.match.rest in
     simp (
-      ne_eqb _ _ (λ e. not.0.0.0.0.0.1 (told ∙ e)),
-      ne_eqb _ _ (λ e. not.0.0.0.0.1 (told ∙ e)),
-      ne_eqb _ _ (λ e. not.0.0.0.1 (told ∙ e)),
-      ne_eqb _ _ (λ e. not.0.0.1 (told ∙ e)),
-      ne_eqb _ _ (λ e. not.0.1 (told ∙ e)),
-      ne_eqb _ _ (λ e. not.1 (told ∙ e)),
+      ne_eqb (code c.args.w) 1 (omega arith),
+      ne_eqb (code c.args.w) 3 (omega arith),
+      ne_eqb (code c.args.w) 4 (omega arith),
+      ne_eqb (code c.args.w) 9 (omega arith),
+      ne_eqb (code c.args.w) 10 (omega arith),
+      ne_eqb (code c.args.w) 15 (omega arith),
     )

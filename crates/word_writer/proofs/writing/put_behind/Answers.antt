@@ -1,5 +1,4 @@
 -- A byte, or none.
-use borrow.Author.Rules.{rules}
 use borrow.Author.Tests.{eq-eqb, ne_eqb}
 use mathlib.Core.Bool.{true, false}
 use mathlib.Core.Path.{◌≡◌, sym, ◌∙◌, refl}
@@ -8,19 +7,17 @@ use native.Mathlib.Omega.{arith}
 use Rattle.words.specs.Fields.{last_byte}
 use Rattle.word_writer.proofs.writing.put_behind.Goals as goal
 
-none : (c : goal.Then-b-eq0) → eqb (last_byte c.args.w) 0 ≡ true
-none c = eq-eqb (last_byte c.args.w) 0 (sym c.last_byte-b.ensures ∙ c.if-b-eq0.true)
-
-there : (c : goal.Else-b-eq0) → eqb (last_byte c.args.w) 0 ≡ false
-there c = ne_eqb (last_byte c.args.w) 0 (λ e. c.if-b-eq0.false (c.last_byte-b.ensures ∙ e))
-
 pub returns-then-b-eq0 : goal.returns-then-b-eq0
-returns-then-b-eq0 c = rw (none c) (record { end = omega arith; held = refl })
+returns-then-b-eq0 c =
+    let none : eqb (last_byte c.args.w) 0 ≡ true = eq-eqb (last_byte c.args.w) 0 (sym c.last_byte-b.ensures ∙ c.if-b-eq0.true) in
+    rw none (record { end = omega arith; held = refl })
 
 pub put_byte-requires : goal.put_byte-requires
-put_byte-requires c = omega (arith, rw (there c.before) at c.requires)
+put_byte-requires c =
+    let there : eqb (last_byte c.args.w) 0 ≡ false = ne_eqb (last_byte c.args.w) 0 (λ e. c.if-b-eq0.false (c.last_byte-b.ensures ∙ e)) in
+    omega (arith, rw there at c.requires)
 
 pub returns : goal.returns
 returns c =
-    let e = c in
-    rw (there e, ← e.last_byte-b.ensures) c.put_byte.ensures
+    let there : eqb (last_byte c.args.w) 0 ≡ false = ne_eqb (last_byte c.args.w) 0 (λ e. c.if-b-eq0.false (c.last_byte-b.ensures ∙ e)) in
+    rw (there, ← c.last_byte-b.ensures) c.put_byte.ensures

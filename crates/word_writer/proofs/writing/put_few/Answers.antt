@@ -1,5 +1,4 @@
 -- One digit or two, and the byte behind them.
-use borrow.Author.Rules.{rules}
 use lib.ListN.{length-append}
 use native.Mathlib.Omega.{arith}
 use Rattle.laws.proofs.Laid.{laid_then}
@@ -7,14 +6,12 @@ use Rattle.word_writer.proofs.writing.put_few.Goals as goal
 
 pub put_short-next-requires : goal.put_short-next-requires
 put_short-next-requires c =
-    let a = c in
-    (a.requires.0, omega arith, omega (arith, rw length-append at a.requires.1))
+    (c.requires.0, omega arith, omega (arith, rw length-append at c.requires.1))
 
 pub put_behind-requires : goal.put_behind-requires
 put_behind-requires c =
     let wrote = c.put_short-next in
-    let a = c in
-    omega (arith, rw length-append at a.requires.1, wrote.ensures.end, wrote.auto.1.1.0)
+    omega (arith, rw length-append at c.requires.1, wrote.ensures.end, wrote.auto.out)
 
 pub returns : goal.returns
 returns c = laid_then c.put_short-next.ensures c.put_behind.ensures

@@ -1,6 +1,4 @@
-use Prim.Native.Nat.{◌+◌, ◌-◌, ◌≤◌}
-use lib.ListN.{length, drop, length-set}
-use lib.Seq.{sets}
+use lib.ListN.{length, length-set}
 use mathlib.Core.Path.{◌≡◌, refl, sym, ◌∙◌}
 use native.Mathlib.Nat.{add-zero}
 use native.Mathlib.Omega.{arith}
@@ -15,12 +13,11 @@ loop-j-init c = (rw add-zero, omega arith, refl)
 pub loop-j-preserved : goal.loop-j-preserved
 loop-j-preserved c =
     let L = c.loop-j in
-    let start = c in
-    let a = start.args in
+    let a = c.args in
     let held = held_bytes a.tail.now a.from a.n in
     let size = held-count a.tail.now a.from a.n in (
       rw (← held_at a.tail.now a.from a.n L.j c.loop-j-test.true)
-          (lay-next L.out a.at held L.j 0 (omega (arith, size, c.loop-j-test.true, start.requires.0)) ∙ L.invariant.0),
+          (lay-next L.out a.at held L.j 0 (omega (arith, size, c.loop-j-test.true, c.requires.n_in_bounds)) ∙ L.invariant.0),
       omega arith,
       simp length-set L.invariant.2,
     )
@@ -31,10 +28,9 @@ shape_of-out c = c.loop-j.invariant.2
 pub returns : goal.returns
 returns c =
     let L = c.loop-j in
-    let start = c in
-    let a = start.args in
+    let a = c.args in
     let held = held_bytes a.tail.now a.from a.n in
-    let size : length held ≡ a.n = omega (arith, held-count a.tail.now a.from a.n, start.requires.0) in
+    let size : length held ≡ a.n = omega (arith, held-count a.tail.now a.from a.n, c.requires.n_in_bounds) in
     record {
       end = omega (arith, size, L.invariant.1, c.loop-j-test.false);
       held = sym (lay_done L.out a.at held L.j (omega (arith, size, c.loop-j-test.false)) (omega (arith, size, L.invariant.1))) ∙ L.invariant.0;

@@ -1,12 +1,8 @@
 -- What lies there and the bytes still to be laid are all that are held.
 use Prim.Native.Nat.{◌+◌, ◌-◌, ◌≤◌}
-use lib.ListN.{length, drop, length-set}
+use lib.ListN.{length, drop}
 use lib.Seq.{sets}
-use mathlib.Core.Path.{◌≡◌, refl, sym, ◌∙◌}
-use native.Mathlib.Nat.{add-zero}
-use native.Mathlib.Omega.{arith}
-use Rattle.laws.proofs.Laid.{lay-next, lay_done}
-use Rattle.word_writer.proofs.Held.{held-count, held_at}
+use mathlib.Core.Path.{◌≡◌}
 use Rattle.words.specs.Pieces.{held_bytes}
 use Rattle.word_writer.proofs.writing.put_held.Given as goal
 

@@ -1,5 +1,4 @@
 -- By its letters, which are those of its list where no book is lent; or by its list.
-use borrow.Author.Rules.{rules}
 use lib.ListN.{take}
 use mathlib.Core.Path.{◌≡◌, sym, ◌∙◌}
 use Rattle.laws.proofs.Fields.{allowed}
@@ -12,29 +11,23 @@ use Rattle.word_writer.specs.Written.{spelled_name}
 use Rattle.word_writer.proofs.Names.{spelled-text}
 use Rattle.word_writer.proofs.writing.put_matched.Goals as goal
 
--- the letters of a name that is spelled
-letters : (c : goal.Then-is_spelled) →
-    let a = c.args in
-    take (most_letters a.w) (name_numbered (spelled_name a.f a.w)) ≡ name_text (book_in a.book.now) (list_in (item a.w)) a.f
-letters c =
-    let s = c in
-    spelled-text s.args.f s.args.w s.args.book.now c.if-book-ne-OPENED.true (allowed s.args.f s.requires.0) (sym c.is_spelled.ensures ∙ c.if-is_spelled.true)
-
 pub spelled_name-requires : goal.spelled_name-requires
-spelled_name-requires c = (c.requires.0, sym c.is_spelled.ensures ∙ c.if-is_spelled.true)
+spelled_name-requires c = (c.requires.f_value, sym c.is_spelled.ensures ∙ c.if-is_spelled.true)
 
 pub put_spelled-requires : goal.put_spelled-requires
 put_spelled-requires c =
-    let then = c in
-    rw (c.most_letters.ensures, c.spelled_name.ensures, letters then) then.requires.1
+    let letters : take (most_letters c.args.w) (name_numbered (spelled_name c.args.f c.args.w)) ≡ name_text (book_in c.args.book.now) (list_in (item c.args.w)) c.args.f =
+    spelled-text c.args.f c.args.w c.args.book.now c.if-book-ne-OPENED.true (allowed c.args.f c.requires.f_value) (sym c.is_spelled.ensures ∙ c.if-is_spelled.true) in
+    rw (c.most_letters.ensures, c.spelled_name.ensures, letters) c.requires.f_in_bounds
 
 pub returns-then-is_spelled : goal.returns-then-is_spelled
 returns-then-is_spelled c =
-    let asked = c in
-    rw (← letters asked.before, ← asked.spelled_name.ensures, ← asked.most_letters.ensures) c.put_spelled.ensures
+    let letters : take (most_letters c.args.w) (name_numbered (spelled_name c.args.f c.args.w)) ≡ name_text (book_in c.args.book.now) (list_in (item c.args.w)) c.args.f =
+    spelled-text c.args.f c.args.w c.args.book.now c.if-book-ne-OPENED.true (allowed c.args.f c.requires.f_value) (sym c.is_spelled.ensures ∙ c.if-is_spelled.true) in
+    rw (← letters, ← c.spelled_name.ensures, ← c.most_letters.ensures) c.put_spelled.ensures
 
 pub put_name_of-requires : goal.put_name_of-requires
-put_name_of-requires c = let s = c in (s.requires.0, rw c.list.ensures s.requires.1)
+put_name_of-requires c = record { f_value = c.requires.f_value; f_in_bounds = rw c.list.ensures c.requires.f_in_bounds }
 
 pub returns : goal.returns
 returns c = rw (← c.list.ensures) c.put_name_of.ensures

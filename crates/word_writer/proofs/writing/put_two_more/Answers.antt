@@ -1,5 +1,4 @@
 -- A byte, two digits, a byte, two digits, and the byte behind them.
-use borrow.Author.Rules.{rules}
 use lib.ListN.{length, length-append}
 use mathlib.Core.List.{◌∷◌, ◌++◌}
 use native.Mathlib.Omega.{arith}
@@ -11,39 +10,46 @@ use Rattle.word_writer.specs.Written.{behind_text}
 use Rattle.words.specs.Fields.{second_byte}
 use Rattle.word_writer.proofs.writing.put_two_more.Goals as goal
 
--- the room, with two digits counted
-room : (s : goal.Start) → s.args.at + suc (2 + suc (length (num 2 s.args.c ++ behind_text s.args.w))) ≤ length s.args.out.now
-room s =
-    omega (
-      arith,
-      length-append (num 2 s.args.b) (second_byte s.args.w ∷ (num 2 s.args.c ++ behind_text s.args.w)),
-      num-fits 2 s.args.b (omega arith) s.requires.0,
-      s.requires.2,
-    )
-
 pub put_two-second-requires : goal.put_two-second-requires
 put_two-second-requires c =
-    let s = c in
+    let room : c.args.at + suc (2 + suc (length (num 2 c.args.c ++ behind_text c.args.w))) ≤ length c.args.out.now =
+    omega (
+      arith,
+      length-append (num 2 c.args.b) (second_byte c.args.w ∷ (num 2 c.args.c ++ behind_text c.args.w)),
+      num-fits 2 c.args.b (omega arith) c.requires.0,
+      c.requires.2,
+    ) in
     let first = c.put_byte-first in
-    (s.requires.0, omega (arith, room s, first.ensures.end, first.auto.1.0))
+    (c.requires.0, omega (arith, room, first.ensures.end, first.auto.out))
 
 pub put_byte-third-requires : goal.put_byte-third-requires
 put_byte-third-requires c =
-    let s = c in
+    let room : c.args.at + suc (2 + suc (length (num 2 c.args.c ++ behind_text c.args.w))) ≤ length c.args.out.now =
+    omega (
+      arith,
+      length-append (num 2 c.args.b) (second_byte c.args.w ∷ (num 2 c.args.c ++ behind_text c.args.w)),
+      num-fits 2 c.args.b (omega arith) c.requires.0,
+      c.requires.2,
+    ) in
     let first = c.put_byte-first in
     let two = c.put_two-second in
-    omega (arith, room s, first.ensures.end, first.auto.1.0, two.ensures.end, length_digits 2 s.args.b, two.auto.1.0)
+    omega (arith, room, first.ensures.end, first.auto.out, two.ensures.end, length_digits 2 c.args.b, two.auto.out)
 
 pub put_full-requires : goal.put_full-requires
 put_full-requires c =
-    let s = c in
+    let room : c.args.at + suc (2 + suc (length (num 2 c.args.c ++ behind_text c.args.w))) ≤ length c.args.out.now =
+    omega (
+      arith,
+      length-append (num 2 c.args.b) (second_byte c.args.w ∷ (num 2 c.args.c ++ behind_text c.args.w)),
+      num-fits 2 c.args.b (omega arith) c.requires.0,
+      c.requires.2,
+    ) in
     let first = c.put_byte-first in
     let two = c.put_two-second in
     let second = c.put_byte-third in
-    (s.requires.1, omega (arith, room s, first.ensures.end, first.auto.1.0, two.ensures.end, length_digits 2 s.args.b, two.auto.1.0, second.ensures.end, second.auto.1.0))
+    (c.requires.1, omega (arith, room, first.ensures.end, first.auto.out, two.ensures.end, length_digits 2 c.args.b, two.auto.out, second.ensures.end, second.auto.out))
 
 pub returns : goal.returns
 returns c =
-    let s = c in
-    rw (num-digits 2 s.args.b (omega arith) s.requires.0, ← c.first_byte.ensures, ← c.second_byte.ensures)
+    rw (num-digits 2 c.args.b (omega arith) c.requires.0, ← c.first_byte.ensures, ← c.second_byte.ensures)
     (laid_then c.put_byte-first.ensures (laid_then c.put_two-second.ensures (laid_then c.put_byte-third.ensures c.put_full.ensures)))

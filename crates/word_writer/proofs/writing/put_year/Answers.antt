@@ -8,4 +8,4 @@ pub returns : goal.returns
 returns c =
     let told = c in
     let a = told in
-    rw (to_z-of_z w32 a.args.f.year (record { sfits = told.struct_told.given.0.1 })) at c.zero_padded_i.ensures
+    rw (to_z-of_z w32 a.args.f.year (search rules)) at c.zero_padded_i.ensures
