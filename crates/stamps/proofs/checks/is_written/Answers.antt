@@ -8,16 +8,20 @@ use mir.Syntax.{w32}
 use mir.Val.{SFits}
 use Rattle.stamps.proofs.checks.is_written.Goals as goal
 
-sized : (c : goal.After-size-n) → c.size-n.result ≡ nat_abs c.args.t.offset
-sized c =
-    let fits : SFits w32 c.args.t.offset = search rules in
-    rw (to_z-of_z fits) at c.size-n.ensures
-
 pub returns-then-n-ne0 : goal.returns-then-n-ne0
-returns-then-n-ne0 c = rw (← sized c.before, ne_eqb _ 0 c.if-n-ne0.true)
+returns-then-n-ne0 c =
+    let fits : SFits w32 c.args.t.offset = search rules in
+    let sized : c.size-n.result ≡ nat_abs c.args.t.offset = rw (to_z-of_z fits) at c.size-n.ensures in
+    rw (← sized, ne_eqb _ 0 c.if-n-ne0.true)
 
 pub returns-then-t : goal.returns-then-t
-returns-then-t c = rw (← sized c.before, eq-eqb _ 0 c.if-n-ne0.false, c.if-t.true)
+returns-then-t c =
+    let fits : SFits w32 c.args.t.offset = search rules in
+    let sized : c.size-n.result ≡ nat_abs c.args.t.offset = rw (to_z-of_z fits) at c.size-n.ensures in
+    rw (← sized, eq-eqb _ 0 c.if-n-ne0.false, c.if-t.true)
 
 pub returns-else-t : goal.returns-else-t
-returns-else-t c = rw (← sized c.before, eq-eqb _ 0 c.if-n-ne0.false, c.if-t.false)
+returns-else-t c =
+    let fits : SFits w32 c.args.t.offset = search rules in
+    let sized : c.size-n.result ≡ nat_abs c.args.t.offset = rw (to_z-of_z fits) at c.size-n.ensures in
+    rw (← sized, eq-eqb _ 0 c.if-n-ne0.false, c.if-t.false)

@@ -1,14 +1,8 @@
 -- What is summed and what the digits to come weigh is what all weigh.
-use mathlib.Core.Bool.{true}
-use mathlib.Core.Path.{◌≡◌, refl, sym, ◌∙◌}
-use Prim.Native.Nat.{◌+◌, ◌-◌, ◌*◌, ◌≤◌}
-use native.Mathlib.Omega.{arith}
-use borrow.Author.Rules.{rules}
-use borrow.Author.Tests.{not-true, not-false}
-use lib.ListN.{length, get_or, drop}
-use Rattle.meaning.specs.Bytes.{is_digit}
+use mathlib.Core.Path.{◌≡◌}
+use Prim.Native.Nat.{◌+◌, ◌-◌, ◌≤◌}
+use lib.ListN.{length, drop}
 use Rattle.meaning.specs.Reading.{digit_run}
-use Rattle.stamps.proofs.grammar.Fractions.{turn-lighter, turn-weighs, weighs-none, run_on, run_ends, weighs-end, run_end, weighted-small}
 use Rattle.stamps.specs.Fractions.{weighted}
 use Rattle.stamps.specs.Fractions.{weight as weight_of}
 use Rattle.stamps.proofs.grammar.fraction_digits.Given as goal

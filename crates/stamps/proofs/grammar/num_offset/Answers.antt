@@ -1,26 +1,11 @@
 -- The sign, then five bytes by the shape.
-use mathlib.Core.Bool.{true}
 use mathlib.Core.Path.{◌≡◌, refl, sym, ap, ◌∙◌}
 use Prim.Native.Nat.{◌+◌}
 use native.Mathlib.Omega.{arith}
-use borrow.Author.Rules.{rules}
-use borrow.Author.Tests.{not-true, not-false}
-use lib.ListN.{get_or}
-use Rattle.meaning.specs.StampGrammar.{is_sign}
 use Rattle.stamps.proofs.grammar.DateTimes.{sign-halts, no_sign, shift-halts, shift-read, pair-taken}
 use Rattle.stamps.specs.Found.{zone_by}
 use Rattle.stamps.specs.Shape.{takes, first_wrong}
 use Rattle.stamps.proofs.grammar.num_offset.Goals as goal
-
--- where the function starts, and the sign, seen from behind the test of the sign
-abbrev start-2 : goal.Else-not-is_sign → goal.Start
-start-2 c = c.before
-
-sign : (c : goal.Else-not-is_sign) → is_sign (get_or (start-2 c).args.text.now (start-2 c).args.at 0) ≡ true
-sign c = sym c.is_sign.ensures ∙ c.if-not-is_sign.false
-
-taken : (c : goal.Else-wrong-at) → first_wrong 5 11 ((start-2 c.before).args.at + 1) (start-2 c.before).args.text.now ≡ (start-2 c.before).args.at + 1 + 5
-taken c = omega (arith, c.first_wrong-wrong.ensures, c.if-wrong-at.false)
 
 pub returns-then-text-at : goal.returns-then-text-at
 returns-then-text-at c =
@@ -34,28 +19,28 @@ returns-then-not-is_sign c =
 
 pub returns-then-wrong-at : goal.returns-then-wrong-at
 returns-then-wrong-at c =
-    let a = (start-2 c.before).args in
+    let a = c.args in
     let w = c.first_wrong-wrong.ensures in
-    rw w (ap zone_by (sym (shift-halts a.text.now a.at (sign c.before) (λ e. c.if-wrong-at.true (w ∙ e)))))
+    let sign = sym c.is_sign.ensures ∙ c.if-not-is_sign.false in
+    rw w (ap zone_by (sym (shift-halts a.text.now a.at sign (λ e. c.if-wrong-at.true (w ∙ e)))))
 
 pub pair_at-requires : goal.pair_at-requires
 unfolding takes
 pair_at-requires c =
-    let a = (start-2 c.before).args in
-    pair-taken 5 11 (a.at + 1) a.text.now (taken c) 0 (a.at + 1) (omega arith) (omega arith) (λ b. refl) (λ b. refl)
+    let a = c.args in
+    let taken : first_wrong 5 11 (a.at + 1) a.text.now ≡ a.at + 1 + 5 = omega (arith, c.first_wrong-wrong.ensures, c.if-wrong-at.false) in
+    pair-taken 5 11 (a.at + 1) a.text.now taken 0 (a.at + 1) (omega arith) (omega arith) (λ b. refl) (λ b. refl)
 
 pub pair_at-requires-2 : goal.pair_at-requires-2
 unfolding takes
 pair_at-requires-2 c =
-    let a = (start-2 c.before).args in
-    pair-taken 5 11 (a.at + 1) a.text.now (taken c.before) 3 (a.at + 4) (omega arith) (omega arith) (λ b. refl) (λ b. refl)
+    let a = c.args in
+    let taken : first_wrong 5 11 (a.at + 1) a.text.now ≡ a.at + 1 + 5 = omega (arith, c.first_wrong-wrong.ensures, c.if-wrong-at.false) in
+    pair-taken 5 11 (a.at + 1) a.text.now taken 3 (a.at + 4) (omega arith) (omega arith) (λ b. refl) (λ b. refl)
 
 pub returns : goal.returns
 returns c =
-    let before = c in
-    let a = (start-2 before.before).args in
-    rw (c.pair_at.ensures, c.pair_at-2.ensures)
-    (ap zone_by (sym (shift-read a.text.now a.at (sign before.before) (omega (arith, taken before)))))
-
-pub overflow_add-at : goal.overflow_add-at
-overflow_add-at c = search rules
+    let a = c.args in
+    let sign = sym c.is_sign.ensures ∙ c.if-not-is_sign.false in
+    let taken : first_wrong 5 11 (a.at + 1) a.text.now ≡ a.at + 6 = omega (arith, c.first_wrong-wrong.ensures, c.if-wrong-at.false) in
+    rw (c.pair_at.ensures, c.pair_at-2.ensures) (ap zone_by (sym (shift-read a.text.now a.at sign taken)))

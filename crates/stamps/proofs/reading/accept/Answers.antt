@@ -1,6 +1,5 @@
 -- The checks, then the stamp.
 use mathlib.Core.Path.{sym, ◌∙◌}
-use borrow.Author.Rules.{rules}
 use Rattle.laws.proofs.StampChecks.{checks-fine}
 use Rattle.stamps.specs.Found.{date_time_of}
 use Rattle.stamps.proofs.reading.accept.Goals as goal

@@ -2,7 +2,6 @@
 use mir.Facts.{to_z_pos}
 use mir.Syntax.{w32}
 use native.Mathlib.Omega.{arith}
-use borrow.Author.Rules.{rules}
 use Rattle.reader.proofs.offset.Offsets.{behind-fits, behind-is}
 use Rattle.stamps.proofs.reading.signed.Goals as goal
 

@@ -4,7 +4,6 @@ use Prim.Native.Nat.{◌-◌}
 use native.Mathlib.Omega.{arith}
 use lib.ListN.{length}
 use Rattle.stamps.proofs.shape.Wrongs.{wrong-short}
-use borrow.Author.Rules.{rules}
 use Rattle.stamps.proofs.shape.first_wrong.Goals as goal
 
 pub returns : goal.returns

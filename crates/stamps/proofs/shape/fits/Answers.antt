@@ -1,7 +1,6 @@
 -- The same tests.
 use Rattle.laws.proofs.Tests.{chosen}
 use Rattle.stamps.specs.Shape.{takes}
-use borrow.Author.Rules.{rules}
 use Rattle.stamps.proofs.shape.fits.Goals as goal
 
 pub returns-then-i-eq4 : goal.returns-then-i-eq4

@@ -1,10 +1,7 @@
 use mathlib.Core.Path.{◌≡◌, sym, ap, ◌∙◌}
-use Prim.Native.Nat.{ℕ, ◌+◌, ◌-◌, ◌≤◌}
+use Prim.Native.Nat.{ℕ, ◌+◌, ◌-◌}
 use native.Mathlib.Omega.{arith}
-use borrow.Author.Rules.{rules}
-use borrow.Author.Tests.{not-true, not-false}
 use Rattle.stamps.proofs.shape.Wrongs.{wrong-none, wrong_start, wrong-next, wrong-found}
-use Rattle.stamps.specs.Shape.{first_wrong}
 use Rattle.stamps.proofs.shape.search.Goals as goal
 
 pub loop-i-init : goal.loop-i-init
@@ -16,13 +13,13 @@ pub returns-then-not-fits : goal.returns-then-not-fits
 returns-then-not-fits c =
     let a = c.args in
     let L = c.loop-i in
-    sym (wrong-found a.count a.shape a.at L.i a.text.now (omega arith) (sym c.fits2.ensures ∙ c.if-not-fits.true)) ∙ L.invariant.1
+    sym (wrong-found a.count a.shape a.at L.i a.text.now (omega arith) (sym c.fits.ensures ∙ c.if-not-fits.true)) ∙ L.invariant.1
 
 pub loop-i-preserved : goal.loop-i-preserved
 loop-i-preserved c =
     let a = c.args in
     let L = c.loop-i in
-    (omega arith, wrong-next a.count a.shape a.at L.i a.text.now (omega arith) (sym c.fits2.ensures ∙ c.if-not-fits.false) ∙ L.invariant.1)
+    (omega arith, wrong-next a.count a.shape a.at L.i a.text.now (omega arith) (sym c.fits.ensures ∙ c.if-not-fits.false) ∙ L.invariant.1)
 
 pub returns : goal.returns
 returns c =

@@ -1,10 +1,6 @@
 -- What is left to be searched has the first wrong byte of all.
-use mathlib.Core.Path.{◌≡◌, sym, ap, ◌∙◌}
-use Prim.Native.Nat.{ℕ, ◌+◌, ◌-◌, ◌≤◌}
-use native.Mathlib.Omega.{arith}
-use borrow.Author.Rules.{rules}
-use borrow.Author.Tests.{not-true, not-false}
-use Rattle.stamps.proofs.shape.Wrongs.{wrong-none, wrong_start, wrong-next, wrong-found}
+use mathlib.Core.Path.{◌≡◌}
+use Prim.Native.Nat.{◌+◌, ◌-◌, ◌≤◌}
 use Rattle.stamps.specs.Shape.{first_wrong}
 use Rattle.stamps.proofs.shape.search.Given as goal
 
