@@ -11,6 +11,7 @@ use crate::entries::{entry, lay};
 use meaning::{Change, Changes, Checked, Mended, Undone};
 use mending::listing::no_changes;
 
+#[tactic(auto, unfolding(meaning::specs::Mending::change_numbers))]
 fn lay_change(change: Change, row: &mut [i64], at: usize)
     requires { (at + 4 ≤ length row.old) × ChangeFits change }
     ensures { row.new ≡ sets row.old at (change_numbers (change ∷ [])) }

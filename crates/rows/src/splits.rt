@@ -24,6 +24,7 @@ fn kind_number(kind: Kind) -> u64
     }
 }
 
+#[tactic(auto, unfolding(crate::specs::Rows::part_numbers))]
 fn lay_part(part: Part, row: &mut [i64], at: usize)
     requires { (at + 3 ≤ length row.old) × NumberFits part.start × NumberFits part.length }
     ensures { row.new ≡ sets row.old at (part_numbers (part ∷ [])) }

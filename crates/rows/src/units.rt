@@ -38,6 +38,7 @@ fn names_entry(names: NameList) -> i64
     }
 }
 
+#[tactic(auto, unfolding(meaning::specs::Reading::rule_unit))]
 fn rule_entry(rule: Rule) -> i64
     ensures { result ≡ carried_entry (rule_unit rule) }
 {
@@ -73,6 +74,7 @@ fn rule_entry(rule: Rule) -> i64
     }
 }
 
+#[tactic(auto, unfolding(meaning::specs::Reading::step_unit))]
 fn run_entry(b: u8, count: usize) -> i64
     ensures { result ≡ step_entry (run_step (role_of Pair.Full b count) b count) }
 {
@@ -82,6 +84,7 @@ fn run_entry(b: u8, count: usize) -> i64
     }
 }
 
+#[tactic(auto, unfolding(meaning::specs::Writing::step_of, meaning::specs::Reading::step_unit))]
 fn part_entry(pattern: &[u8], part: Part) -> i64
     requires { Next pattern.now part.start part }
     ensures { result ≡ step_entry (step_of Pair.Full (content_of pattern.now part)) }

@@ -1,13 +1,13 @@
 -- The loop that lays what the parts of a pattern are: one turn, and the row at its end; and the entries by the checks.
 use mathlib.Core.List.{List, [], ◌∷◌, ◌++◌, map}
-use mathlib.Core.Path.{◌≡◌, refl, sym, ◌∙◌}
-use Prim.Native.Nat.{ℕ, ◌+◌, ◌-◌, ◌≤◌}
+use mathlib.Core.Path.{◌≡◌, refl, sym, ap, ◌∙◌}
+use Prim.Native.Nat.{ℕ, suc, ◌+◌, ◌-◌, ◌≤◌}
 use native.Mathlib.Omega.{arith}
 use lib.IntN.{ℤ, negsuc}
 use lib.ListN.{length, drop, replicate, length-map}
 use lib.Seq.{sets}
 use Rattle.meaning.specs.Answers.{bytes_check}
-use Rattle.meaning.specs.Splitting.{Content, contents, parts_from, parts}
+use Rattle.meaning.specs.Splitting.{Content, length_of, contents, parts_from, parts}
 use Rattle.meaning.specs.Writing.{step_of, steps}
 use Rattle.meaning.specs.declared.Checked.TheVariants.{Fine, Refused}
 use Rattle.meaning.specs.declared.Pair.TheVariants.{Full}
@@ -34,7 +34,7 @@ entries-turn {p} {at = at} {part = part} l n =
 parts-length : (at : ℕ) (cs : List Content) → length (parts_from at cs) ≡ length cs
 unfolding parts_from
 parts-length at [] = refl
-parts-length at (c ∷ cs) = rw (parts-length _ cs)
+parts-length at (c ∷ cs) = ap suc (parts-length (at + length_of c) cs)
 
 -- a part has one entry
 entries-length : (p : List ℕ) → length (map step_entry (steps Full p)) ≡ length (parts p)

@@ -8,38 +8,24 @@ use Rattle.rows.proofs.changes.Changes.{are-on, are-not, not-four, are_all}
 use Rattle.rows.specs.Changes.{are_changes}
 use Rattle.rows.proofs.changes.are_changes.Goals as goal
 
--- four more numbers are there
-inside : (c : goal.In-loop-at) → c.loop-at.at + 4 ≤ length c.args.row.now
-inside c = omega (arith, c.loop-at-test.true, c.loop-at.invariant.1, c.loop-at.invariant.2, c.if-row-ne0.false)
-
 pub returns-then-row-ne0 : goal.returns-then-row-ne0
 returns-then-row-ne0 c = sym (not-four c.args.row.now c.if-row-ne0.true)
 
-pub loop-at-init : goal.loop-at-init
-loop-at-init c = (refl, omega arith, refl)
-
-pub is_change-requires : goal.is_change-requires
-is_change-requires c = inside c
-
 pub returns-then-not-is_change : goal.returns-then-not-is_change
 returns-then-not-is_change c =
+    let inside : c.loop-at.at + 4 ≤ length c.args.row.now = omega (arith, c.loop-at-test.true, c.loop-at.invariant.1, c.loop-at.invariant.2, c.if-row-ne0.false) in
     let l = c in
     let row = l.args.row.now in
     let not = sym c.is_change.ensures ∙ c.if-not-is_change.true in
-    sym (sym l.loop-at.invariant.0 ∙ are-not row l.loop-at.at (inside c.before) not)
-
-pub overflow_add-at : goal.overflow_add-at
-overflow_add-at c = omega (arith, inside c.before)
-
-pub loop-at-smaller : goal.loop-at-smaller
-loop-at-smaller c = omega (arith, inside c.before)
+    sym (sym l.loop-at.invariant.0 ∙ are-not row l.loop-at.at inside not)
 
 pub loop-at-preserved : goal.loop-at-preserved
 loop-at-preserved c =
+    let inside : c.loop-at.at + 4 ≤ length c.args.row.now = omega (arith, c.loop-at-test.true, c.loop-at.invariant.1, c.loop-at.invariant.2, c.if-row-ne0.false) in
     let l = c in
     let row = l.args.row.now in
     let is = sym c.is_change.ensures ∙ c.if-not-is_change.false in
-    (are-on row l.loop-at.at (inside c.before) is ∙ l.loop-at.invariant.0, inside c.before, omega (arith, l.loop-at.invariant.2))
+    (are-on row l.loop-at.at inside is ∙ l.loop-at.invariant.0, inside, omega (arith, l.loop-at.invariant.2))
 
 pub returns : goal.returns
 returns c =

@@ -12,12 +12,6 @@ use borrow.Author.Rules.{rules}
 use Rattle.laws.proofs.Laid.{lay-next, lay_done}
 use Rattle.rows.proofs.entries.lay_places.Goals as goal
 
-pub loop-j-init : goal.loop-j-init
-loop-j-init c = (rw add-zero, omega arith, refl)
-
-pub overflow_cast-row : goal.overflow_cast-row
-overflow_cast-row c = record { sfits = omega (arith, c.type_inv.places c.loop-j.j) }
-
 pub loop-j-preserved : goal.loop-j-preserved
 loop-j-preserved c =
     let L = c.loop-j in
@@ -28,14 +22,3 @@ loop-j-preserved c =
     let there : L.j < length numbers = omega (arith, length-map places pos, c.loop-j-test.true) in
     rw (to_z_pos w64 {n = get_or places L.j 0} (omega arith), ← get_or-map pos places L.j 0)
     (lay-next L.row a.at numbers L.j (pos 0) there ∙ L.invariant.0, omega arith, length-set L.row (a.at + L.j) _ ∙ L.invariant.2)
-
-pub shape_of-row : goal.shape_of-row
-shape_of-row c = c.loop-j.invariant.2
-
-pub returns : goal.returns
-returns c =
-    let L = c.loop-j in
-    let a = c.args in
-    let numbers = map pos a.places.now in
-    let long = length-map a.places.now pos in
-    sym (lay_done L.row a.at numbers L.j (omega (arith, long, c.loop-j-test.false)) (omega (arith, long, L.invariant.1))) ∙ L.invariant.0

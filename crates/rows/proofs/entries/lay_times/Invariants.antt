@@ -1,6 +1,6 @@
 -- What lies there and what is still to be laid are all the numbers.
 use Prim.Native.Nat.{◌+◌, ◌-◌, ◌≤◌}
-use lib.ListN.{length, replicate, length-set}
+use lib.ListN.{length, replicate}
 use lib.Seq.{sets}
 use mir.Syntax.{w64}
 use mir.Val.{to_z, of_z}
@@ -13,7 +13,7 @@ use Rattle.laws.proofs.Laid.{lay-next-time, lay-times-done}
 use Rattle.rows.proofs.entries.lay_times.Given as goal
 
 abbrev pub invariant-loop-j : goal.invariant-loop-j
-invariant-loop-j l = (sets l.row (l.at + l.j) (replicate (l.times - l.j) (to_z w64 l.number)) ≡ sets l.initial.row l.at (replicate l.times (to_z w64 l.number))) × (l.j ≤ l.times) × (length l.row ≡ length l.initial.row)
+invariant-loop-j l = (sets l.row (l.at + l.j) (replicate (l.times - l.j) l.number) ≡ sets l.initial.row l.at (replicate l.times l.number)) × (l.j ≤ l.times) × (length l.row ≡ length l.initial.row)
 
 abbrev pub decreases-loop-j : goal.decreases-loop-j
 decreases-loop-j l = l.times - l.j

@@ -12,14 +12,11 @@ lay_parts-requires c =
     let s = c in
     (fine-short s.args.pattern.now (sym s.bytes_check.ensures ∙ c.in-Fine.is), omega arith)
 
-pub give_count-requires : goal.give_count-requires
-give_count-requires c = (search rules, omega (arith, c.lay_parts.ensures.0))
-
 pub give_refusal-requires : goal.give_refusal-requires
 give_refusal-requires c =
     let s = c in
     let p = s.args.pattern.now in
-    let fits = rw (← s.bytes_check.ensures, c.in-Refused.is) at (bytes_fit p (omega (arith, s.well-formed.0.1))) in
+    let fits = rw (← s.bytes_check.ensures, c.in-Refused.is) at (bytes_fit p (omega arith)) in
     (search rules, search rules, fits)
 
 pub returns-in-Fine : goal.returns-in-Fine
@@ -32,6 +29,5 @@ returns-in-Fine c =
 pub returns-in-Refused : goal.returns-in-Refused
 returns-in-Refused c =
     let s = c in
-    let why = c.why.given in
-    let refused = split-refused s.args.pattern.now _ (sym s.bytes_check.ensures ∙ why.1) in
+    let refused = split-refused s.args.pattern.now _ (sym s.bytes_check.ensures ∙ c.in-Refused.is) in
     (rw refused.0 c.give_refusal.ensures, rw refused.1)

@@ -13,14 +13,11 @@ lay_entries-requires c =
     let s = c in
     (fine-short s.args.pattern.now (sym s.bytes_check.ensures ∙ c.in-Fine.is), omega arith)
 
-pub give_count-requires : goal.give_count-requires
-give_count-requires c = (search rules, omega (arith, c.lay_entries.ensures.0))
-
 pub give_refusal-requires : goal.give_refusal-requires
 give_refusal-requires c =
     let s = c in
     let p = s.args.pattern.now in
-    let fits = rw (← s.bytes_check.ensures, c.in-Refused.is) at (bytes_fit p (omega (arith, s.well-formed.0.1))) in
+    let fits = rw (← s.bytes_check.ensures, c.in-Refused.is) at (bytes_fit p (omega arith)) in
     (search rules, search rules, fits)
 
 pub returns-in-Fine : goal.returns-in-Fine
@@ -35,6 +32,5 @@ pub returns-in-Refused : goal.returns-in-Refused
 returns-in-Refused c =
     let s = c in
     let p = s.args.pattern.now in
-    let why = c.why.given in
-    let refused = sym s.bytes_check.ensures ∙ why.1 in
+    let refused = sym s.bytes_check.ensures ∙ c.in-Refused.is in
     (rw (split-refused p _ refused).0 c.give_refusal.ensures, rw (units-refused p _ refused))

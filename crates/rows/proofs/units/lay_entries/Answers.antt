@@ -40,10 +40,7 @@ loop-at-preserved c =
     let found = c.next_part-part in
     let n = next l.args.pattern.now l.loop-at.at found.result (omega arith) found.ensures in
     let laid = c.part_entry in
-    rw (c.lay.ensures, stored laid.result laid.type-inv, laid.ensures) (entries-turn l.loop-at.invariant n)
-
-pub shape_of-row : goal.shape_of-row
-shape_of-row c = omega (arith, c.lay_times.auto.row)
+    rw (c.lay.ensures, stored laid.result laid.type_inv, laid.ensures) (entries-turn l.loop-at.invariant n)
 
 pub returns : goal.returns
 returns c =
