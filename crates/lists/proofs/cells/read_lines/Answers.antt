@@ -50,7 +50,7 @@ pub offset_bounds-codes-i : goal.offset_bounds-codes-i
 offset_bounds-codes-i c =
     let l = c in
     let left = cell-left _ _ _ _ _ _ l.loop-at.invariant.0 c.loop-at-test.true in
-    omega (arith, left.codes, l.loop-at.invariant.0.codes.long, l.well-formed)
+    omega (arith, left.codes, l.loop-at.invariant.0.codes.long, l.well_formed)
 
 pub bounds-codes-i : goal.bounds-codes-i
 bounds-codes-i c =
@@ -62,13 +62,13 @@ value_of-requires c =
     let l = c in
     let a = l.args in
     let row = c.read_row in
-    (row.auto.1.1.1.1.1.0 ∙ l.loop-at.invariant.1, cell-short a.choices a.book.now a.pattern.now _ (to_z w32 (of_z w32 a.year)) l.loop-at.invariant.1 row.ensures DayOfMonth (omega arith))
+    (row.auto.row ∙ l.loop-at.invariant.1, cell-short a.choices a.book.now a.pattern.now _ (to_z w32 (of_z w32 a.year)) l.loop-at.invariant.1 row.ensures DayOfMonth (omega arith))
 
 pub offset_bounds-days-i : goal.offset_bounds-days-i
 offset_bounds-days-i c =
     let l = c in
     let left = cell-left _ _ _ _ _ _ l.loop-at.invariant.0 c.loop-at-test.true in
-    omega (arith, left.days, l.loop-at.invariant.0.days.long, l.well-formed)
+    omega (arith, left.days, l.loop-at.invariant.0.days.long, l.well_formed)
 
 pub bounds-days-i : goal.bounds-days-i
 bounds-days-i c =
@@ -80,13 +80,13 @@ value_of-requires-in-loop-at c =
     let l = c in
     let a = l.args in
     let row = c.read_row in
-    (row.auto.1.1.1.1.1.0 ∙ l.loop-at.invariant.1, cell-short a.choices a.book.now a.pattern.now _ (to_z w32 (of_z w32 a.year)) l.loop-at.invariant.1 row.ensures Month (omega arith))
+    (row.auto.row ∙ l.loop-at.invariant.1, cell-short a.choices a.book.now a.pattern.now _ (to_z w32 (of_z w32 a.year)) l.loop-at.invariant.1 row.ensures Month (omega arith))
 
 pub offset_bounds-months-i : goal.offset_bounds-months-i
 offset_bounds-months-i c =
     let l = c in
     let left = cell-left _ _ _ _ _ _ l.loop-at.invariant.0 c.loop-at-test.true in
-    omega (arith, left.months, l.loop-at.invariant.0.months.long, l.well-formed)
+    omega (arith, left.months, l.loop-at.invariant.0.months.long, l.well_formed)
 
 pub bounds-months-i : goal.bounds-months-i
 bounds-months-i c =
@@ -98,13 +98,13 @@ value_of-requires-in-loop-at-2 c =
     let l = c in
     let a = l.args in
     let row = c.read_row in
-    (row.auto.1.1.1.1.1.0 ∙ l.loop-at.invariant.1, cell-short a.choices a.book.now a.pattern.now _ (to_z w32 (of_z w32 a.year)) l.loop-at.invariant.1 row.ensures Year (omega arith))
+    (row.auto.row ∙ l.loop-at.invariant.1, cell-short a.choices a.book.now a.pattern.now _ (to_z w32 (of_z w32 a.year)) l.loop-at.invariant.1 row.ensures Year (omega arith))
 
 pub offset_bounds-years-i : goal.offset_bounds-years-i
 offset_bounds-years-i c =
     let l = c in
     let left = cell-left _ _ _ _ _ _ l.loop-at.invariant.0 c.loop-at-test.true in
-    omega (arith, left.years, l.loop-at.invariant.0.years.long, l.well-formed)
+    omega (arith, left.years, l.loop-at.invariant.0.years.long, l.well_formed)
 
 pub bounds-years-i : goal.bounds-years-i
 bounds-years-i c =
@@ -131,7 +131,7 @@ loop-at-preserved c =
     let a = l.args in
     let end = c.line_end-end.ensures in
     let row = c.read_row in
-    let day = c.value_of_lem in
+    let day = c.value_of in
     let month = c.value_of-in-loop-at in
     let year = c.value_of-in-loop-at-2 in
     let cells = cell-of a.choices a.book.now a.pattern.now _ (to_z w32 (of_z w32 a.year)) l.loop-at.invariant.1 (rw end at row.ensures) in
@@ -144,7 +144,7 @@ loop-at-preserved c =
         c.next_line-at.ensures,
         end,
       ) stored,
-      row.auto.1.1.1.1.1.0 ∙ l.loop-at.invariant.1,
+      row.auto.row ∙ l.loop-at.invariant.1,
     )
 
 pub shape_of-days : goal.shape_of-days

@@ -19,7 +19,7 @@ use Rattle.lists.proofs.cells.read_lines.Given as goal
 
 abbrev pub invariant-loop-at : goal.invariant-loop-at
 invariant-loop-at l =
-    Unfinished (λ line. read l.choices (book_in l.book) l.pattern line (to_z w32 l.year)) l.text (rows_of l.initial.days l.initial.months l.initial.years l.initial.codes) (rows_of l.days l.months l.years l.codes) l.at l.i
+    Unfinished (λ line. read l.choices (book_in l.book) l.pattern line l.year) l.text (rows_of l.initial.days l.initial.months l.initial.years l.initial.codes) (rows_of l.days l.months l.years l.codes) l.at l.i
     × (length l.answer ≡ 48)
 
 abbrev pub decreases-loop-at : goal.decreases-loop-at

@@ -17,17 +17,3 @@ offset_bounds-answer-k c = omega (arith, unit-below c.args.unit, c.unit_number-k
 
 pub bounds-answer-k : goal.bounds-answer-k
 bounds-answer-k c = omega (arith, unit-below c.args.unit, c.unit_number-k.ensures, c.requires.0)
-
-pub overflow_cast-result : goal.overflow_cast-result
-overflow_cast-result c =
-    let s = c in
-    let k = c.unit_number-k in
-    let z = get_or s.args.answer.now (3 + k.result) (pos 0) in
-    rw (to_z-of_z w64 z (record { sfits = c.result.given }), k.ensures) (record { sfits = s.requires.1 })
-
-pub returns : goal.returns
-returns c =
-    let s = c in
-    let k = c.unit_number-k in
-    let z = get_or s.args.answer.now (3 + k.result) (pos 0) in
-    rw (to_z-of_z w64 z (record { sfits = c.result.given }), k.ensures) (to_z-of_z w32 _ (record { sfits = s.requires.1 }))

@@ -7,6 +7,7 @@ use borrow.Author.Rules.{rules}
 use borrow.Author.Tests.{eq-eqb, ne_eqb}
 use Rattle.laws.proofs.Lists.{newlines-further, newlines-none}
 use Rattle.laws.specs.Lists.{newlines}
+use Rattle.lists.proofs.counting.count_newlines.Goals.{then-text-i-eq10, else-text-i-eq10}
 use Rattle.lists.proofs.counting.count_newlines.Goals as goal
 
 pub loop-i-init : goal.loop-i-init
@@ -14,11 +15,12 @@ loop-i-init c = (omega arith, omega arith, omega arith)
 
 pub loop-i-preserved : goal.loop-i-preserved
 loop-i-preserved c =
-    let l = c in
-    let s = l.args.text.now in
-    let turn = newlines-further s l.loop-i.i (omega arith) in
-    ⊎_elim (λ w. let e = rw (eq-eqb _ _ w.0.taken) at turn in (omega arith, omega (arith, w.1), omega (arith, e, w.1, l.loop-i.invariant.2)))
-    (λ w. let e = rw (ne_eqb _ _ w.0.left) at turn in (omega arith, omega (arith, w.1), omega (arith, e, w.1, l.loop-i.invariant.2))) c.if-text-i-eq10.branch
+    let s = c.args.text.now in
+    let turn = newlines-further s c.loop-i.i (omega arith) in
+    elim c.if-text-i-eq10.branch [
+      | then-text-i-eq10 w ↦ let e = rw (eq-eqb _ _ w.if-text-i-eq10.true) at turn in (omega arith, omega (arith, w.n-is), omega (arith, e, w.n-is, c.loop-i.invariant.2))
+      | else-text-i-eq10 w ↦ let e = rw (ne_eqb _ _ w.if-text-i-eq10.false) at turn in (omega arith, omega (arith, w.n-is), omega (arith, e, w.n-is, c.loop-i.invariant.2))
+    ]
 
 pub returns : goal.returns
 returns c =
