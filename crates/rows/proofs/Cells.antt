@@ -5,10 +5,10 @@ use Prim.Native.Nat.{ℕ, suc, ◌+◌, ◌-◌, ◌≤◌, ◌<◌}
 use native.Mathlib.Omega.{arith}
 use lib.IntN.{ℤ, pos}
 use lib.ListN.{length, get_or, drop, replicate, length-append, length-replicate, get_or-replicate, get_or-append}
-use lib.Seq.{sets, sets-eq, get_or-append-add}
+use lib.Seq.{sets-eq, get_or-append-add}
 use Rattle.laws.proofs.Marks.{entries, get-entry}
 use Rattle.laws.proofs.Tests.{when-is}
-use Rattle.meaning.specs.Answers.{accepted, refused, read_answer, details}
+use Rattle.meaning.specs.Answers.{refused, read_answer, details}
 use Rattle.meaning.specs.Lists.{cell}
 use Rattle.meaning.specs.Names.{Book}
 use Rattle.meaning.specs.Whole.{unit_number, Gave, Walk, walked, refused_at, last_of, value_of, began_at, ended_at, fifteen, reading_of, read_by, read_check, read}
@@ -17,7 +17,7 @@ use Rattle.meaning.specs.declared.Checked.TheVariants.{Fine, Refused}
 use Rattle.meaning.specs.declared.Choices.{Choices}
 use Rattle.meaning.specs.declared.ParseUnit.{ParseUnit}
 use Rattle.meaning.specs.declared.Refusal.{Refusal}
-use Rattle.refusals.proofs.Integers.{details_of, tells-details}
+use Rattle.refusals.proofs.Integers.{tells-details}
 use Rattle.refusals.specs.Told.{told, detail_of}
 use Rattle.reader.proofs.record.Units.{unit-below}
 use Rattle.rows.specs.Rows.{in_row, laid}

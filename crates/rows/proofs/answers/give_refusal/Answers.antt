@@ -1,8 +1,7 @@
 -- Zeros lie behind the two details, or behind the one.
 use mathlib.Core.Path.{ap, ◌∙◌}
 use Rattle.refusals.proofs.Integers.{tells-details}
-use Rattle.rows.proofs.entries.Stored.{stored, first_fits, second_fits, two-details, one-detail}
-use borrow.Author.Rules.{rules}
+use Rattle.rows.proofs.entries.Stored.{stored, two-details}
 use Rattle.rows.proofs.answers.give_refusal.Goals as goal
 
 pub returns-then-told : goal.returns-then-told

@@ -1,11 +1,7 @@
 -- Those that are left are changes where all are.
-use Prim.Native.Nat.{◌+◌, ◌-◌, ◌%◌, ◌≤◌}
-use borrow.Author.Rules.{rules}
-use borrow.Author.Tests.{not-true, not-false}
+use Prim.Native.Nat.{◌-◌, ◌%◌, ◌≤◌}
 use lib.ListN.{length, drop}
-use mathlib.Core.Path.{◌≡◌, refl, sym, ◌∙◌}
-use native.Mathlib.Omega.{arith}
-use Rattle.rows.proofs.changes.Changes.{are-on, are-not, not-four, are_all}
+use mathlib.Core.Path.{◌≡◌}
 use Rattle.rows.specs.Changes.{are_changes}
 use Rattle.rows.proofs.changes.are_changes.Given as goal
 

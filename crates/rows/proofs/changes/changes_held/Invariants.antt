@@ -1,14 +1,10 @@
 -- At each turn what is listed and the changes that are left are all changes.
-use Prim.Native.Nat.{◌+◌, ◌-◌, ◌*◌, ◌≤◌, ◌<◌}
-use borrow.Author.Rules.{rules}
-use lib.ListN.{length, take, drop, length-set}
+use Prim.Native.Nat.{◌-◌, ◌*◌, ◌≤◌}
+use lib.ListN.{length, take, drop}
 use mathlib.Core.Bool.{true}
 use mathlib.Core.List.{◌++◌}
-use mathlib.Core.Path.{◌≡◌, refl, ap, ◌∙◌}
-use native.Mathlib.Omega.{arith}
-use Rattle.meaning.specs.declared.Changes.{Changes}
-use Rattle.rows.proofs.changes.Changes.{are-here, held_next, four-left, held-turn, held-end}
-use Rattle.rows.specs.Changes.{are_changes, changes_held, change_at}
+use mathlib.Core.Path.{◌≡◌}
+use Rattle.rows.specs.Changes.{are_changes, changes_held}
 use Rattle.rows.proofs.changes.changes_held.Given as goal
 
 abbrev pub invariant-loop-used : goal.invariant-loop-used

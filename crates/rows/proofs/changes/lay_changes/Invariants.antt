@@ -1,12 +1,9 @@
 -- At each turn what lies in the row and what is still to be laid are all the changes.
-use Prim.Native.Nat.{◌-◌, ◌*◌, ◌≤◌, ◌<◌}
-use borrow.Author.Rules.{rules}
-use lib.ListN.{length, drop, length-map}
+use Prim.Native.Nat.{◌-◌, ◌*◌, ◌≤◌}
+use lib.ListN.{length, drop}
 use lib.Seq.{sets}
-use mathlib.Core.Path.{◌≡◌, refl, sym, ◌∙◌}
-use native.Mathlib.Omega.{arith}
+use mathlib.Core.Path.{◌≡◌}
 use Rattle.meaning.specs.Mending.{change_numbers}
-use Rattle.rows.proofs.changes.Changes.{changes-turn, changes-end, change-fits}
 use Rattle.rows.specs.Rows.{laid}
 use Rattle.rows.proofs.changes.lay_changes.Given as goal
 

@@ -1,15 +1,8 @@
 -- What lies there and the numbers still to be laid are all the numbers.
 use Prim.Native.Nat.{◌+◌, ◌-◌, ◌≤◌}
-use lib.IntN.{pos}
-use lib.ListN.{length, get_or, drop, length-set}
+use lib.ListN.{length, drop}
 use lib.Seq.{sets}
-use mathlib.Core.Path.{◌≡◌, refl, sym, ◌∙◌}
-use native.Mathlib.Nat.{add-zero}
-use native.Mathlib.Omega.{arith}
-use mir.Syntax.{w64}
-use mir.ValLaws.{to_z-of_z}
-use borrow.Author.Rules.{rules}
-use Rattle.laws.proofs.Laid.{lay-next, lay_done}
+use mathlib.Core.Path.{◌≡◌}
 use Rattle.rows.proofs.entries.lay.Given as goal
 
 abbrev pub invariant-loop-j : goal.invariant-loop-j

@@ -1,15 +1,12 @@
-use Prim.Native.Nat.{◌+◌, ◌-◌, ◌≤◌, ◌<◌}
+use Prim.Native.Nat.{◌+◌, ◌<◌}
 use lib.IntN.{pos}
-use lib.ListN.{length, get_or, drop, length-set, length-map, get_or-map}
-use lib.Seq.{sets}
+use lib.ListN.{length, get_or, length-set, length-map, get_or-map}
 use mathlib.Core.List.{map}
-use mathlib.Core.Path.{◌≡◌, refl, sym, ◌∙◌}
-use native.Mathlib.Nat.{add-zero}
+use mathlib.Core.Path.{◌∙◌}
 use native.Mathlib.Omega.{arith}
 use mir.Facts.{to_z_pos}
 use mir.Syntax.{w64}
-use borrow.Author.Rules.{rules}
-use Rattle.laws.proofs.Laid.{lay-next, lay_done}
+use Rattle.laws.proofs.Laid.{lay-next}
 use Rattle.rows.proofs.entries.lay_places.Goals as goal
 
 pub loop-j-preserved : goal.loop-j-preserved

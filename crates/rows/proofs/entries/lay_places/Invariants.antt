@@ -1,16 +1,10 @@
 -- What lies there and the places still to be laid are all the places.
-use Prim.Native.Nat.{◌+◌, ◌-◌, ◌≤◌, ◌<◌}
+use Prim.Native.Nat.{◌+◌, ◌-◌, ◌≤◌}
 use lib.IntN.{pos}
-use lib.ListN.{length, get_or, drop, length-set, length-map, get_or-map}
+use lib.ListN.{length, drop}
 use lib.Seq.{sets}
 use mathlib.Core.List.{map}
-use mathlib.Core.Path.{◌≡◌, refl, sym, ◌∙◌}
-use native.Mathlib.Nat.{add-zero}
-use native.Mathlib.Omega.{arith}
-use mir.Facts.{to_z_pos}
-use mir.Syntax.{w64}
-use borrow.Author.Rules.{rules}
-use Rattle.laws.proofs.Laid.{lay-next, lay_done}
+use mathlib.Core.Path.{◌≡◌}
 use Rattle.rows.proofs.entries.lay_places.Given as goal
 
 abbrev pub invariant-loop-j : goal.invariant-loop-j

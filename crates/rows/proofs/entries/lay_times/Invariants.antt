@@ -2,14 +2,7 @@
 use Prim.Native.Nat.{◌+◌, ◌-◌, ◌≤◌}
 use lib.ListN.{length, replicate}
 use lib.Seq.{sets}
-use mir.Syntax.{w64}
-use mir.Val.{to_z, of_z}
-use mir.ValLaws.{to_z-of_z}
-use mathlib.Core.Path.{◌≡◌, refl, sym, ◌∙◌}
-use native.Mathlib.Nat.{add-zero, sub-zero}
-use native.Mathlib.Omega.{arith}
-use borrow.Author.Rules.{rules}
-use Rattle.laws.proofs.Laid.{lay-next-time, lay-times-done}
+use mathlib.Core.Path.{◌≡◌}
 use Rattle.rows.proofs.entries.lay_times.Given as goal
 
 abbrev pub invariant-loop-j : goal.invariant-loop-j

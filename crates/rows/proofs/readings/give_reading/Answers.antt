@@ -7,8 +7,7 @@ use Rattle.rows.proofs.readings.give_reading.Goals as goal
 
 pub returns-in-Fine : goal.returns-in-Fine
 returns-in-Fine c =
-    let s = c in
-    let r = s.args.reading in
+    let r = c.args.reading in
     let values : length r.values ≡ 15 = search rules in
     let starts : length r.starts ≡ 15 = search rules in
     let ends : length r.ends ≡ 15 = search rules in

@@ -1,13 +1,8 @@
 -- At each turn what lies in the row and what is still to be laid are all the parts.
-use mathlib.Core.Path.{◌≡◌, refl, ap, ◌∙◌}
 use Prim.Native.Nat.{◌-◌}
-use native.Mathlib.Omega.{arith}
-use borrow.Author.Rules.{rules}
 use lib.ListN.{length}
-use Rattle.meaning.specs.declared.Part.{Part}
-use Rattle.pattern.proofs.parts.Next.{next}
-use Rattle.rows.proofs.Laying.{Laying, laying-start}
-use Rattle.rows.proofs.splits.Parts.{numbers_from, place, parts-turn, parts-end}
+use Rattle.rows.proofs.Laying.{Laying}
+use Rattle.rows.proofs.splits.Parts.{numbers_from, place}
 use Rattle.rows.proofs.splits.lay_parts.Given as goal
 
 abbrev pub invariant-loop-at : goal.invariant-loop-at

@@ -1,13 +1,8 @@
 -- At each turn what lies in the row and what is still to be laid are the entries of all parts.
-use mathlib.Core.Path.{refl, ◌∙◌}
 use Prim.Native.Nat.{◌-◌}
-use native.Mathlib.Omega.{arith}
-use borrow.Author.Rules.{rules}
 use lib.ListN.{length}
-use Rattle.pattern.proofs.parts.Next.{next, starts-here}
-use Rattle.rows.proofs.Laying.{Laying, laying-start}
-use Rattle.rows.proofs.entries.Stored.{stored}
-use Rattle.rows.proofs.units.Entries.{entries_from, place, entries-turn, entries-end}
+use Rattle.rows.proofs.Laying.{Laying}
+use Rattle.rows.proofs.units.Entries.{entries_from, place}
 use Rattle.rows.proofs.units.lay_entries.Given as goal
 
 abbrev pub invariant-loop-at : goal.invariant-loop-at

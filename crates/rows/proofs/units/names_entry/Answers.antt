@@ -3,8 +3,6 @@ use native.Mathlib.Omega.{arith}
 use Rattle.laws.proofs.Places.{place-there}
 use Rattle.trust.proofs.RulesAhead.{long-numbers-allowed}
 use Rattle.trust.specs.Check.{long_numbers}
-use Rattle.rows.proofs.entries.Stored.{stored}
-use borrow.Author.Rules.{rules}
 use Rattle.rows.proofs.units.names_entry.Goals as goal
 
 pub name_carries-requires : goal.name_carries-requires
