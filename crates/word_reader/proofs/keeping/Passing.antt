@@ -15,7 +15,7 @@ use Rattle.meaning.specs.Writing.{literal}
 use Rattle.meaning.specs.declared.Carried.TheVariants.{Nothing}
 use Rattle.meaning.specs.declared.Choices.{Choices}
 use Rattle.words.specs.Fields.{last_byte}
-use Rattle.words.specs.Pieces.{piece_step, behind}
+use Rattle.words.specs.Pieces.{piece_step}
 use Rattle.meaning.specs.Names.{Book}
 use Rattle.word_reader.proofs.keeping.Moving.{moves-none, moves-to, kept-none, kept-nothing}
 use Rattle.word_reader.specs.Quick.{gave_one, Moves, Behind, Passed}

@@ -1,12 +1,10 @@
-use borrow.Author.Rules.{rules}
-use lib.ListN.{length, drop, drop_of_length-le}
+use lib.ListN.{drop_of_length-le}
 use mathlib.Core.Path.{◌≡◌, sym, ◌∙◌}
-use Prim.Native.Nat.{◌+◌, ◌-◌, ◌≤◌}
+use Prim.Native.Nat.{◌+◌}
 use native.Mathlib.Omega.{arith}
 use native.Mathlib.Nat.{add-zero}
 use Rattle.parse.proofs.literals.Comparing.{same-on, differs_at, all_same}
-use Rattle.parse.specs.Literals.{compared_from}
-use Rattle.word_reader.proofs.exact.Literals.{low_bytes, held-turn}
+use Rattle.word_reader.proofs.exact.Literals.{held-turn}
 use Rattle.word_reader.proofs.exact.compare_held.Goals as goal
 
 pub loop-i-init : goal.loop-i-init

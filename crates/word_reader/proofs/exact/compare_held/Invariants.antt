@@ -1,13 +1,9 @@
 -- What is compared so far is the same, and the rest decides.
-use borrow.Author.Rules.{rules}
-use lib.ListN.{length, drop, drop_of_length-le}
-use mathlib.Core.Path.{◌≡◌, sym, ◌∙◌}
+use lib.ListN.{length, drop}
+use mathlib.Core.Path.{◌≡◌}
 use Prim.Native.Nat.{◌+◌, ◌-◌, ◌≤◌}
-use native.Mathlib.Omega.{arith}
-use native.Mathlib.Nat.{add-zero}
-use Rattle.parse.proofs.literals.Comparing.{same-on, differs_at, all_same}
 use Rattle.parse.specs.Literals.{compared_from}
-use Rattle.word_reader.proofs.exact.Literals.{low_bytes, held-turn}
+use Rattle.word_reader.proofs.exact.Literals.{low_bytes}
 use Rattle.word_reader.proofs.exact.compare_held.Given as goal
 
 abbrev pub invariant-loop-i : goal.invariant-loop-i

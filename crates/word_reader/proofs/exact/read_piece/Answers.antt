@@ -1,5 +1,4 @@
 -- Each kind of piece has its reader.
-use borrow.Author.Rules.{rules}
 use Rattle.meaning.specs.Reading.{read_step}
 use Rattle.words.specs.Pieces.{piece_step}
 use Rattle.word_reader.proofs.exact.Literals.{held-part}

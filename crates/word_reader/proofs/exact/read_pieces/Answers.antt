@@ -1,24 +1,26 @@
 use borrow.Author.Rules.{rules}
-use lib.ListN.{length, get_or, take, drop}
-use mathlib.Core.List.{List, [], ◌∷◌, ◌++◌}
-use mathlib.Core.Logic.{⊎_elim, inl, inr}
+use lib.ListN.{length, get_or, drop}
+use mathlib.Core.List.{[], ◌∷◌}
+use mathlib.Core.Bool.{false}
+use mathlib.Core.Logic.{◌⊎◌, inl, inr}
 use mathlib.Core.Path.{◌≡◌, refl, sym, ◌∙◌}
 use mir.Syntax.{w64}
 use mir.ValLaws.{to_z-of_z}
-use Prim.Native.Nat.{◌+◌, ◌*◌, ◌-◌, ◌≤◌, ◌<◌}
+use Prim.Native.Nat.{◌≤◌, ◌<◌}
 use native.Mathlib.Omega.{arith}
 use Rattle.meaning.specs.Answers.{details}
 use Rattle.meaning.specs.OpenedBooks.{book_in}
-use Rattle.meaning.specs.Whole.{Gave, refused_at, walk}
+use Rattle.meaning.specs.Whole.{refused_at}
 use Rattle.meaning.specs.declared.Carried.TheVariants.{Nothing, Value}
 use Rattle.meaning.specs.declared.Checked.TheVariants.{Fine, Refused}
-use Rattle.words.specs.Pieces.{piece_step, pieces_in, steps_of}
+use Rattle.words.specs.Pieces.{piece_step, pieces_in}
 use Rattle.word_reader.proofs.exact.Fitting.{walk-fit, part-fit}
 use Rattle.word_reader.proofs.exact.Pieces.{word-ends, piece-stops, piece-goes-on, words_left, words-done, piece_inside}
 use Rattle.word_reader.proofs.keeping.Moving.{kept-nothing}
 use Rattle.word_reader.proofs.keeping.Rows.{zero_row, no-mask, beyond-row, counted-row, given-quick, given-over}
-use Rattle.word_reader.specs.Quick.{row_of, mask_of}
 use Rattle.word_reader.proofs.exact.read_pieces.Goals as goal
+use Rattle.word_reader.proofs.exact.read_pieces.Goals.{in-Value, in_default}
+use Rattle.word_reader.proofs.exact.read_pieces.Goals.{then-choices+else-at-text, else-choices}
 
 pub lay_zeros-requires : goal.lay_zeros-requires
 lay_zeros-requires c = omega (arith, c.requires.2)
@@ -59,7 +61,7 @@ loop-i-preserved-then-piece_count-k c =
     let count = m.piece_count.ensures in
     let there = m.loop-i-test.true in
     let all : L.k ≡ length (pieces_in (get_or a.tail.now L.i 0)) = omega (arith, c.if-piece_count-k.true, count.0, L.invariant.5) in
-    let ends = word-ends a.choices (book_in a.book.now) a.current-year a.tail.now a.text.now a.used s.requires.0 L.invariant.0 L.part L.at L.i L.k there all in
+    let ends = word-ends a.choices (book_in a.book.now) a.current_year a.tail.now a.text.now a.used s.requires.0 L.invariant.0 L.part L.at L.i L.k there all in
     (L.invariant.0, sym ends ∙ L.invariant.1, L.invariant.2, L.invariant.3, L.invariant.4, omega arith, omega (arith, L.invariant.6, count, L.invariant.5), omega (arith, there), L.invariant.8)
 
 pub piece_in-piece-requires : goal.piece_in-piece-requires
@@ -78,8 +80,8 @@ refused_in-requires c =
     let there = m.loop-i-test.true in
     let more : L.k < length (pieces_in (get_or a.tail.now L.i 0)) = omega (arith, m.if-piece_count-k.false, count.0) in
     let gave = sym c.read_piece.ensures ∙ c.in-Stopped.is in
-    let stops = piece-stops a.choices (book_in a.book.now) a.current-year a.tail.now a.text.now a.used s.requires.0 L.invariant.0 L.part L.at L.i L.k there more c.piece_in-piece.ensures gave in
-    let fit = walk-fit a.choices (book_in a.book.now) a.current-year a.tail.now a.text.now a.used (omega (arith, s.requires.0, s.well-formed.1.1.0.1)) (omega (arith, s.requires.1)) in
+    let stops = piece-stops a.choices (book_in a.book.now) a.current_year a.tail.now a.text.now a.used s.requires.0 L.invariant.0 L.part L.at L.i L.k there more c.piece_in-piece.ensures gave in
+    let fit = walk-fit a.choices (book_in a.book.now) a.current_year a.tail.now a.text.now a.used (omega (arith, s.requires.0)) (omega (arith, s.requires.1)) in
     let both' = part-fit fit (sym L.invariant.1 ∙ stops) in
     (omega (arith, L.invariant.8, m.lay_zeros.auto.row, s.requires.2), both'.0, both'.1)
 
@@ -102,7 +104,7 @@ returns-in-Stopped c =
     let there = m.loop-i-test.true in
     let more : L.k < length (pieces_in (get_or a.tail.now L.i 0)) = omega (arith, m.if-piece_count-k.false, count.0) in
     let gave = sym c.read_piece.ensures ∙ c.in-Stopped.is in
-    let stops = piece-stops a.choices (book_in a.book.now) a.current-year a.tail.now a.text.now a.used s.requires.0 L.invariant.0 L.part L.at L.i L.k there more c.piece_in-piece.ensures gave in
+    let stops = piece-stops a.choices (book_in a.book.now) a.current_year a.tail.now a.text.now a.used s.requires.0 L.invariant.0 L.part L.at L.i L.k there more c.piece_in-piece.ensures gave in
     let zeros = zero_row a.answer.now s.requires.2 m.lay_zeros.ensures in
     rw (← rw stops at L.invariant.1)
     (given-over (Refused _) (refused_at Fine) s.requires.2 (omega (arith, L.invariant.8, m.lay_zeros.auto.row)) (beyond-row L.invariant.0 L.invariant.2 ∙ beyond-row [] zeros) c.refused_in.ensures)
@@ -115,7 +117,7 @@ keep-kept-requires c =
     let L = m.loop-i in
     let count = m.piece_count.ensures in
     let gave = sym c.read_piece.ensures ∙ c.in-Got.is in
-    let inside = piece_inside a.choices (book_in a.book.now) a.current-year a.text.now L.at (piece_step a.tail.now c.piece_in-piece.result) gave L.invariant.4 in
+    let inside = piece_inside a.choices (book_in a.book.now) a.current_year a.text.now L.at (piece_step a.tail.now c.piece_in-piece.result) gave L.invariant.4 in
     (omega (arith, L.invariant.8, m.lay_zeros.auto.row, s.requires.2), omega (arith, L.invariant.4, s.requires.1), omega (arith, inside, s.requires.1))
 
 pub overflow_add-part : goal.overflow_add-part
@@ -125,7 +127,7 @@ overflow_add-part c =
     let a = s.args in
     let L = m.loop-i in
     let count = m.piece_count.ensures in
-    omega (arith, L.invariant.5, L.invariant.6, count, m.loop-i-test.true, s.requires.0, s.well-formed.1.1.0.1)
+    omega (arith, L.invariant.5, L.invariant.6, count, m.loop-i-test.true, s.requires.0)
 
 pub overflow_add-k : goal.overflow_add-k
 overflow_add-k c =
@@ -147,49 +149,48 @@ loop-i-smaller c =
 
 pub loop-i-preserved : goal.loop-i-preserved
 loop-i-preserved c =
-    let m = c in
-    let s = m in
+    let s = c in
     let a = s.args in
-    let L = m.loop-i in
-    let count = m.piece_count.ensures in
+    let L = c.loop-i in
+    let count = c.piece_count.ensures in
     let tail = a.tail.now in
     let text = a.text.now in
     let book = book_in a.book.now in
-    let there = m.loop-i-test.true in
-    let more : L.k < length (pieces_in (get_or tail L.i 0)) = omega (arith, m.if-piece_count-k.false, count.0) in
+    let there = c.loop-i-test.true in
+    let more : L.k < length (pieces_in (get_or tail L.i 0)) = omega (arith, c.if-piece_count-k.false, count.0) in
     let gave = sym c.read_piece.ensures ∙ c.in-Got.is in
-    let moved = piece-goes-on a.choices (book_in a.book.now) a.current-year a.tail.now a.text.now a.used s.requires.0 L.invariant.0 L.part L.at L.i L.k there more c.piece_in-piece.ensures gave in
-    let inside = piece_inside a.choices book a.current-year text L.at (piece_step tail c.piece_in-piece.result) gave L.invariant.4 in
+    let moved = piece-goes-on a.choices (book_in a.book.now) a.current_year a.tail.now a.text.now a.used s.requires.0 L.invariant.0 L.part L.at L.i L.k there more c.piece_in-piece.ensures gave in
+    let inside = piece_inside a.choices book a.current_year text L.at (piece_step tail c.piece_in-piece.result) gave L.invariant.4 in
     let from = L.at in
     let to = c.in-Got.next.at in
-    ⊎_elim
-    (λ l.
-    let u = l.1.given.0.0 in
-    let z = l.1.given.0.1.0 in
-    let kept = (rw (to_z-of_z w64 z (search rules)) at l.4.ensures.1).keeps L.invariant.0 _ L.invariant.2 L.invariant.3 in (
-      record { carried = Value u z; start = from; end = to } ∷ L.invariant.0,
-      rw l.1.given.1 at (sym moved ∙ L.invariant.1),
-      rw l.6 kept.0,
-      rw l.7 kept.1,
-      inside,
-      omega (arith, more),
-      omega (arith, L.invariant.6),
-      omega (arith, there),
-      rw l.6 (omega (arith, l.4.kept.1.1.1.1.1.0, L.invariant.8)),
-    ))
-    (λ e.
-    let kept = kept-nothing.keeps L.invariant.0 _ L.invariant.2 L.invariant.3 in (
-      record { carried = Nothing; start = from; end = to } ∷ L.invariant.0,
-      rw e.1.given.1 at (sym moved ∙ L.invariant.1),
-      rw e.2 kept.0,
-      rw e.3 kept.1,
-      inside,
-      omega (arith, more),
-      omega (arith, L.invariant.6),
-      omega (arith, there),
-      rw e.2 L.invariant.8,
-    ))
-    c.match2.branch
+    elim c.match-carried.branch [
+      | in-Value w ↦
+          let u = w.in-Value.unit in
+          let z = w.in-Value.value in
+          let kept = (rw (to_z-of_z w64 z (search rules)) at w.keep-kept.ensures.1).keeps L.invariant.0 _ L.invariant.2 L.invariant.3 in (
+            record { carried = Value u z; start = from; end = to } ∷ L.invariant.0,
+            rw w.in-Value.is at (sym moved ∙ L.invariant.1),
+            rw w.answer-is kept.0,
+            rw w.mask-is kept.1,
+            inside,
+            omega (arith, more),
+            omega (arith, L.invariant.6),
+            omega (arith, there),
+            rw w.answer-is (omega (arith, w.keep-kept.auto.answer, L.invariant.8)),
+          )
+      | in_default w ↦
+          let kept = kept-nothing.keeps L.invariant.0 _ L.invariant.2 L.invariant.3 in (
+            record { carried = Nothing; start = from; end = to } ∷ L.invariant.0,
+            rw w.in_default.is at (sym moved ∙ L.invariant.1),
+            rw w.answer-is kept.0,
+            rw w.mask-is kept.1,
+            inside,
+            omega (arith, more),
+            omega (arith, L.invariant.6),
+            omega (arith, there),
+            rw w.answer-is L.invariant.8,
+          )
+    ]
 
 pub give_refusal-requires : goal.give_refusal-requires
 unfolding details
@@ -207,7 +208,7 @@ returns-then-at-text c =
     let a = s.args in
     let m = c in
     let L = m.loop-i in
-    let ends = words_left a.choices (book_in a.book.now) a.current-year a.tail.now a.text.now a.used s.requires.0 L.invariant.0 L.part L.at L.i L.k m.loop-i-test.false c.if-choices.true c.if-at-text.true in
+    let ends = words_left a.choices (book_in a.book.now) a.current_year a.tail.now a.text.now a.used s.requires.0 L.invariant.0 L.part L.at L.i L.k m.loop-i-test.false c.if-choices.true c.if-at-text.true in
     let zeros = zero_row a.answer.now s.requires.2 c.lay_zeros.ensures in
     rw (← rw ends at L.invariant.1)
     (given-over (Refused _) (refused_at Fine) s.requires.2 (omega (arith, L.invariant.8, c.lay_zeros.auto.row)) (beyond-row L.invariant.0 L.invariant.2 ∙ beyond-row [] zeros) c.give_refusal.ensures)
@@ -225,10 +226,10 @@ pub returns : goal.returns
 returns c =
     let s = c in
     let a = s.args in
-    let m = c in
-    let L = m.loop-i in
-    let none_left = ⊎_elim (λ t. inr t.1.left) (λ e. inl e.left) c.if-choices.branch in
-    let ends = words-done a.choices (book_in a.book.now) a.current-year a.tail.now a.text.now a.used s.requires.0 L.invariant.0 L.part L.at L.i L.k m.loop-i-test.false none_left in
+    let L = c.loop-i in
+    let none_left : (a.choices.strict ≡ false) ⊎ (length a.text.now ≤ L.at) =
+    elim c.if-choices.branch [ then-choices+else-at-text t ↦ inr t.if-at-text.false | else-choices e ↦ inl e.if-choices.false ] in
+    let ends = words-done a.choices (book_in a.book.now) a.current_year a.tail.now a.text.now a.used s.requires.0 L.invariant.0 L.part L.at L.i L.k c.loop-i-test.false none_left in
     let zeros = beyond-row [] (zero_row a.answer.now s.requires.2 c.lay_zeros.ensures) in
     let row = rw (L.invariant.2, L.invariant.3, counted-row L.at L.invariant.0 (drop 48 _), zeros) at c.finish.ensures in
     rw (← rw ends at L.invariant.1) (given-quick L.at L.invariant.0 s.requires.2 row)

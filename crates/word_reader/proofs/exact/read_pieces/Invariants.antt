@@ -1,23 +1,11 @@
 -- What is read so far stands in the row, and the walk that is left: from a piece of a word on.
-use borrow.Author.Rules.{rules}
 use lib.ListN.{length, get_or, take, drop}
-use mathlib.Core.List.{List, [], ◌∷◌, ◌++◌}
-use mathlib.Core.Logic.{⊎_elim, inl, inr}
-use mathlib.Core.Path.{◌≡◌, refl, sym, ◌∙◌}
-use mir.Syntax.{w64}
-use mir.ValLaws.{to_z-of_z}
-use Prim.Native.Nat.{◌+◌, ◌*◌, ◌-◌, ◌≤◌, ◌<◌}
-use native.Mathlib.Omega.{arith}
-use Rattle.meaning.specs.Answers.{details}
+use mathlib.Core.List.{List, [], ◌++◌}
+use mathlib.Core.Path.{◌≡◌}
+use Prim.Native.Nat.{◌+◌, ◌*◌, ◌-◌, ◌≤◌}
 use Rattle.meaning.specs.OpenedBooks.{book_in}
-use Rattle.meaning.specs.Whole.{Gave, refused_at, walk}
-use Rattle.meaning.specs.declared.Carried.TheVariants.{Nothing, Value}
-use Rattle.meaning.specs.declared.Checked.TheVariants.{Fine, Refused}
-use Rattle.words.specs.Pieces.{piece_step, pieces_in, steps_of}
-use Rattle.word_reader.proofs.exact.Fitting.{walk-fit, part-fit}
-use Rattle.word_reader.proofs.exact.Pieces.{word-ends, piece-stops, piece-goes-on, words_left, words-done, piece_inside}
-use Rattle.word_reader.proofs.keeping.Moving.{kept-nothing}
-use Rattle.word_reader.proofs.keeping.Rows.{zero_row, no-mask, beyond-row, counted-row, given-quick, given-over}
+use Rattle.meaning.specs.Whole.{Gave, walk}
+use Rattle.words.specs.Pieces.{pieces_in, steps_of}
 use Rattle.word_reader.specs.Quick.{row_of, mask_of}
 use Rattle.word_reader.proofs.exact.read_pieces.Given as goal
 

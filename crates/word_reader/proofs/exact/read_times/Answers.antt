@@ -1,19 +1,17 @@
 -- Compared where it is asked for and the bytes are there, then passed over.
-use borrow.Author.Rules.{rules}
-use borrow.Author.Tests.{ltb-true, ltb-false}
 use lib.ListN.{length, replicate, length-replicate}
-use mathlib.Core.Logic.{⊎_elim}
 use mathlib.Core.Path.{◌≡◌, sym, ◌∙◌}
 use Prim.Native.Nat.{◌+◌, ◌-◌, ◌≤◌}
 use native.Mathlib.Omega.{arith}
 use Rattle.word_reader.proofs.exact.Literals.{unseen-passes, short-passes, same-passes, differs-stops, no_bytes}
 use Rattle.word_reader.proofs.exact.read_times.Goals as goal
+use Rattle.word_reader.proofs.exact.read_times.Goals.{then-strict+then-count-gt0+then-count-text+in_default, then-strict+then-count-gt0+else-count-text, else-strict, else-strict-via-then-strict+else-count-gt0, else-strict-via-else-strict}
 
 pub compare-requires : goal.compare-requires
 compare-requires c = let s = c in
     let a = s.args in
     let end : a.cursor.at + a.count ≤ length a.text.now = omega (arith, c.if-count-text.true, s.requires) in
-    (ltb-true 0 a.count c.if-count-gt0.true, (omega (arith, length-replicate a.count a.byte), end))
+    record { held = c.if-count-gt0.true; ended = (omega (arith, length-replicate a.count a.byte), end) }
 
 pub returns-in-Differs : goal.returns-in-Differs
 returns-in-Differs c = let s = c in
@@ -24,10 +22,11 @@ returns-in-Differs c = let s = c in
     let start : at + a.count - length w ≡ at = omega (arith, long) in
     let seen = rw start at c.compare.ensures in
     c.differs.ensures
-    ∙ differs-stops w a.text.now at a.count long c.if1.true c.if-count-text.true (sym seen ∙ c.in-Differs.is)
+    ∙ differs-stops w a.text.now at a.count long c.if-strict.true c.if-count-text.true (sym seen ∙ c.in-Differs.is)
 
 pub returns : goal.returns
-returns c = let s = c in
+returns c =
+    let s = c in
     let a = s.args in
     let at = a.cursor.at in
     let text = a.text.now in
@@ -35,13 +34,11 @@ returns c = let s = c in
     let long = length-replicate a.count a.byte in
     let start : at + a.count - length w ≡ at = omega (arith, long) in
     c.pass.ensures
-    ∙ ⊎_elim
-    (λ t. same-passes w text at a.count long a.strict t.2.taken (sym (rw start at t.4.ensures) ∙ t.6.given.1))
-    (λ r. ⊎_elim
-    (λ t. short-passes w text at a.count long a.strict t.2.left)
-    (λ j. ⊎_elim
-    (λ t. no_bytes w text at a.count long a.strict (ltb-false 0 a.count t.1.left))
-    (λ e. unseen-passes w text at a.count long e.left)
-    j.came)
-    r)
-    c.if1.branch
+    ∙ elim c.if-strict.branch [
+      | then-strict+then-count-gt0+then-count-text+in_default t ↦ same-passes w text at a.count long a.strict t.if-count-text.true (sym (rw start at t.compare.ensures) ∙ t.in_default.is)
+      | then-strict+then-count-gt0+else-count-text t ↦ short-passes w text at a.count long a.strict t.if-count-text.false
+      | else-strict j ↦ elim j.else-strict.branch [
+        | else-strict-via-then-strict+else-count-gt0 t ↦ no_bytes w text at a.count long a.strict t.if-count-gt0.false
+        | else-strict-via-else-strict e ↦ unseen-passes w text at a.count long e.if-strict.false
+      ]
+    ]

@@ -1,5 +1,4 @@
 -- The numbers of the refusal fit.
-use borrow.Author.Rules.{rules}
 use native.Mathlib.Omega.{arith}
 use Rattle.meaning.specs.Answers.{details}
 use Rattle.word_reader.proofs.exact.refused_in.Goals as goal

@@ -1,5 +1,4 @@
 -- The three entries of the unit.
-use borrow.Author.Rules.{rules}
 use mathlib.Core.Path.{refl}
 use mir.Facts.{to_z_pos}
 use mir.Syntax.{w64}

@@ -1,5 +1,4 @@
 -- No byte, or the one that is there.
-use borrow.Author.Rules.{rules}
 use mathlib.Core.Path.{sym, ◌∙◌}
 use Rattle.word_reader.proofs.keeping.Passing.{none-behind, one-behind}
 use Rattle.word_reader.proofs.keeping.pass_behind.Goals as goal

@@ -1,5 +1,4 @@
 -- What is found is a name of the word's list, and a month carries its number.
-use borrow.Author.Rules.{rules}
 use mathlib.Core.Path.{refl, sym, ◌∙◌}
 use mir.Facts.{to_z_pos}
 use mir.Syntax.{w64}

@@ -1,5 +1,4 @@
 -- Without a book the names are the English ones.
-use borrow.Author.Rules.{rules}
 use mathlib.Core.Path.{sym, ◌∙◌}
 use native.Mathlib.Omega.{arith}
 use Rattle.names.proofs.rooms.Lent.{lent-english}

@@ -1,5 +1,4 @@
 -- Both are passed over.
-use borrow.Author.Rules.{rules}
 use mathlib.Core.Path.{sym}
 use borrow.Author.Tests.{leb-true}
 use Rattle.laws.proofs.Tests.{true-is-not-false}

@@ -1,5 +1,4 @@
 -- By whether it is one.
-use borrow.Author.Rules.{rules}
 use mathlib.Core.Path.{sym, ◌∙◌}
 use native.Mathlib.Omega.{arith}
 use Rattle.laws.proofs.Digits.{digit-bounds}

@@ -1,5 +1,4 @@
 -- The byte is there.
-use borrow.Author.Rules.{rules}
 use mathlib.Core.Path.{refl}
 use Rattle.word_reader.proofs.plain.Words.{hot-alone}
 use Rattle.word_reader.proofs.plain.hot_byte.Goals as goal

@@ -1,5 +1,4 @@
 -- One digit is there, or two, and the byte behind.
-use borrow.Author.Rules.{rules}
 use mathlib.Core.Path.{refl}
 use mir.Facts.{to_z_pos}
 use mir.Syntax.{w64}

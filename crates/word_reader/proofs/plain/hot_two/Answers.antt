@@ -1,5 +1,4 @@
 -- The digits are there, and the byte behind them.
-use borrow.Author.Rules.{rules}
 use mathlib.Core.Path.{refl}
 use mir.Facts.{to_z_pos}
 use mir.Syntax.{w64}

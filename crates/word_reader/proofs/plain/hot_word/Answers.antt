@@ -1,5 +1,4 @@
 -- By the code.
-use borrow.Author.Rules.{rules}
 use mathlib.Core.Path.{sym, ◌∙◌}
 use native.Mathlib.Omega.{arith}
 use Rattle.word_reader.proofs.plain.Words.{hot-lost}

@@ -1,5 +1,4 @@
 -- One after the other; the bytes between give nothing.
-use borrow.Author.Rules.{rules}
 use mathlib.Core.Path.{refl, ◌∙◌}
 use mir.Facts.{to_z_pos}
 use mir.Syntax.{w64}

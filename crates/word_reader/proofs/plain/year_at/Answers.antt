@@ -1,11 +1,13 @@
 -- The first two and the last two, and no digit behind them.
-use borrow.Author.Rules.{rules}
-use mathlib.Core.Logic.{⊎_elim}
-use mathlib.Core.Path.{refl, sym, ◌∙◌}
+use mathlib.Core.Bool.{false}
+use mathlib.Core.Path.{◌≡◌, refl, sym, ◌∙◌}
+use lib.ListN.{drop}
+use Rattle.meaning.specs.Bytes.{digit_at}
 use Prim.Native.Nat.{◌+◌}
 use native.Mathlib.Omega.{arith}
 use Rattle.word_reader.proofs.plain.Numbers.{free-there, free-end}
 use Rattle.word_reader.proofs.plain.year_at.Goals as goal
+use Rattle.word_reader.proofs.plain.year_at.Goals.{then-end-text+else-is_digit, else-end-text}
 
 pub two_at-century-requires : goal.two_at-century-requires
 two_at-century-requires c = omega (arith, c.requires)
@@ -38,5 +40,9 @@ pub returns : goal.returns
 returns c =
     let a = c.args in
     let text = a.text.now in
-    let free = ⊎_elim (λ t. free-there text (a.at + 4) t.0.taken (sym t.2.ensures ∙ t.3.left)) (λ e. free-end text (a.at + 4) e.left) c.if-end-text.branch in
+    let free : digit_at 0 (drop (a.at + 4) text) ≡ false =
+    elim c.if-end-text.branch [
+      | then-end-text+else-is_digit t ↦ free-there text (a.at + 4) t.if-end-text.true (sym t.is_digit.ensures ∙ t.if-is_digit.false)
+      | else-end-text e ↦ free-end text (a.at + 4) e.if-end-text.false
+    ] in
     λ h. (c.two_at-century.result, c.two_at-rest.result, c.two_at-century.ensures c.if-century-ge100.false, c.two_at-rest.ensures c.if-rest-ge100.false, refl, free)

@@ -20,7 +20,7 @@ keep-requires c =
     let s = c in
     let a = s.args in
     let gave = sym c.read_piece.ensures ∙ c.in-Got.is in
-    let inside = piece_inside a.choices (book_in a.book.now) a.current-year a.text.now a.at (piece_step a.tail.now a.piece) gave s.requires.1 in
+    let inside = piece_inside a.choices (book_in a.book.now) a.current_year a.text.now a.at (piece_step a.tail.now a.piece) gave s.requires.1 in
     (s.requires.0, omega (arith, s.requires), omega (arith, inside, s.requires))
 
 pub returns-in-Stopped : goal.returns-in-Stopped
@@ -32,7 +32,7 @@ returns-in-Nothing c =
     let a = s.args in
     let to = c.in-Got.next.at in
     let gave = rw c.in-Nothing.is at (sym c.read_piece.ensures ∙ c.in-Got.is) in
-    let moves = moves-part a.choices (book_in a.book.now) a.current-year a.text.now a.at (piece_step a.tail.now a.piece) s.requires.1 gave in
+    let moves = moves-part a.choices (book_in a.book.now) a.current_year a.text.now a.at (piece_step a.tail.now a.piece) s.requires.1 gave in
     record { beyond = refl; reads = λ h. (gave_one Nothing a.at to, moves, kept-nothing) }
 
 pub returns-in-Value : goal.returns-in-Value
@@ -43,6 +43,6 @@ returns-in-Value c =
     let z = c.in-Value.value in
     let to = c.in-Got.next.at in
     let gave = rw c.in-Value.is at (sym c.read_piece.ensures ∙ c.in-Got.is) in
-    let moves = moves-part a.choices (book_in a.book.now) a.current-year a.text.now a.at (piece_step a.tail.now a.piece) s.requires.1 gave in
+    let moves = moves-part a.choices (book_in a.book.now) a.current_year a.text.now a.at (piece_step a.tail.now a.piece) s.requires.1 gave in
     let kept = c.keep.ensures in
     record { beyond = kept.2; reads = λ h. (gave_one (Value u z) a.at to, rw kept.0 moves, rw (to_z-of_z w64 z (search rules)) at kept.1) }

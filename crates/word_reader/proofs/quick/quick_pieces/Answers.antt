@@ -1,22 +1,19 @@
-use borrow.Author.Rules.{rules}
-use mathlib.Core.List.{List, [], ◌++◌}
-use mathlib.Core.Path.{◌≡◌, refl, ◌∙◌}
-use Prim.Native.Nat.{◌+◌, ◌-◌, ◌≤◌, ◌<◌}
+use mathlib.Core.List.{[], ◌++◌}
+use mathlib.Core.Path.{refl, ◌∙◌}
+use Prim.Native.Nat.{◌<◌}
 use native.Mathlib.Omega.{arith}
-use lib.ListN.{length, take, drop}
+use lib.ListN.{length}
 use Rattle.meaning.specs.OpenedBooks.{book_in}
-use Rattle.meaning.specs.Whole.{Gave}
-use Rattle.words.specs.Pieces.{pieces_in, steps_in}
+use Rattle.words.specs.Pieces.{pieces_in}
 use Rattle.word_reader.proofs.keeping.Moving.{moves-none, moves-then, kept-none, kept_then}
 use Rattle.word_reader.proofs.quick.Pieces.{piece-more, pieces-all}
-use Rattle.word_reader.specs.Quick.{Moves, Kept}
 use Rattle.word_reader.proofs.quick.quick_pieces.Goals as goal
 
 pub loop-k-init : goal.loop-k-init
 loop-k-init c =
     let s = c in
     let a = s.args in
-    ([], moves-none a.choices (book_in a.book.now) a.current-year a.text.now a.at s.requires.1, kept-none, refl, refl, omega arith)
+    ([], moves-none a.choices (book_in a.book.now) a.current_year a.text.now a.at s.requires.1, kept-none, refl, refl, omega arith)
 
 pub piece_in-piece-requires : goal.piece_in-piece-requires
 piece_in-piece-requires c = omega (arith, c.loop-k-test.true, c.piece_count-count.ensures.0)
@@ -52,7 +49,7 @@ loop-k-preserved c =
     let q = c.quick_piece-moved.ensures in
     let one = q.reads c.if-moved-gt2048.false in (
       one.0 ++ L.invariant.0,
-      rw (piece-more a.tail.now a.w L.k more c.piece_in-piece.ensures) (moves-then a.choices (book_in a.book.now) a.current-year a.text.now L.invariant.1 one.1),
+      rw (piece-more a.tail.now a.w L.k more c.piece_in-piece.ensures) (moves-then a.choices (book_in a.book.now) a.current_year a.text.now L.invariant.1 one.1),
       kept_then L.invariant.2 one.2,
       q.beyond ∙ L.invariant.3,
       omega (arith, c.quick_piece-moved.auto.answer, L.invariant.4),

@@ -1,15 +1,11 @@
 -- The pieces so far are read and kept.
-use borrow.Author.Rules.{rules}
-use mathlib.Core.List.{List, [], ◌++◌}
-use mathlib.Core.Path.{◌≡◌, refl, ◌∙◌}
-use Prim.Native.Nat.{◌+◌, ◌-◌, ◌≤◌, ◌<◌}
-use native.Mathlib.Omega.{arith}
+use mathlib.Core.List.{List}
+use mathlib.Core.Path.{◌≡◌}
+use Prim.Native.Nat.{◌-◌, ◌≤◌}
 use lib.ListN.{length, take, drop}
 use Rattle.meaning.specs.OpenedBooks.{book_in}
 use Rattle.meaning.specs.Whole.{Gave}
-use Rattle.words.specs.Pieces.{pieces_in, steps_in}
-use Rattle.word_reader.proofs.keeping.Moving.{moves-none, moves-then, kept-none, kept_then}
-use Rattle.word_reader.proofs.quick.Pieces.{piece-more, pieces-all}
+use Rattle.words.specs.Pieces.{steps_in}
 use Rattle.word_reader.specs.Quick.{Moves, Kept}
 use Rattle.word_reader.proofs.quick.quick_pieces.Given as goal
 

@@ -1,5 +1,4 @@
 -- At once; or by its name, its rule or its pieces, the row being as it was.
-use borrow.Author.Rules.{rules}
 use mathlib.Core.Path.{sym, ◌∙◌}
 use Rattle.meaning.specs.OpenedBooks.{book_in}
 use Rattle.word_reader.proofs.quick.quick_word.Goals as goal
@@ -8,7 +7,7 @@ pub hot_word-moved-requires : goal.hot_word-moved-requires
 hot_word-moved-requires c = c.requires
 
 pub returns-then-moved-le2048 : goal.returns-then-moved-le2048
-returns-then-moved-le2048 c = let a = c.args in c.hot_word-moved.ensures.quick (book_in a.book.now) a.current-year a.tail.now
+returns-then-moved-le2048 c = let a = c.args in c.hot_word-moved.ensures.quick (book_in a.book.now) a.current_year a.tail.now
 
 pub hot_name-named-requires : goal.hot_name-named-requires
 hot_name-named-requires c = (sym c.code.ensures ∙ c.if-code-eq22.true, rw (c.hot_word-moved.ensures.lost c.if-moved-le2048.false) c.requires)
@@ -16,7 +15,7 @@ hot_name-named-requires c = (sym c.code.ensures ∙ c.if-code-eq22.true, rw (c.h
 pub returns-then-named-le2048 : goal.returns-then-named-le2048
 returns-then-named-le2048 c =
     let a = c.args in
-    rw (c.hot_word-moved.ensures.lost c.if-moved-le2048.false) at (c.hot_name-named.ensures.quick a.current-year a.tail.now)
+    rw (c.hot_word-moved.ensures.lost c.if-moved-le2048.false) at (c.hot_name-named.ensures.quick a.current_year a.tail.now)
 
 pub quick_rule-requires : goal.quick_rule-requires
 quick_rule-requires c =

@@ -1,20 +1,18 @@
-use borrow.Author.Rules.{rules}
-use borrow.Author.Tests.{ltb-false}
-use mathlib.Core.List.{List, [], ◌++◌}
-use mathlib.Core.Logic.{⊎_elim, inl, inr}
+use mathlib.Core.List.{[], ◌++◌}
+use mathlib.Core.Bool.{false}
+use mathlib.Core.Logic.{◌⊎◌, inl, inr}
 use mathlib.Core.Path.{◌≡◌, refl, sym, ◌∙◌}
-use Prim.Native.Nat.{ℕ, ◌+◌, ◌-◌, ◌≤◌}
+use Prim.Native.Nat.{◌+◌, ◌≤◌}
 use native.Mathlib.Omega.{arith}
-use lib.ListN.{length, get_or, take, drop}
+use lib.ListN.{length, get_or, drop}
 use Rattle.laws.proofs.Tests.{true-is-not-false}
 use Rattle.meaning.specs.OpenedBooks.{book_in}
-use Rattle.meaning.specs.Whole.{Gave, walk}
-use Rattle.words.specs.Pieces.{steps_in, steps_of}
+use Rattle.words.specs.Pieces.{steps_in}
 use Rattle.word_reader.proofs.exact.Pieces.{words-done}
 use Rattle.word_reader.proofs.keeping.Rows.{zero-places, no-mask, beyond-row, counted-row, beyond-counted}
 use Rattle.word_reader.proofs.quick.Pieces.{word_on}
-use Rattle.word_reader.specs.Quick.{row_of, mask_of}
 use Rattle.word_reader.proofs.quick.quick_words.Goals as goal
+use Rattle.word_reader.proofs.quick.quick_words.Goals.{else-choices-via-then-choices+else-at-text, else-choices-via-else-choices}
 
 pub lay_zeros-requires : goal.lay_zeros-requires
 lay_zeros-requires c = omega (arith, c.requires.1)
@@ -60,7 +58,7 @@ loop-i-preserved c =
     let q = c.quick_word-moved.ensures in
     let one = q.reads c.if-moved-gt2048.false in
     let kept = one.2.keeps L.invariant.0 _ L.invariant.3 L.invariant.4 in
-    let on = word_on a.choices (book_in a.book.now) a.current-year tail a.text.now a.used s.requires.0 L.invariant.0 L.invariant.1 L.i there one.1 in (
+    let on = word_on a.choices (book_in a.book.now) a.current_year tail a.text.now a.used s.requires.0 L.invariant.0 L.invariant.1 L.i there one.1 in (
       one.0 ++ L.invariant.0,
       L.invariant.1 + length (steps_in tail (get_or tail L.i 0)),
       sym on ∙ L.invariant.2,
@@ -93,13 +91,16 @@ pub returns : goal.returns
 returns c =
     let s = c in
     let a = s.args in
-    let m = c in
-    let L = m.loop-i in
+    let L = c.loop-i in
     let tail = a.tail.now in
     let text = a.text.now in
     let gave = L.invariant.0 in
-    let none_left = ⊎_elim (λ t. inr (ltb-false L.at (length text) t.1.left)) (λ e. inl e.left) c.if2.branch in
-    let ends = words-done a.choices (book_in a.book.now) a.current-year tail text a.used s.requires.0 gave L.invariant.1 L.at L.i 0 m.loop-i-test.false none_left in
+    let none_left : (a.choices.strict ≡ false) ⊎ (length text ≤ L.at) =
+    elim c.else-choices.branch [
+      | else-choices-via-then-choices+else-at-text t ↦ inr t.if-at-text.false
+      | else-choices-via-else-choices e ↦ inl e.if-choices.false
+    ] in
+    let ends = words-done a.choices (book_in a.book.now) a.current_year tail text a.used s.requires.0 gave L.invariant.1 L.at L.i 0 c.loop-i-test.false none_left in
     let zeros = beyond-row [] (zero-places s.args.answer.now s.requires.1 s.requires.3 c.lay_zeros.ensures) in
     let row = rw (L.invariant.3, L.invariant.4, counted-row L.at gave (drop 48 _), zeros) at c.finish.ensures in
     record { beyond = beyond-counted L.at gave row; reads = λ h. (L.at, gave, sym L.invariant.2 ∙ ends, row) }

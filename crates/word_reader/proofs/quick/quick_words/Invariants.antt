@@ -1,19 +1,11 @@
 -- What is read so far stands in the row, and the walk that is left.
-use borrow.Author.Rules.{rules}
-use borrow.Author.Tests.{ltb-false}
 use mathlib.Core.List.{List, [], ◌++◌}
-use mathlib.Core.Logic.{⊎_elim, inl, inr}
-use mathlib.Core.Path.{◌≡◌, refl, sym, ◌∙◌}
-use Prim.Native.Nat.{ℕ, ◌+◌, ◌-◌, ◌≤◌}
-use native.Mathlib.Omega.{arith}
-use lib.ListN.{length, get_or, take, drop}
-use Rattle.laws.proofs.Tests.{true-is-not-false}
+use mathlib.Core.Path.{◌≡◌}
+use Prim.Native.Nat.{ℕ, ◌-◌, ◌≤◌}
+use lib.ListN.{length, take, drop}
 use Rattle.meaning.specs.OpenedBooks.{book_in}
 use Rattle.meaning.specs.Whole.{Gave, walk}
-use Rattle.words.specs.Pieces.{steps_in, steps_of}
-use Rattle.word_reader.proofs.exact.Pieces.{words-done}
-use Rattle.word_reader.proofs.keeping.Rows.{zero-places, no-mask, beyond-row, counted-row, beyond-counted}
-use Rattle.word_reader.proofs.quick.Pieces.{word_on}
+use Rattle.words.specs.Pieces.{steps_of}
 use Rattle.word_reader.specs.Quick.{row_of, mask_of}
 use Rattle.word_reader.proofs.quick.quick_words.Given as goal
 

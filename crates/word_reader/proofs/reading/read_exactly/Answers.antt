@@ -14,7 +14,7 @@ read_pieces-requires c = let s = c in (s.requires.0, text-short _ (sym c.text_ch
 pub give_refusal-requires : goal.give_refusal-requires
 give_refusal-requires c =
     let s = c in
-    (omega arith, s.requires.1, rw (sym c.text_check.ensures ∙ c.in-Refused.is) at (text-fits s.args.text.now (omega (arith, s.well-formed.1.1.1.1.0.1))))
+    (omega arith, s.requires.1, rw (sym c.text_check.ensures ∙ c.in-Refused.is) at (text-fits s.args.text.now (omega arith)))
 
 pub returns-in-Fine : goal.returns-in-Fine
 returns-in-Fine c =

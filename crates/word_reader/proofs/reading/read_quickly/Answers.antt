@@ -14,7 +14,7 @@ quick_words-requires c =
     let s = c in
     let zeros = c.lay_zeros in (
       s.requires.0,
-      omega (arith, zeros.auto.1.0, s.requires.1),
+      omega (arith, zeros.auto.row, s.requires.1),
       text-short _ (sym c.text_check.ensures ∙ c.in-Fine.is),
       (cleared-row s.args.answer.now s.requires.1 zeros.ensures).0,
     )

@@ -1,5 +1,4 @@
 -- Quickly; or exactly, over what that left in the row.
-use borrow.Author.Rules.{rules}
 use lib.IntN.{nat_abs}
 use lib.ListN.{take}
 use mathlib.Core.List.{[]}
@@ -40,5 +39,5 @@ returns c =
     let text = a.text.now in
     let quick = c.read_quickly in
     rw (steps-read a.choices book ss text a.year s.requires.2)
-    (given-over (text_check text) (walk a.choices book (nat_abs a.year) 0 0 ss text []) s.requires.1 (omega (arith, quick.auto.1.1.1.1.1.1.0)) quick.ensures.0.beyond
+    (given-over (text_check text) (walk a.choices book (nat_abs a.year) 0 0 ss text []) s.requires.1 (omega (arith, quick.auto.answer)) quick.ensures.0.beyond
     (rw (to_z-of_z w32 a.year s.ranges.year) at c.read_exactly.ensures))
