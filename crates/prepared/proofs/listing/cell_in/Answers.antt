@@ -23,4 +23,4 @@ returns c =
     let s = c in
     let k = c.unit_number-k in
     let z = get_or s.args.answer.now (3 + k.result) (pos 0) in
-    rw (to_z-of_z w32 c.short_value.result (record { sfits = c.short_value.type-inv })) (rw (to_z-of_z w64 z (record { sfits = c.short-value-arg.given }), k.ensures) at c.short_value.ensures)
+    rw (to_z-of_z w32 c.short_value.result (record { sfits = c.short_value.type_inv })) (rw (to_z-of_z w64 z (search rules), k.ensures) at c.short_value.ensures)

@@ -32,7 +32,7 @@ give_count-requires c =
     c.rows_check-of_rows.ensures c.or_else.ensures in
     let fine = sym checked ∙ c.in-Fine.is in
     let room = (steps-room a.choices a.text.now a.year _ fine (book_in a.book.now)).days in
-    (search rules, omega (arith, c.count_lines-n.ensures, room, s.well-formed))
+    (search rules, omega (arith, c.count_lines-n.ensures, room))
 
 pub give_refusal-requires : goal.give_refusal-requires
 give_refusal-requires c =

@@ -1,20 +1,16 @@
-use mathlib.Core.Path.{◌≡◌, refl, sym, ◌∙◌}
+use mathlib.Core.Path.{refl, sym, ◌∙◌}
 use Prim.Native.Nat.{◌-◌}
 use native.Mathlib.Omega.{arith}
 use borrow.Author.Rules.{rules}
-use lib.ListN.{length, take}
+use lib.ListN.{take}
 use mir.Syntax.{w32}
 use mir.Val.{to_z, of_z}
 use mir.ValLaws.{to_z-of_z}
 use Rattle.laws.proofs.Lists.{end-inside}
-use Rattle.lists.proofs.cells.Stored.{Unfinished, nothing_read, cell-left, line-stored}
-use Rattle.meaning.specs.Lists.{rows_of}
+use Rattle.lists.proofs.cells.Stored.{nothing_read, cell-left, line-stored}
 use Rattle.meaning.specs.OpenedBooks.{book_in}
-use Rattle.meaning.specs.declared.Checked.TheVariants.{Fine}
-use Rattle.meaning.specs.declared.ParseUnit.{ParseUnit}
 use Rattle.meaning.specs.declared.ParseUnit.TheVariants.{Year, Month, DayOfMonth}
 use Rattle.words.specs.Pieces.{steps_of}
-use Rattle.meaning.specs.Prepared.{read_steps, narrowed}
 use Rattle.prepared.proofs.NarrowCells.{steps-cell, steps-code}
 use Rattle.prepared.proofs.listing.ListSteps.{steps-room, steps-year, all-steps}
 use Rattle.prepared.proofs.listing.read_lines.Goals as goal
@@ -49,7 +45,7 @@ read_words-requires c =
 pub offset_bounds-codes-i : goal.offset_bounds-codes-i
 offset_bounds-codes-i c =
     let left = cell-left _ _ _ _ _ _ c.loop-at.invariant.0 c.loop-at-test.true in
-    omega (arith, left.codes, c.loop-at.invariant.0.codes.long, c.well-formed)
+    omega (arith, left.codes, c.loop-at.invariant.0.codes.long)
 
 pub bounds-codes-i : goal.bounds-codes-i
 bounds-codes-i c = (cell-left _ _ _ _ _ _ c.loop-at.invariant.0 c.loop-at-test.true).codes
@@ -60,7 +56,7 @@ cell_in-requires c = c.read_words.auto.answer ∙ c.loop-at.invariant.1
 pub offset_bounds-days-i : goal.offset_bounds-days-i
 offset_bounds-days-i c =
     let left = cell-left _ _ _ _ _ _ c.loop-at.invariant.0 c.loop-at-test.true in
-    omega (arith, left.days, c.loop-at.invariant.0.days.long, c.well-formed)
+    omega (arith, left.days, c.loop-at.invariant.0.days.long)
 
 pub bounds-days-i : goal.bounds-days-i
 bounds-days-i c = (cell-left _ _ _ _ _ _ c.loop-at.invariant.0 c.loop-at-test.true).days
@@ -71,7 +67,7 @@ cell_in-requires-in-loop-at c = c.read_words.auto.answer ∙ c.loop-at.invariant
 pub offset_bounds-months-i : goal.offset_bounds-months-i
 offset_bounds-months-i c =
     let left = cell-left _ _ _ _ _ _ c.loop-at.invariant.0 c.loop-at-test.true in
-    omega (arith, left.months, c.loop-at.invariant.0.months.long, c.well-formed)
+    omega (arith, left.months, c.loop-at.invariant.0.months.long)
 
 pub bounds-months-i : goal.bounds-months-i
 bounds-months-i c = (cell-left _ _ _ _ _ _ c.loop-at.invariant.0 c.loop-at-test.true).months
@@ -82,7 +78,7 @@ cell_in-requires-in-loop-at-2 c = c.read_words.auto.answer ∙ c.loop-at.invaria
 pub offset_bounds-years-i : goal.offset_bounds-years-i
 offset_bounds-years-i c =
     let left = cell-left _ _ _ _ _ _ c.loop-at.invariant.0 c.loop-at-test.true in
-    omega (arith, left.years, c.loop-at.invariant.0.years.long, c.well-formed)
+    omega (arith, left.years, c.loop-at.invariant.0.years.long)
 
 pub bounds-years-i : goal.bounds-years-i
 bounds-years-i c = (cell-left _ _ _ _ _ _ c.loop-at.invariant.0 c.loop-at-test.true).years
@@ -90,7 +86,7 @@ bounds-years-i c = (cell-left _ _ _ _ _ _ c.loop-at.invariant.0 c.loop-at-test.t
 pub overflow_add-i : goal.overflow_add-i
 overflow_add-i c =
     let left = cell-left _ _ _ _ _ _ c.loop-at.invariant.0 c.loop-at-test.true in
-    omega (arith, left.codes, c.loop-at.invariant.0.codes.long, c.well-formed)
+    omega (arith, left.codes, c.loop-at.invariant.0.codes.long)
 
 pub next_line-at-requires : goal.next_line-at-requires
 next_line-at-requires c = omega (arith, c.line_end-end.ensures, end-inside c.args.text.now c.loop-at.at c.loop-at.invariant.0.inside)
@@ -120,7 +116,7 @@ loop-at-preserved c =
         c.next_line-at.ensures,
         end,
       ) stored,
-      row.auto.1.1.1.1.1.1.0 ∙ c.loop-at.invariant.1,
+      row.auto.answer ∙ c.loop-at.invariant.1,
     )
 
 pub shape_of-days : goal.shape_of-days
@@ -137,5 +133,4 @@ shape_of-codes c = c.loop-at.invariant.0.codes.long
 
 pub returns : goal.returns
 returns c =
-    let s = c in
-    rw (to_z-of_z w32 s.args.year s.ranges.year) at (all-steps _ _ _ _ _ _ _ _ _ c.loop-at.invariant.0 c.loop-at-test.false)
+    rw (to_z-of_z w32 c.args.year c.ranges.year) at (all-steps _ _ _ _ _ _ _ _ _ c.loop-at.invariant.0 c.loop-at-test.false)

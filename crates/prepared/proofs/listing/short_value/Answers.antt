@@ -3,7 +3,6 @@ use mathlib.Core.Path.{sym, ◌∙◌}
 use mir.Syntax.{w32, w64}
 use mir.ValLaws.{to_z-of_z}
 use Rattle.prepared.proofs.NarrowCells.{narrow-low, narrow_high, between-short, narrow-same}
-use borrow.Author.Rules.{rules}
 use Rattle.prepared.proofs.listing.short_value.Goals as goal
 
 pub returns-then-n-ltminus2147483648 : goal.returns-then-n-ltminus2147483648

@@ -1,7 +1,6 @@
 -- The two parts of the row that are handed on are those of the definition.
 use Prim.Native.Nat.{◌%◌, ◌≤◌}
 use native.Mathlib.Omega.{arith}
-use borrow.Author.Rules.{rules}
 use borrow.Author.Tests.{le-leb, lt-leb, eq-eqb, ne_eqb}
 use lib.ListN.{get_or}
 use Rattle.prepared.proofs.opening.Parts.{all_words}

@@ -1,7 +1,6 @@
 -- By the row's length and its mark.
 use mathlib.Core.Path.{◌∙◌, sym}
 use native.Mathlib.Omega.{arith}
-use borrow.Author.Rules.{rules}
 use Rattle.prepared.proofs.opening.Parts.{opened-short, opened-unmarked, opened-accepted, opened-refused}
 use Rattle.prepared.proofs.opening.open.Goals as goal
 

@@ -1,6 +1,5 @@
 -- Each test by itself, in their order.
 use borrow.Author.Tests.{eq-eqb, ne_eqb, le-leb, lt-leb, le-ltb, lt-ltb}
-use borrow.Author.Rules.{rules}
 use Rattle.prepared.proofs.opening.refused.Goals as goal
 
 pub returns-then-n-lt1025 : goal.returns-then-n-lt1025

@@ -15,7 +15,7 @@ use Rattle.rows.proofs.Fits.{pattern-fits}
 use Rattle.rows.specs.Rows.{in_row, Given}
 use Rattle.words.proofs.PackedRoom.{packed-short}
 use Rattle.words.specs.Packing.{packed}
-use Rattle.words.specs.Rows.{tag, mark}
+use Rattle.words.specs.Rows.{tag}
 use borrow.Author.Rules.{rules}
 use Rattle.prepared.proofs.prepares.prepare_row.Goals as goal
 
@@ -48,7 +48,7 @@ give_refusal-requires c =
     let s = c in
     let p = s.args.pattern.now in
     let refused = sym c.prepare.ensures.0 ∙ c.in-Refused.is in
-    (search rules, search rules, rw refused at (pattern-fits p (omega (arith, s.well-formed.1.0.1))))
+    (search rules, search rules, rw refused at (pattern-fits p (omega arith)))
 
 pub returns-in-Fine : goal.returns-in-Fine
 returns-in-Fine c =

@@ -1,6 +1,6 @@
 -- The words are laid by `pack`; the check word is that of what lies there.
 use mathlib.Core.List.{List, ◌++◌}
-use mathlib.Core.Path.{◌≡◌, ◌∙◌, ap, sym}
+use mathlib.Core.Path.{◌≡◌, ◌∙◌}
 use Prim.Native.Nat.{ℕ, ◌-◌, ◌≤◌}
 use native.Mathlib.Omega.{arith}
 use lib.ListN.{length, take, drop}
@@ -8,10 +8,9 @@ use lib.Seq.{sets}
 use Rattle.laws.proofs.Checks.{pattern-fine}
 use Rattle.meaning.specs.declared.Pair.{Pair}
 use Rattle.prepared.proofs.RowParts.{words-lie, held-lie, worded-length, part-worded}
-use Rattle.prepared.specs.PreparedRows.{found_of, worded, held_start}
+use Rattle.prepared.specs.PreparedRows.{found_of, worded}
 use Rattle.words.proofs.PackedRoom.{packed-short}
 use Rattle.words.specs.Packing.{packed, held_by}
-use borrow.Author.Rules.{rules}
 use Rattle.prepared.proofs.preparing.accept.Goals as goal
 
 -- the row behind the head is what `pack` has left

@@ -2,7 +2,6 @@
 use mathlib.Core.Path.{◌∙◌}
 use native.Mathlib.Omega.{arith}
 use Rattle.prepared.proofs.opening.Parts.{steps-there, held-there}
-use borrow.Author.Rules.{rules}
 use Rattle.prepared.proofs.preparing.check_of.Goals as goal
 
 pub returns : goal.returns

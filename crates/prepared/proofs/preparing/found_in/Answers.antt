@@ -12,7 +12,6 @@ use Rattle.prepared.specs.PreparedRows.{unmet_of}
 use Rattle.prepared.specs.Verdicts.{unmet_number}
 use Rattle.trust.specs.Check.{first_unmet}
 use Rattle.trust.specs.declared.Unmet.{Unmet}
-use borrow.Author.Rules.{rules}
 use Rattle.prepared.proofs.preparing.found_in.Goals as goal
 
 -- the first need of the whole pattern, by the code's bounds

@@ -2,7 +2,6 @@
 use mathlib.Core.Path.{◌∙◌, sym}
 use native.Mathlib.Omega.{arith}
 use Rattle.prepared.specs.PreparedRows.{prepared_row}
-use borrow.Author.Rules.{rules}
 use Rattle.prepared.proofs.preparing.prepare.Goals as goal
 
 pub accept-requires : goal.accept-requires

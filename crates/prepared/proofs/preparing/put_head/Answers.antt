@@ -1,7 +1,6 @@
 -- Three stores.
 use native.Mathlib.Omega.{arith}
 use lib.ListN.{length-set}
-use borrow.Author.Rules.{rules}
 use Rattle.prepared.proofs.preparing.put_head.Goals as goal
 
 pub bounds-row-1 : goal.bounds-row-1

@@ -1,6 +1,5 @@
 -- By what is told of the refusal.
 use mathlib.Core.Path.{◌∙◌}
-use borrow.Author.Rules.{rules}
 use Rattle.prepared.proofs.preparing.refuse.Goals as goal
 
 pub returns : goal.returns

@@ -1,5 +1,4 @@
 -- Each edition its own.
-use borrow.Author.Rules.{rules}
 use Rattle.prepared.proofs.verdicts.answer_number.Goals as goal
 
 pub returns-in-First : goal.returns-in-First

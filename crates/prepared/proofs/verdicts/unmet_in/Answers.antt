@@ -1,6 +1,5 @@
 -- Yes, or the part and its need.
 use borrow.Author.Tests.{eq-eqb, ne_eqb}
-use borrow.Author.Rules.{rules}
 use Rattle.prepared.proofs.verdicts.unmet_in.Goals as goal
 
 pub returns-then-n-eq0 : goal.returns-then-n-eq0

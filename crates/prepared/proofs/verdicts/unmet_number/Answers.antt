@@ -1,6 +1,5 @@
 -- The number is below 2,048, so that no sum wraps.
 use native.Mathlib.Omega.{arith}
-use borrow.Author.Rules.{rules}
 use Rattle.prepared.proofs.verdicts.unmet_number.Goals as goal
 
 pub overflow_mul-result : goal.overflow_mul-result

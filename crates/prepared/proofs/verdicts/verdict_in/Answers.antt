@@ -1,7 +1,6 @@
 -- The number that the row holds for the edition, and what it stands for.
 use mathlib.Core.Path.{◌∙◌, ap}
 use Rattle.prepared.specs.Verdicts.{unmet_held, unmet_in}
-use borrow.Author.Rules.{rules}
 use Rattle.prepared.proofs.verdicts.verdict_in.Goals as goal
 
 pub returns : goal.returns

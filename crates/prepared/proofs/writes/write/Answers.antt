@@ -22,7 +22,7 @@ pub write_words-requires : goal.write_words-requires
 write_words-requires c =
     let row = c.args.row.now in
     let o = opened-words row (sym c.in-Words.is ∙ c.«open».ensures) in
-    (omega (arith, o.few, tail-length row o.long), omega (arith, o.few))
+    record { used_in_bounds = omega (arith, o.few, tail-length row o.long); used_bound = omega (arith, o.few) }
 
 pub give_wrote-requires : goal.give_wrote-requires
 give_wrote-requires c =
@@ -31,7 +31,7 @@ give_wrote-requires c =
     let o = opened-words row (sym c.in-Words.is ∙ c.«open».ensures) in
     let ws = take c.in-Words.used (tail row) in
     let few : length ws ≤ 256 = omega (arith, o.few, length-take c.in-Words.used (tail row)) in
-    (search rules, rw c.write_words.ensures.0 (write-fits s.args.book.now (tail row) ws s.args.f s.args.out.now few (omega (arith, s.well-formed.1.1.1.0.1))))
+    (search rules, rw c.write_words.ensures.0 (write-fits s.args.book.now (tail row) ws s.args.f s.args.out.now few (omega arith)))
 
 pub returns-in-Nothing : goal.returns-in-Nothing
 returns-in-Nothing c =
