@@ -25,7 +25,7 @@ give_verdict-requires c =
     let s = c in
     let v = c.verdict_on in
     let says = rw (to_z-of_z w32 s.args.year s.ranges.year) at v.ensures in
-    (search rules, verdict-fits s.args.edition s.args.pattern.now s.args.year v.result (omega (arith, s.well-formed.1.0.1)) s.ranges.year says)
+    (search rules, verdict-fits s.args.edition s.args.pattern.now s.args.year v.result (omega arith) s.ranges.year says)
 
 pub returns : goal.returns
 returns c =

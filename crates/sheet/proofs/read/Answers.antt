@@ -26,7 +26,7 @@ pub give_refusal-requires : goal.give_refusal-requires
 give_refusal-requires c =
     let s = c in
     let told = rw (to_z-of_z w32 s.args.year s.ranges.year, c.in-Refused.is) at c.once_check.ensures in
-    (search rules, search rules, rw (sym told) at (trust-fits s.args.choices.edition s.args.pattern.now s.args.year (omega (arith, s.well-formed.1.1.0.1)) s.ranges.year))
+    (search rules, search rules, rw (sym told) at (trust-fits s.args.choices.edition s.args.pattern.now s.args.year (omega arith) s.ranges.year))
 
 pub returns-in-Fine : goal.returns-in-Fine
 returns-in-Fine c =

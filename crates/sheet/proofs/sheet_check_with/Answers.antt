@@ -24,11 +24,11 @@ returns-then-choices-gt7 c =
     let p = a.pattern.now in
     let row = a.answer.now in
     let none : of_check n ≡ false
-    = ⊎_elim (λ w. rw (lt-leb n 7 (omega arith)))
-    (λ w.
-    let odd : n % 2 ≡ 1 = omega (arith, eqb-true) in
+    = ⊎_elim (λ h. rw (lt-leb n 7 (omega (arith, h))))
+    (λ h.
+    let odd : n % 2 ≡ 1 = omega (arith, h) in
     rw odd (both-no (leb n 7)))
-    c.if1.branch in
+    c.then-choices-gt7.either in
     record {
       verdict = verdict_of (edition_of n) p a.year;
       says = verdict-says (edition_of n) p a.year;
@@ -41,8 +41,8 @@ returns c =
     let a = s.args in
     let n = a.choices in
     let row = a.answer.now in
-    let few = le-leb n 7 (omega (arith, c.if1.false)) in
-    let even = eq-eqb (n % 2) 0 (omega (arith, eqb-false, c.if-choices-eq1.false)) in
+    let few = le-leb n 7 (omega (arith, c.if-choices-gt7.false)) in
+    let even = eq-eqb (n % 2) 0 (omega (arith, c.if-choices-eq1.false)) in
     let some : of_check n ≡ true = rw (few, even) in
     let checked = rw (to_z-of_z w32 a.year s.ranges.year, c.edition_of.ensures) at c.check.ensures in
     record {

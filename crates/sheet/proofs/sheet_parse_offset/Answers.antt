@@ -15,7 +15,7 @@ returns-then-answer-lt2 c =
 pub give_offset-requires : goal.give_offset-requires
 give_offset-requires c =
     let s = c in
-    (search rules, rw c.parse_offset.ensures.whole (offset-fits s.args.text.now (omega (arith, s.well-formed.0.1))))
+    (search rules, rw c.parse_offset.ensures.whole (offset-fits s.args.text.now (omega arith)))
 
 pub returns : goal.returns
 returns c =

@@ -13,13 +13,13 @@ pub returns-then-answer-lt2 : goal.returns-then-answer-lt2
 returns-then-answer-lt2 c =
     let a = c.args in
     let p = a.pattern.now in
-    ⊎_elim (λ w. no-room-in-first 256 a.answer.now a.units.now (unit_entries p) (split_answer (split p)) (omega arith))
-    (λ w. no-room-in-second 256 a.answer.now a.units.now (unit_entries p) (split_answer (split p)) (omega arith) (omega (arith, ltb-true)))
-    c.if1.branch
+    ⊎_elim (λ h. no-room-in-first 256 a.answer.now a.units.now (unit_entries p) (split_answer (split p)) (omega (arith, h)))
+    (λ h. no-room-in-second 256 a.answer.now a.units.now (unit_entries p) (split_answer (split p)) (omega (arith, h)) (omega (arith, h)))
+    c.then-answer-lt2.either
 
 pub returns : goal.returns
 returns c =
     let a = c.args in
     let p = a.pattern.now in
-    rooms 256 a.answer.now a.units.now (unit_entries p) (split_answer (split p)) (omega (arith, c.if1.false))
-    (omega (arith, ltb-false, c.if-units-lt256.false)) c.give_units.ensures
+    rooms 256 a.answer.now a.units.now (unit_entries p) (split_answer (split p)) (omega (arith, c.if-answer-lt2.false))
+    (omega (arith, c.if-units-lt256.false)) c.give_units.ensures

@@ -17,7 +17,7 @@ give_wrote-requires c =
     let s = c in
     let a = s.args in
     let wrote = c.format_with.ensures in
-    (search rules, rw wrote.0.whole (write-fits a.pair a.book.now a.pattern.now a.f a.out.now (omega (arith, s.well-formed.1.1.0.1)) (omega (arith, s.well-formed.1.1.1.1.0.1))))
+    (search rules, rw wrote.0.whole (write-fits a.pair a.book.now a.pattern.now a.f a.out.now (omega arith) (omega arith)))
 
 pub returns : goal.returns
 returns c =

@@ -1,7 +1,7 @@
 -- The three places, and behind them the reading of the line between the first two.
-use mathlib.Core.List.{[], ◌∷◌}
+use mathlib.Core.List.{List, [], ◌∷◌}
 use mathlib.Core.Path.{◌≡◌, refl, ◌∙◌}
-use Prim.Native.Nat.{◌+◌, ◌-◌, ◌≤◌, ◌<◌}
+use Prim.Native.Nat.{ℕ, ◌+◌, ◌-◌, ◌≤◌, ◌<◌}
 use native.Mathlib.Omega.{arith}
 use borrow.Author.Rules.{rules}
 use borrow.Author.Tests.{le-leb}
@@ -19,23 +19,19 @@ use Rattle.sheet.proofs.listed.Behind.{part, part-behind}
 use Rattle.rows.specs.Rows.{in_row, laid}
 use Rattle.sheet.proofs.listed.give_line.Goals as goal
 
-module _ (c : goal.Start) where
-  inside : c.args.at < length c.args.text.now
-  inside = search rules
-
-  ends-inside : line_end c.args.text.now c.args.at ≤ length c.args.text.now
-  ends-inside = end-inside c.args.text.now c.args.at (omega (arith, inside))
+ends-inside : (text : List ℕ) (at : ℕ) → at < length text → line_end text at ≤ length text
+ends-inside text at h = end-inside text at (omega (arith, h))
 
 pub next_line-next-requires : goal.next_line-next-requires
-next_line-next-requires c = omega (arith, c.line_end-end.ensures, ends-inside c.before)
+next_line-next-requires c = omega (arith, c.line_end-end.ensures, ends-inside c.args.text.now c.args.at c.requires.0)
 
 pub entry-requires-2 : goal.entry-requires-2
 entry-requires-2 c =
     let s = c in
-    omega (arith, c.line_end-end.ensures, ends-inside s, s.well-formed.1.1.1.0.1)
+    omega (arith, c.line_end-end.ensures, ends-inside s.args.text.now s.args.at s.requires.0)
 
 pub slice_bounds-read-end : goal.slice_bounds-read-end
-slice_bounds-read-end c = omega (arith, c.line_end-end.ensures, ends-inside c.before)
+slice_bounds-read-end c = omega (arith, c.line_end-end.ensures, ends-inside c.args.text.now c.args.at c.requires.0)
 
 pub returns : goal.returns
 returns c =
@@ -53,15 +49,15 @@ returns c =
     let line = take (line_end text a.at - a.at) (drop a.at text) in
     let reading = read a.choices (book_in a.book.now) a.pattern.now line a.year in
     let long : a.at + length line ≡ line_end text a.at =
-    omega (arith, length-take (line_end text a.at - a.at) (drop a.at text), length-drop a.at text, ends-inside s, inside s) in
+    omega (arith, length-take (line_end text a.at - a.at) (drop a.at text), length-drop a.at text, ends-inside s.args.text.now s.args.at s.requires.0, s.requires.0) in
     let places = pos a.at ∷ pos (line_end text a.at) ∷ pos (next_line text (line_end text a.at)) ∷ [] in
     let laid-places : row ≡ laid places old =
     first.lay.ensures
-    ∙ rw (stored first_entry.result first_entry.type-inv, first_entry.ensures, stored second-entry.result second-entry.type-inv, second-entry.ensures, stored third-entry.result third-entry.type-inv, third-entry.ensures, next.ensures, end.ensures) in
+    ∙ rw (stored first_entry.result first_entry.type_inv, first_entry.ensures, stored second-entry.result second-entry.type_inv, second-entry.ensures, stored third-entry.result third-entry.type_inv, third-entry.ensures, next.ensures, end.ensures) in
     let room : 48 ≤ length (part 3 row) =
     omega (arith, length-take (length row - 3) (drop 3 row), length-drop 3 row, first.lay.auto.row, s.requires.1) in
     let given = rw (to_z-of_z w32 a.year s.ranges.year, end.ensures, le-leb 48 (length (part 3 row)) room) at c.read.ensures in
-    rw (line_read a.choices (book_in a.book.now) a.pattern.now text a.year a.at (inside s), long)
+    rw (line_read a.choices (book_in a.book.now) a.pattern.now text a.year a.at (s.requires.0), long)
     (record {
       number = given.number;
       row = part-behind old places (in_row 48 (read_answer reading)).values 3 (omega (arith, first.lay.auto.row, s.requires.1)) laid-places refl given.row;

@@ -36,7 +36,7 @@ give_listed-requires c =
     let a = s.args in
     let rows = rows_of a.days.now a.months.now a.years.now a.codes.now in
     let reads = rw (to_z-of_z w32 a.year s.ranges.year, l.choices_of-choices.ensures) at l.read_list.ensures.0.whole in
-    (search rules, rw reads (list-fits (choices_of a.choices) (book_in a.book.now) a.pattern.now a.text.now a.year (omega (arith, s.well-formed.1.1.0.1)) (omega (arith, s.well-formed.1.1.1.0.1)) s.ranges.year rows))
+    (search rules, rw reads (list-fits (choices_of a.choices) (book_in a.book.now) a.pattern.now a.text.now a.year (omega arith) (omega arith) s.ranges.year rows))
 
 pub returns : goal.returns
 returns c =

@@ -20,20 +20,20 @@ returns-then-choices-gt7 c =
     let a = c.args in
     let n = a.choices in
     let none : of_check n ≡ false
-    = ⊎_elim (λ w. rw (lt-leb n 7 (omega arith)))
-    (λ w.
-    let odd : n % 2 ≡ 1 = omega (arith, eqb-true) in
+    = ⊎_elim (λ h. rw (lt-leb n 7 (omega (arith, h))))
+    (λ h.
+    let odd : n % 2 ≡ 1 = omega (arith, h) in
     rw odd (both-no (leb n 7)))
-    c.if1.branch in
+    c.then-choices-gt7.either in
     no-choices n a.pattern.now a.year a.out.now a.changes.now a.answer.now none
 
 pub returns-then-changes-lt512 : goal.returns-then-changes-lt512
 returns-then-changes-lt512 c =
     let a = c.args in
-    let few = le-leb a.choices 7 (omega (arith, c.if1.false)) in
-    let even = eq-eqb (a.choices % 2) 0 (omega (arith, eqb-false, c.if-choices-eq1.false)) in
+    let few = le-leb a.choices 7 (omega (arith, c.if-choices-gt7.false)) in
+    let even = eq-eqb (a.choices % 2) 0 (omega (arith, c.if-choices-eq1.false)) in
     no_room a.choices a.pattern.now a.year a.out.now a.changes.now a.answer.now (rw (few, even))
-    (⊎_elim (λ w. inl (omega arith)) (λ w. inr (omega (arith, ltb-true))) c.if3.branch)
+    c.then-changes-lt512.either
 
 pub give_mended-requires : goal.give_mended-requires
 give_mended-requires c =
@@ -41,7 +41,7 @@ give_mended-requires c =
     let s = m in
     let a = s.args in
     let mended = rw (to_z-of_z w32 a.year s.ranges.year, m.edition_of.ensures) at m.mend.ensures in
-    (search rules, search rules, rw mended.0.whole (mend-fits (edition_of a.choices) a.pattern.now a.year a.out.now (omega (arith, s.well-formed.1.0.1)) s.ranges.year))
+    (search rules, search rules, rw mended.0.whole (mend-fits (edition_of a.choices) a.pattern.now a.year a.out.now (omega arith) s.ranges.year))
 
 pub returns : goal.returns
 returns c =
@@ -49,7 +49,7 @@ returns c =
     let e = m in
     let s = e in
     let a = s.args in
-    let few = le-leb a.choices 7 (omega (arith, e.if1.false)) in
-    let even = eq-eqb (a.choices % 2) 0 (omega (arith, eqb-false, e.if-choices-eq1.false)) in
+    let few = le-leb a.choices 7 (omega (arith, e.if-choices-gt7.false)) in
+    let even = eq-eqb (a.choices % 2) 0 (omega (arith, e.if-choices-eq1.false)) in
     let mended = rw (to_z-of_z w32 a.year s.ranges.year, m.edition_of.ensures) at m.mend.ensures in
-    given a.choices a.pattern.now a.year a.out.now a.changes.now a.answer.now (rw (few, even)) (omega (arith, e.if3.false)) (omega (arith, ltb-false, e.if-answer-lt2.false)) mended.0.whole mended.1 c.give_mended.ensures
+    given a.choices a.pattern.now a.year a.out.now a.changes.now a.answer.now (rw (few, even)) (omega (arith, e.if-changes-lt512.false)) (omega (arith, e.if-answer-lt2.false)) mended.0.whole mended.1 c.give_mended.ensures

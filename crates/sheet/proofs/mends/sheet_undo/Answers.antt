@@ -31,7 +31,7 @@ give_undone-requires c =
     let u = c in
     let s = u in
     let a = s.args in
-    (search rules, rw u.undo.ensures.0 (undo-fits a.pattern.now _ a.out.now (omega (arith, s.well-formed.0.1))))
+    (search rules, rw u.undo.ensures.0 (undo-fits a.pattern.now _ a.out.now (omega arith)))
 
 pub returns : goal.returns
 returns c =

@@ -17,7 +17,7 @@ give_wrote-requires c =
     let s = c in
     let a = s.args in
     let wrote = c.read_book.ensures in
-    (search rules, rw wrote.0.whole (open-fits a.bytes.now a.book.now (omega (arith, s.well-formed.1.0.1))))
+    (search rules, rw wrote.0.whole (open-fits a.bytes.now a.book.now (omega arith)))
 
 pub returns : goal.returns
 returns c =

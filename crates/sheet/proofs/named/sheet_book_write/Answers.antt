@@ -20,7 +20,7 @@ give_wrote-requires c =
     let s = c in
     let a = s.args in
     let wrote = c.write_book.ensures in
-    (search rules, rw wrote.0.whole (write-book-fits a.book.now a.out.now (omega (arith, s.well-formed.1.0.1))))
+    (search rules, rw wrote.0.whole (write-book-fits a.book.now a.out.now (omega arith)))
 
 pub returns : goal.returns
 returns c =

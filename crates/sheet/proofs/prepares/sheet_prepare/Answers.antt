@@ -20,14 +20,14 @@ returns-then-row-lt259 c =
     let row = a.row.now in
     let answer = a.answer.now in
     let none : both (leb 259 (length row)) (leb 2 (length answer)) ≡ false
-    = ⊎_elim (λ w. rw (lt-leb 259 (length row) (omega arith)))
-    (λ w. rw (lt-leb 2 (length answer) (omega (arith, ltb-true))) (both-no (leb 259 (length row)))) c.if2.branch in
+    = ⊎_elim (λ h. rw (lt-leb 259 (length row) (omega (arith, h))))
+    (λ h. rw (lt-leb 2 (length answer) (omega (arith, h))) (both-no (leb 259 (length row)))) c.then-row-lt259.either in
     rw (le-leb a.choices 7 (omega (arith, c.if-choices-gt7.false)), none) (record { number = refl; row = refl }, refl)
 
 pub returns : goal.returns
 returns c =
     let a = c.args in
     let few = le-leb a.choices 7 (omega (arith, c.if-choices-gt7.false)) in
-    let long = le-leb 259 (length a.row.now) (omega (arith, c.if2.false)) in
-    let room = le-leb 2 (length a.answer.now) (omega (arith, ltb-false, c.if-answer-lt2.false)) in
+    let long = le-leb 259 (length a.row.now) (omega (arith, c.if-row-lt259.false)) in
+    let room = le-leb 2 (length a.answer.now) (omega (arith, c.if-answer-lt2.false)) in
     rw (few, long, room) (rw c.pair_of.ensures at c.prepare_row.ensures)

@@ -18,25 +18,25 @@ pub returns-then-choices-gt7 : goal.returns-then-choices-gt7
 returns-then-choices-gt7 c =
     let n = c.args.choices in
     let none : of_check n ≡ false
-    = ⊎_elim (λ w. rw (lt-leb n 7 (omega arith)))
-    (λ w.
-    let odd : n % 2 ≡ 1 = omega (arith, eqb-true) in
+    = ⊎_elim (λ h. rw (lt-leb n 7 (omega (arith, h))))
+    (λ h.
+    let odd : n % 2 ≡ 1 = omega (arith, h) in
     rw odd (both-no (leb n 7)))
-    c.if1.branch in
+    c.then-choices-gt7.either in
     rw none (record { number = refl; row = refl })
 
 pub returns-then-answer-lt10 : goal.returns-then-answer-lt10
 returns-then-answer-lt10 c =
     let a = c.args in
-    let few = le-leb a.choices 7 (omega (arith, c.if1.false)) in
-    let even = eq-eqb (a.choices % 2) 0 (omega (arith, eqb-false, c.if-choices-eq1.false)) in
+    let few = le-leb a.choices 7 (omega (arith, c.if-choices-gt7.false)) in
+    let even = eq-eqb (a.choices % 2) 0 (omega (arith, c.if-choices-eq1.false)) in
     rw (few, even, lt-leb 10 (length a.answer.now) (omega (arith, c.if-answer-lt10.true))) (record { number = refl; row = refl })
 
 pub returns : goal.returns
 returns c =
     let s = c in
     let a = s.args in
-    let few = le-leb a.choices 7 (omega (arith, c.if1.false)) in
-    let even = eq-eqb (a.choices % 2) 0 (omega (arith, eqb-false, c.if-choices-eq1.false)) in
+    let few = le-leb a.choices 7 (omega (arith, c.if-choices-gt7.false)) in
+    let even = eq-eqb (a.choices % 2) 0 (omega (arith, c.if-choices-eq1.false)) in
     let checks = rw (to_z-of_z w32 a.year s.ranges.year, c.edition_of.ensures) at c.check.ensures in
     rw (few, even, le-leb 10 (length a.answer.now) (omega (arith, c.if-answer-lt10.false))) checks

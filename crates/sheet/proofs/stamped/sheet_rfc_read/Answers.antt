@@ -16,7 +16,7 @@ pub give_stamped-requires : goal.give_stamped-requires
 give_stamped-requires c =
     let s = c in
     let read = c.read_stamp.ensures in
-    (search rules, rw read.whole (read-stamp-fits s.args.text.now (omega (arith, s.well-formed.0.1))))
+    (search rules, rw read.whole (read-stamp-fits s.args.text.now (omega arith)))
 
 pub returns : goal.returns
 returns c =
