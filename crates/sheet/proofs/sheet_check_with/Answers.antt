@@ -15,6 +15,7 @@ use Rattle.trust.specs.Check.{verdict_of}
 use Rattle.sheet.proofs.Rooms.{chosen, no-choices}
 use Rattle.sheet.specs.Numbers.{edition_of, of_check}
 use Rattle.sheet.specs.Sheet.{verdict_in}
+use Rattle.sheet.proofs.sheet_check_with.Goals.{then-choices-gt7-via-then-choices-gt7, then-choices-gt7-via-else-choices-gt7+then-choices-eq1}
 use Rattle.sheet.proofs.sheet_check_with.Goals as goal
 
 pub returns-then-choices-gt7 : goal.returns-then-choices-gt7
@@ -24,11 +25,12 @@ returns-then-choices-gt7 c =
     let p = a.pattern.now in
     let row = a.answer.now in
     let none : of_check n ≡ false
-    = ⊎_elim (λ h. rw (lt-leb n 7 (omega (arith, h))))
-    (λ h.
-    let odd : n % 2 ≡ 1 = omega (arith, h) in
-    rw odd (both-no (leb n 7)))
-    c.then-choices-gt7.either in
+    = elim c.then-choices-gt7.branch [
+      | then-choices-gt7-via-then-choices-gt7 w ↦ rw (lt-leb n 7 (omega (arith, w.if-choices-gt7.true)))
+      | then-choices-gt7-via-else-choices-gt7+then-choices-eq1 w ↦
+          let odd : n % 2 ≡ 1 = omega (arith, w.if-choices-eq1.true) in
+          rw odd (both-no (leb n 7))
+    ] in
     record {
       verdict = verdict_of (edition_of n) p a.year;
       says = verdict-says (edition_of n) p a.year;

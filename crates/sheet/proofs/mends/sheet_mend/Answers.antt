@@ -13,6 +13,7 @@ use Rattle.sheet.proofs.MendFits.{mend-fits}
 use Rattle.sheet.proofs.mends.Answers.{no-choices, no_room, given}
 use Rattle.sheet.specs.Numbers.{edition_of, of_check}
 use borrow.Author.Rules.{rules}
+use Rattle.sheet.proofs.mends.sheet_mend.Goals.{then-choices-gt7-via-then-choices-gt7, then-choices-gt7-via-else-choices-gt7+then-choices-eq1}
 use Rattle.sheet.proofs.mends.sheet_mend.Goals as goal
 
 pub returns-then-choices-gt7 : goal.returns-then-choices-gt7
@@ -20,11 +21,12 @@ returns-then-choices-gt7 c =
     let a = c.args in
     let n = a.choices in
     let none : of_check n ≡ false
-    = ⊎_elim (λ h. rw (lt-leb n 7 (omega (arith, h))))
-    (λ h.
-    let odd : n % 2 ≡ 1 = omega (arith, h) in
-    rw odd (both-no (leb n 7)))
-    c.then-choices-gt7.either in
+    = elim c.then-choices-gt7.branch [
+      | then-choices-gt7-via-then-choices-gt7 w ↦ rw (lt-leb n 7 (omega (arith, w.if-choices-gt7.true)))
+      | then-choices-gt7-via-else-choices-gt7+then-choices-eq1 w ↦
+          let odd : n % 2 ≡ 1 = omega (arith, w.if-choices-eq1.true) in
+          rw odd (both-no (leb n 7))
+    ] in
     no-choices n a.pattern.now a.year a.out.now a.changes.now a.answer.now none
 
 pub returns-then-changes-lt512 : goal.returns-then-changes-lt512
@@ -33,7 +35,7 @@ returns-then-changes-lt512 c =
     let few = le-leb a.choices 7 (omega (arith, c.if-choices-gt7.false)) in
     let even = eq-eqb (a.choices % 2) 0 (omega (arith, c.if-choices-eq1.false)) in
     no_room a.choices a.pattern.now a.year a.out.now a.changes.now a.answer.now (rw (few, even))
-    c.then-changes-lt512.either
+    (⊎_elim (λ h. inl h) (λ h. inr h.1) c.then-changes-lt512.either)
 
 pub give_mended-requires : goal.give_mended-requires
 give_mended-requires c =

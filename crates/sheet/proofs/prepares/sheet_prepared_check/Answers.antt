@@ -12,17 +12,19 @@ use mir.Syntax.{w32}
 use mir.ValLaws.{to_z-of_z}
 use Rattle.laws.proofs.Tests.{both-no}
 use Rattle.sheet.specs.Numbers.{of_check}
+use Rattle.sheet.proofs.prepares.sheet_prepared_check.Goals.{then-choices-gt7-via-then-choices-gt7, then-choices-gt7-via-else-choices-gt7+then-choices-eq1}
 use Rattle.sheet.proofs.prepares.sheet_prepared_check.Goals as goal
 
 pub returns-then-choices-gt7 : goal.returns-then-choices-gt7
 returns-then-choices-gt7 c =
     let n = c.args.choices in
     let none : of_check n ≡ false
-    = ⊎_elim (λ h. rw (lt-leb n 7 (omega (arith, h))))
-    (λ h.
-    let odd : n % 2 ≡ 1 = omega (arith, h) in
-    rw odd (both-no (leb n 7)))
-    c.then-choices-gt7.either in
+    = elim c.then-choices-gt7.branch [
+      | then-choices-gt7-via-then-choices-gt7 w ↦ rw (lt-leb n 7 (omega (arith, w.if-choices-gt7.true)))
+      | then-choices-gt7-via-else-choices-gt7+then-choices-eq1 w ↦
+          let odd : n % 2 ≡ 1 = omega (arith, w.if-choices-eq1.true) in
+          rw odd (both-no (leb n 7))
+    ] in
     rw none (record { number = refl; row = refl })
 
 pub returns-then-answer-lt10 : goal.returns-then-answer-lt10
