@@ -50,12 +50,11 @@ extern "C" {
 /* A writer needs no more than so many bytes of output for each byte of the pattern, so SHEET_LONGEST_TEXT are always enough. */
 #define SHEET_BYTES_A_PATTERN_BYTE 8
 
-/* No call takes more bytes of the stack. As measured on x86-64, a write takes 1,272 at most, with names, a read 1,560,
- * a list 1,912, by a prepared pattern 1,128, 1,048 and 1,496, sheet_day 1,632, which lays a table, opening or writing a book 928, and
- * the other functions 352 at most. */
-#define SHEET_MOST_STACK 2048
+/* No call takes more bytes of the stack. As measured on x86-64, a write takes 1,320 at most, a read 2,265, a list 2,649, preparing a pattern
+ * and writing and reading by it 1,993, opening or writing a book 824, and the other functions 656 at most. */
+#define SHEET_MOST_STACK 2688
 
-/* But for sheet_mend and sheet_undo, which hold a list of changes, and take 8,576 and 8,328 as measured. */
+/* But for sheet_mend and sheet_undo, which hold a list of changes, and take 8,944 as measured. */
 #define SHEET_MEND_STACK 8960
 
 /* An opened book: 64 rooms of 21 bytes, one for each name in book order. In a room stand a byte that is the length of the name,
