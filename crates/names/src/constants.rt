@@ -1,6 +1,6 @@
 // The English names of the specification as constant rows. Their tables have numbers, so that matcher and writer find the rows of
 // a list by one function for each size: first the tables of two names, then those of four and six, which are the same in every
-// book, then the weekdays and the months.
+// book, then the weekdays and the months. Rows are lent and not given, so that no call lays a table on its stack.
 ghost use Rattle.std.specs.Prelude.{◌≤◌, ◌<◌};
 ghost use Rattle.meaning.specs.Names.{names, english};
 ghost use Rattle.names.specs.Lists.{list_at};
@@ -51,49 +51,49 @@ pub fn most_of(table: usize) -> usize
 }
 
 #[tactic(auto, unfolding(meaning::specs::Names::names, meaning::specs::Names::english, meaning::specs::Bytes::bytes, meaning::specs::OpenedBooks::names_at))]
-pub fn two(n: usize) -> [u8; 42]
+pub fn two(n: usize) -> &'static [u8; 42]
     requires { n < 5 }
-    ensures { IsTable 20 2 result (names english (list_at n)) }
+    ensures { IsTable 20 2 result.now (names english (list_at n)) }
 {
     match n {
-        0 => crate::rows::ERA_ABBREVIATED,
-        1 => crate::rows::ERA_NARROW,
-        2 => crate::rows::ERA_WIDE,
-        3 => crate::rows::PERIOD_DOTTED,
-        _ => crate::rows::PERIOD_LETTER,
+        0 => &crate::rows::ERA_ABBREVIATED,
+        1 => &crate::rows::ERA_NARROW,
+        2 => &crate::rows::ERA_WIDE,
+        3 => &crate::rows::PERIOD_DOTTED,
+        _ => &crate::rows::PERIOD_LETTER,
     }
 }
 
 #[tactic(auto, unfolding(meaning::specs::Names::names, meaning::specs::Names::english, meaning::specs::Bytes::bytes, meaning::specs::OpenedBooks::names_at))]
-pub fn four(n: usize) -> [u8; 84]
+pub fn four(n: usize) -> &'static [u8; 84]
     requires { (5 ≤ n) × (n < 9) }
-    ensures { IsTable 20 4 result (names english (list_at n)) }
+    ensures { IsTable 20 4 result.now (names english (list_at n)) }
 {
     match n {
-        5 => crate::rows::QUARTER_WIDE,
-        6 => crate::rows::PERIOD_LETTERS,
-        7 => crate::rows::NOON_DOTTED,
-        _ => crate::rows::NOON_LETTER,
+        5 => &crate::rows::QUARTER_WIDE,
+        6 => &crate::rows::PERIOD_LETTERS,
+        7 => &crate::rows::NOON_DOTTED,
+        _ => &crate::rows::NOON_LETTER,
     }
 }
 
 #[tactic(auto, unfolding(meaning::specs::Names::names, meaning::specs::Names::english, meaning::specs::Bytes::bytes, meaning::specs::OpenedBooks::names_at))]
-pub fn six() -> [u8; 126]
-    ensures { IsTable 20 6 result (names english (list_at 9)) }
+pub fn six() -> &'static [u8; 126]
+    ensures { IsTable 20 6 result.now (names english (list_at 9)) }
 {
-    crate::rows::NOON_WORDS
+    &crate::rows::NOON_WORDS
 }
 
 #[tactic(auto, unfolding(meaning::specs::Names::names, meaning::specs::Names::english, meaning::specs::Bytes::bytes, meaning::specs::OpenedBooks::names_at))]
-pub fn seven() -> [u8; 147]
-    ensures { Weekdays result }
+pub fn seven() -> &'static [u8; 147]
+    ensures { Weekdays result.now }
 {
-    crate::rows::WDAYS
+    &crate::rows::WDAYS
 }
 
 #[tactic(auto, unfolding(meaning::specs::Names::names, meaning::specs::Names::english, meaning::specs::Bytes::bytes, meaning::specs::OpenedBooks::names_at))]
-pub fn twelve() -> [u8; 252]
-    ensures { Months result }
+pub fn twelve() -> &'static [u8; 252]
+    ensures { Months result.now }
 {
-    crate::rows::MONTHS
+    &crate::rows::MONTHS
 }

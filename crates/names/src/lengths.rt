@@ -17,14 +17,14 @@ fn fixed_length(table: usize, index: usize) -> usize
 {
     if table < 5 {
         let rows = crate::constants::two(table);
-        return length_at(&rows, index, 20);
+        return length_at(rows, index, 20);
     }
     if table < 9 {
         let rows = crate::constants::four(table);
-        return length_at(&rows, index, 20);
+        return length_at(rows, index, 20);
     }
     let rows = crate::constants::six();
-    length_at(&rows, index, 20)
+    length_at(rows, index, 20)
 }
 
 // Of the English weekdays and months, with the most letters of their table.
@@ -34,10 +34,10 @@ fn english_length(table: usize, most: usize, index: usize) -> usize
 {
     if table < 14 {
         let rows = crate::constants::seven();
-        return length_at(&rows, index, most);
+        return length_at(rows, index, most);
     }
     let rows = crate::constants::twelve();
-    length_at(&rows, index, most)
+    length_at(rows, index, most)
 }
 
 // Of those of an opened book.

@@ -18,14 +18,14 @@ fn match_fixed(table: usize, text: &[u8]) -> Found
 {
     if table < 5 {
         let rows = crate::constants::two(table);
-        return first_name(&rows, 2, 20, false, text);
+        return first_name(rows, 2, 20, false, text);
     }
     if table < 9 {
         let rows = crate::constants::four(table);
-        return first_name(&rows, 4, 20, false, text);
+        return first_name(rows, 4, 20, false, text);
     }
     let rows = crate::constants::six();
-    first_name(&rows, 6, 20, false, text)
+    first_name(rows, 6, 20, false, text)
 }
 
 // In an English list. The wide weekdays and months, which texts have most, are each one table that is known here. Called at two
@@ -39,19 +39,19 @@ fn match_english(list: NameList, text: &[u8]) -> Found
     }
     if table == 10 {
         let rows = crate::constants::seven();
-        return first_name(&rows, 7, 20, false, text);
+        return first_name(rows, 7, 20, false, text);
     }
     if table == 14 {
         let rows = crate::constants::twelve();
-        return first_name(&rows, 12, 20, false, text);
+        return first_name(rows, 12, 20, false, text);
     }
     let most = most_of(table);
     if table < 14 {
         let rows = crate::constants::seven();
-        return first_name(&rows, 7, most, false, text);
+        return first_name(rows, 7, most, false, text);
     }
     let rows = crate::constants::twelve();
-    first_name(&rows, 12, most, false, text)
+    first_name(rows, 12, most, false, text)
 }
 
 // In a list of an opened book, or an English one that is no weekday and no month.

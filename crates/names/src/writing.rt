@@ -19,14 +19,14 @@ fn put_fixed(table: usize, index: usize, out: &mut [u8], at: usize) -> usize
 {
     if table < 5 {
         let rows = crate::constants::two(table);
-        return put_name(&rows, index, 20, out, at);
+        return put_name(rows, index, 20, out, at);
     }
     if table < 9 {
         let rows = crate::constants::four(table);
-        return put_name(&rows, index, 20, out, at);
+        return put_name(rows, index, 20, out, at);
     }
     let rows = crate::constants::six();
-    put_name(&rows, index, 20, out, at)
+    put_name(rows, index, 20, out, at)
 }
 
 // Of the English weekdays and months, with the most letters of their table.
@@ -37,10 +37,10 @@ fn put_english(table: usize, most: usize, index: usize, out: &mut [u8], at: usiz
 {
     if table < 14 {
         let rows = crate::constants::seven();
-        return put_name(&rows, index, most, out, at);
+        return put_name(rows, index, most, out, at);
     }
     let rows = crate::constants::twelve();
-    put_name(&rows, index, most, out, at)
+    put_name(rows, index, most, out, at)
 }
 
 // Of those of an opened book.

@@ -9,8 +9,10 @@ ghost use Rattle.rows.specs.Rows.{in_row, Given};
 
 use crate::answers::give_refusal;
 use crate::entries::{entry, lay, lay_places};
+use fields::signed::size;
 use meaning::{Checked, Choices, Reading};
-use reader::parse_checked;
+use reader::checks::text_check;
+use reader::walk::parse_parts;
 
 fn give_values(reading: Reading, row: &mut [i64]) -> u32
     requires { (48 ≤ length row.old) × NumberFits reading.taken }
@@ -41,7 +43,8 @@ fn give_reading(reading: Reading, row: &mut [i64]) -> u32
 }
 
 // A text read into a row by a pattern and in a year that have passed 1, 2, 3 and 14. What reads one text and what reads a list both call
-// this, so that the walk stands here alone and no record is handed on.
+// this, so that the walk stands here alone and no record is handed on. The text is checked here, since each function that a record passes
+// through keeps a copy of it on the stack.
 pub fn read_row(
     choices: Choices,
     book: &[u8],
@@ -53,5 +56,11 @@ pub fn read_row(
     requires { (48 ≤ length row.old) × (trust_check choices.edition pattern.now year ≡ Checked.Fine) }
     ensures { Given (in_row 48 (read_answer (whole.read choices (book_in book.now) pattern.now text.now year))) row.old row.new result }
 {
-    give_reading(parse_checked(choices, book, pattern, text, year), row)
+    let checked = text_check(text);
+    match checked {
+        Checked::Fine => {
+            give_reading(parse_parts(choices, book, pattern, text, size(year)), row)
+        }
+        Checked::Refused(why) => give_refusal(why, 48, row),
+    }
 }

@@ -3,17 +3,17 @@ use borrow.Author.Rules.{rules}
 use mathlib.Core.Path.{sym, ◌∙◌}
 use mir.Syntax.{w32}
 use mir.ValLaws.{to_z-of_z}
-use Rattle.laws.proofs.Checks.{text-short, read-checks}
-use Rattle.meaning.specs.Whole.{read}
+use Rattle.laws.proofs.Checks.{text-short}
+use Rattle.meaning.specs.OpenedBooks.{book_in}
+use Rattle.reader.proofs.Passed.{read-passed}
 use Rattle.reader.proofs.parse_checked.Goals as goal
 
 pub parse_by-requires : goal.parse_by-requires
 parse_by-requires c fine = text-short _ (sym c.text_check.ensures ∙ fine)
 
 pub returns : goal.returns
-unfolding read
 returns c =
     let start = c in
     let a = start.args in
     let reads = rw (to_z-of_z w32 a.year (search rules), c.text_check.ensures) at c.parse_by.ensures in
-    rw (read-checks a.choices.edition a.pattern.now a.text.now a.year, start.requires) reads
+    reads ∙ sym (read-passed a.choices (book_in a.book.now) a.pattern.now a.text.now a.year start.requires)
