@@ -50,9 +50,9 @@ extern "C" {
 /* A writer needs no more than so many bytes of output for each byte of the pattern, so SHEET_LONGEST_TEXT are always enough. */
 #define SHEET_BYTES_A_PATTERN_BYTE 8
 
-/* No call takes more bytes of the stack. As measured on x86-64, a write takes 1,320 at most, a read 2,265, a list 2,649, preparing a pattern
- * and writing and reading by it 1,993, opening or writing a book 824, and the other functions 656 at most. */
-#define SHEET_MOST_STACK 2688
+/* No call takes more bytes of the stack. As measured on x86-64, a write takes 1,168 at most, a read 1,464, a list 1,848, preparing a pattern
+ * and writing and reading by it 1,432, opening or writing a book 824, and the other functions 784 at most. */
+#define SHEET_MOST_STACK 2048
 
 /* But for sheet_mend and sheet_undo, which hold a list of changes, and take 8,944 as measured. */
 #define SHEET_MEND_STACK 8960

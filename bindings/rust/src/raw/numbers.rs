@@ -7,7 +7,7 @@ pub const LONGEST_TEXT: usize = 2048;
 /// The most bytes of output that a writer needs for each byte of the pattern.
 pub const BYTES_A_PATTERN_BYTE: usize = 8;
 /// The most bytes of the stack that a call takes.
-pub const MOST_STACK: usize = 2688;
+pub const MOST_STACK: usize = 2048;
 /// The most bytes of the stack that a call of [`sheet_mend`](super::sheet_mend) or [`sheet_undo`](super::sheet_undo) takes.
 pub const MEND_STACK: usize = 8960;
 
