@@ -29,7 +29,7 @@ pub struct YearDay {
     pub past: u32,
 }
 
-// The table is laid on the stack at each use, so it is asked only where a guess is at its year's end.
+// The table is asked only where a guess is at its year's end.
 fn year_by_table(day: u32, place: u32, leap: bool) -> YearDay
     requires { (day < 146097) × (place ≡ (4 * day + 3) / 1461) × (leap ≡ calendar.leap (suc place)) }
     ensures { InYear 400 day result.place result.past × (result.leap ≡ calendar.leap (suc result.place)) }

@@ -1,5 +1,5 @@
 // The English months and weekdays by their letters, the first eight as one number: so they are laid and compared at once. The arms of a
-// match are a table of constants, where a row of names would be laid on the stack at each use.
+// match are a table of constants.
 ghost use Rattle.std.specs.Prelude.{true, false, ◌≡◌, ◌+◌, ◌-◌, ◌*◌, ◌≤◌, ◌<◌, min, length, take, drop};
 ghost use Rattle.laws.specs.Laid.{Laid};
 ghost use Rattle.names.specs.Letters.{bytes_of, number_of, spelled_by, name_numbered, Begun};
