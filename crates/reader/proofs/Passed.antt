@@ -9,10 +9,12 @@ use Rattle.meaning.specs.Names.{Book}
 use Rattle.meaning.specs.Trust.{trust_check}
 use Rattle.meaning.specs.Whole.{walk, read_by, read}
 use Rattle.meaning.specs.Writing.{steps}
+use Rattle.meaning.specs.declared.Checked.{Checked}
 use Rattle.meaning.specs.declared.Checked.TheVariants.{Fine}
 use Rattle.meaning.specs.declared.Choices.{Choices}
 
-pub read-passed : (choices : Choices) (book : Book) (p s : List ℕ) (current : ℤ) → trust_check choices.edition p current ≡ Fine
-    → read choices book p s current ≡ read_by (text_check s) (walk choices book (nat_abs current) 0 0 (steps choices.pair p) s [])
+pub read-passed : (choices : Choices) (book : Book) (p s : List ℕ) (current : ℤ) {checked : Checked} → trust_check choices.edition p current ≡ Fine
+    → checked ≡ text_check s
+    → read choices book p s current ≡ read_by checked (walk choices book (nat_abs current) 0 0 (steps choices.pair p) s [])
 unfolding read
-read-passed choices book p s current passed = rw (read-checks choices.edition p s current, passed) refl
+read-passed choices book p s current passed same = rw (read-checks choices.edition p s current, passed, same) refl

@@ -13,7 +13,6 @@ parse_by-requires c fine = text-short _ (sym c.text_check.ensures ∙ fine)
 
 pub returns : goal.returns
 returns c =
-    let start = c in
-    let a = start.args in
-    let reads = rw (to_z-of_z w32 a.year (search rules), c.text_check.ensures) at c.parse_by.ensures in
-    reads ∙ sym (read-passed a.choices (book_in a.book.now) a.pattern.now a.text.now a.year start.requires)
+    let a = c.args in
+    let reads = rw (to_z-of_z w32 a.year (search rules)) at c.parse_by.ensures in
+    reads ∙ sym (read-passed a.choices (book_in a.book.now) a.pattern.now a.text.now a.year c.requires c.text_check.ensures)
