@@ -1,11 +1,10 @@
 -- What the check of a book's bytes promises: its answer, and the places of the names where it is fine.
-use Rattle.std.specs.Prelude.{List, ◌≡◌, ℕ, leb, length}
+use Rattle.std.specs.Prelude.{List, ◌≡◌, ℕ, leb, length, Ok}
 use Rattle.books.specs.Places.{names_by}
 use Rattle.meaning.specs.Answers.{◌else◌, refuse_unless}
 use Rattle.meaning.specs.Books.{is_mark, is_version, version_of, book_check}
 use Rattle.meaning.specs.OpenedBooks.{book_names}
-use Rattle.meaning.specs.declared.Checked.{Checked}
-use Rattle.meaning.specs.declared.Checked.TheVariants.{Fine}
+use Rattle.meaning.specs.Results.{Checked}
 use Rattle.meaning.specs.declared.Refusal.TheVariants.{BookMark, BookVersion, BookCut}
 
 -- what stands before the names
@@ -17,4 +16,4 @@ start_check s =
 
 pub record Checks (s places : List ℕ) (r : Checked) : Type 0 where
   pub checked : r ≡ book_check s
-  pub found : r ≡ Fine → names_by s places ≡ book_names s
+  pub found : r ≡ Ok tt → names_by s places ≡ book_names s

@@ -1,9 +1,7 @@
 -- Names where they stand: each by the place of its length in a list of bytes. So stand those of a book's bytes, and those of an opened book.
-use Rattle.std.specs.Prelude.{List, [], ◌∷◌, ℕ, zero, suc, ◌+◌, get_or, drop}
+use Rattle.std.specs.Prelude.{List, [], ◌∷◌, ℕ, zero, suc, ◌+◌, get_or, drop, Option, Some, None}
 use Rattle.meaning.specs.Books.{Shelved, cut, shelved}
 use Rattle.meaning.specs.OpenedBooks.{name_at}
-use Rattle.books.specs.declared.places.Found.{Found}
-use Rattle.books.specs.declared.places.Found.TheVariants.{Cut, Until}
 
 abbrev pub name_in : List ℕ → ℕ → List ℕ
 name_in s at = name_at 255 (drop at s)
@@ -18,6 +16,6 @@ earlier s places first zero = []
 earlier s places first (suc k) = name_in s (get_or places (first + k) 0) ∷ earlier s places first k
 
 -- what was found of a book's bytes: names at these places, and what is behind the last
-abbrev pub shelved_by : List ℕ → List ℕ → Found → Shelved
-shelved_by s places Cut = cut
-shelved_by s places (Until end) = shelved (names_by s places) (drop end s)
+abbrev pub shelved_by : List ℕ → List ℕ → Option ℕ → Shelved
+shelved_by s places None = cut
+shelved_by s places (Some end) = shelved (names_by s places) (drop end s)

@@ -3,7 +3,7 @@ use Rattle.std.specs.Prelude.{Bool, List, [], ℕ, suc, ◌+◌, get_or, drop}
 use Rattle.books.specs.Places.{name_in, names_by, earlier}
 use Rattle.books.specs.declared.shelves.Shelf.{Shelf}
 use Rattle.meaning.specs.Books as books
-use Rattle.meaning.specs.declared.Checked.{Checked}
+use Rattle.meaning.specs.Results.{Checked}
 
 abbrev pub meant : Shelf → books.Shelf
 meant s = books.shelf s.count s.least s.most s.apart

@@ -3,8 +3,7 @@ use Rattle.std.specs.Prelude.{List, ◌≡◌, ℕ, length}
 use Rattle.meaning.specs.Answers.{◌else◌, room_check}
 use Rattle.meaning.specs.Books.{shelves, names_check, book_bytes}
 use Rattle.meaning.specs.Whole.{wrote_by, output_by}
-use Rattle.meaning.specs.declared.Checked.{Checked}
-use Rattle.meaning.specs.declared.Wrote.{Wrote}
+use Rattle.meaning.specs.Results.{Checked, Wrote}
 
 abbrev pub names_write_check : List (List ℕ) → ℕ → Checked
 names_write_check ns room = names_check shelves 1 ns else room_check room (length (book_bytes ns))

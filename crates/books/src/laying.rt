@@ -32,39 +32,36 @@ fn put_room(name: &[u8], out: &mut [u8], at: usize) -> usize
     put_times(0, 20 - name.len(), out, end)
 }
 
-pub fn put_rooms(s: &[u8], places: &[usize], out: &mut [u8]) -> usize
-    requires places_len { length places.now ≡ 64 }
-    requires in_bounds { 1344 ≤ length out.old }
-    ensures { Laid out.old out.new 0 result (opened_names (names_by s.now places.now)) }
+pub fn put_rooms(bytes: &[u8], places: &[usize; 64], out: &mut [u8]) -> usize
+    requires { 1344 ≤ length out.old }
+    ensures { Laid out.old out.new 0 result (opened_names (names_by bytes.now places.now)) }
 {
     let mut at = 0;
-    for i in 0..64 {
-        at = put_room(name_at(s, places[i]), out, at);
+    for &place in places {
+        at = put_room(name_at(bytes, place), out, at);
     }
     at
 }
 
 // How many bytes the book of these names has.
-pub fn book_length(s: &[u8], places: &[usize]) -> usize
-    requires { length places.now ≡ 64 }
-    ensures { result ≡ length (book_bytes (names_by s.now places.now)) }
+pub fn book_length(bytes: &[u8], places: &[usize; 64]) -> usize
+    ensures { result ≡ length (book_bytes (names_by bytes.now places.now)) }
 {
     let mut n = 5;
-    for i in 0..64 {
-        n += 1 + name_at(s, places[i]).len();
+    for &place in places {
+        n += 1 + name_at(bytes, place).len();
     }
     n
 }
 
 // The mark, version 1, and the names.
-pub fn put_book(s: &[u8], places: &[usize], out: &mut [u8]) -> usize
-    requires places_len { length places.now ≡ 64 }
-    requires places_in_bounds { length (book_bytes (names_by s.now places.now)) ≤ length out.old }
-    ensures { Laid out.old out.new 0 result (book_bytes (names_by s.now places.now)) }
+pub fn put_book(bytes: &[u8], places: &[usize; 64], out: &mut [u8]) -> usize
+    requires { length (book_bytes (names_by bytes.now places.now)) ≤ length out.old }
+    ensures { Laid out.old out.new 0 result (book_bytes (names_by bytes.now places.now)) }
 {
     let mut at = put_bytes(b"LNB\x00\x01", out, 0);
-    for i in 0..64 {
-        at = put_name(name_at(s, places[i]), out, at);
+    for &place in places {
+        at = put_name(name_at(bytes, place), out, at);
     }
     at
 }

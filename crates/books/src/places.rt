@@ -1,41 +1,27 @@
 // The places of a book's names: in its bytes, where each says how far it is to the next, and in an opened book.
-ghost use Rattle.std.specs.Prelude.{List, ◌≡◌, ℕ, length, drop};
+ghost use Rattle.std.specs.Prelude.{List, ◌≡◌, ℕ, drop};
 ghost use Rattle.books.specs.Places.{names_by, shelved_by};
 ghost use Rattle.meaning.specs.Books.{names_in};
 ghost use Rattle.meaning.specs.OpenedBooks.{names_at};
 
-#[derive(Clone, Copy)]
-pub enum Found {
-    // The bytes end before the names do.
-    Cut,
-    // All names, and the place behind the last.
-    Until(usize),
-}
-
-pub fn find_names(bytes: &[u8], places: &mut [usize]) -> Found
-    requires { length places.old ≡ 64 }
+// The place behind the last name, if the bytes do not end before the names do.
+pub fn find_names(bytes: &[u8], places: &mut [usize; 64]) -> Option<usize>
     ensures { shelved_by bytes.now places.new result ≡ names_in 64 (drop 5 bytes.now) }
 {
     let mut at = 5;
     for i in 0..64 {
-        if bytes.len() <= at {
-            return Found::Cut;
-        }
-        let next = at + 1 + bytes[at] as usize;
-        if bytes.len() < next {
-            return Found::Cut;
-        }
+        let length = *bytes.get(at)? as usize;
         places[i] = at;
-        at = next;
+        at += 1 + length;
+        if bytes.len() < at {
+            return None;
+        }
     }
-    Found::Until(at)
+    Some(at)
 }
 
-pub fn find_rooms(places: &mut [usize])
-    requires { length places.old ≡ 64 }
-    ensures { (row : List ℕ) → names_by row places.new ≡ names_at 255 64 row }
+pub fn rooms() -> [usize; 64]
+    ensures { (row : List ℕ) → names_by row result ≡ names_at 255 64 row }
 {
-    for i in 0..64 {
-        places[i] = i * 21;
-    }
+    std::array::from_fn(|i| i * 21)
 }

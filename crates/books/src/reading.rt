@@ -4,26 +4,14 @@ ghost use Rattle.books.specs.Checks.{start_check, Checks};
 ghost use Rattle.books.specs.Places.{shelved_by};
 ghost use Rattle.meaning.specs.Books.{is_mark, version_of, shelved_check};
 
-use crate::places::{Found, find_names};
+use crate::places::find_names;
 use crate::shelves::check_names;
-use meaning::{Checked, Refusal};
+use meaning::Refusal;
 
 fn has_mark(bytes: &[u8]) -> bool
     ensures { result ≡ is_mark bytes.now }
 {
-    if bytes.len() < 3 {
-        return false;
-    }
-    if bytes[0] != b'L' {
-        return false;
-    }
-    if bytes[1] != b'N' {
-        return false;
-    }
-    if bytes[2] != b'B' {
-        return false;
-    }
-    true
+    bytes.starts_with(b"LNB")
 }
 
 fn version(bytes: &[u8]) -> u32
@@ -33,49 +21,38 @@ fn version(bytes: &[u8]) -> u32
     bytes[3] as u32 * 256 + bytes[4] as u32
 }
 
-fn check_start(bytes: &[u8]) -> Checked
+fn check_start(bytes: &[u8]) -> Result<(), Refusal>
     ensures { result ≡ start_check bytes.now }
 {
     if !has_mark(bytes) {
-        return Checked::Refused(Refusal::BookMark);
+        return Err(Refusal::BookMark);
     }
     if bytes.len() < 5 {
-        return Checked::Refused(Refusal::BookCut);
+        return Err(Refusal::BookCut);
     }
     let v = version(bytes);
-    if v < 1 {
-        return Checked::Refused(Refusal::BookVersion);
+    if v < 1 || 2 < v {
+        return Err(Refusal::BookVersion);
     }
-    if 2 < v {
-        return Checked::Refused(Refusal::BookVersion);
-    }
-    Checked::Fine
+    Ok(())
 }
 
 // The names that were found, and what is behind the last: only version 2 may have bytes there.
-fn check_found(bytes: &[u8], places: &[usize], end: usize) -> Checked
-    requires in_bounds { 5 ≤ length bytes.now }
-    requires places_len { length places.now ≡ 64 }
-    ensures { result ≡ shelved_check (version_of bytes.now) (shelved_by bytes.now places.now (Found.Until end)) }
+fn check_found(bytes: &[u8], places: &[usize; 64], end: usize) -> Result<(), Refusal>
+    requires { 5 ≤ length bytes.now }
+    ensures { result ≡ shelved_check (version_of bytes.now) (shelved_by bytes.now places.now (Some end)) }
 {
-    if version(bytes) != 2 {
-        if end < bytes.len() {
-            return Checked::Refused(Refusal::BookCut);
-        }
+    if version(bytes) != 2 && end < bytes.len() {
+        return Err(Refusal::BookCut);
     }
     check_names(bytes, places)
 }
 
-pub fn check_book(bytes: &[u8], places: &mut [usize]) -> Checked
-    requires { length places.old ≡ 64 }
+#[tactic(auto, using(crate::proofs::reading::Laws::start_then), unfolding(meaning::specs::Books::book_check))]
+pub fn check_book(bytes: &[u8], places: &mut [usize; 64]) -> Result<(), Refusal>
     ensures { Checks bytes.now places.new result }
 {
-    let start = check_start(bytes);
-    if let Checked::Refused(why) = start {
-        return Checked::Refused(why);
-    }
-    match find_names(bytes, places) {
-        Found::Cut => Checked::Refused(Refusal::BookCut),
-        Found::Until(end) => check_found(bytes, places, end),
-    }
+    check_start(bytes)?;
+    let end = find_names(bytes, places).ok_or(Refusal::BookCut)?;
+    check_found(bytes, places, end)
 }

@@ -4,35 +4,32 @@ ghost use Rattle.meaning.specs.Books.{names_of};
 ghost use Rattle.meaning.specs.Names.{english};
 ghost use Rattle.meaning.specs.OpenedBooks.{names_at};
 
+use crate::english::BOOK;
 use crate::laying::{book_length, put_book};
-use crate::places::find_rooms;
+use crate::places::rooms;
 use crate::shelves::check_names;
 use digits::laying::put_bytes;
-use meaning::{Checked, Refusal, Wrote};
+use meaning::Refusal;
 
-pub fn write_english(out: &mut [u8]) -> Wrote
+pub fn write_english(out: &mut [u8]) -> Result<usize, Refusal>
     ensures { WritesNames (names_of english) out.old result out.new }
 {
-    let n = crate::english::BOOK.len();
+    let n = BOOK.len();
     if out.len() < n {
-        return Wrote::Refused(Refusal::NoRoom(n));
+        return Err(Refusal::NoRoom(n));
     }
-    Wrote::Length(put_bytes(&crate::english::BOOK, out, 0))
+    Ok(put_bytes(&BOOK, out, 0))
 }
 
 // Each length as it stands: where it is none that a name may have, that name is refused.
-pub fn write_opened(row: &[u8], out: &mut [u8]) -> Wrote
+pub fn write_opened(row: &[u8], out: &mut [u8]) -> Result<usize, Refusal>
     ensures { WritesNames (names_at 255 64 row.now) out.old result out.new }
 {
-    let mut places = [0; 64];
-    find_rooms(&mut places);
-    let checked = check_names(row, &places);
-    if let Checked::Refused(why) = checked {
-        return Wrote::Refused(why);
-    }
+    let places = rooms();
+    check_names(row, &places)?;
     let n = book_length(row, &places);
     if out.len() < n {
-        return Wrote::Refused(Refusal::NoRoom(n));
+        return Err(Refusal::NoRoom(n));
     }
-    Wrote::Length(put_book(row, &places, out))
+    Ok(put_book(row, &places, out))
 }

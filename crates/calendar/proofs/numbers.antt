@@ -1,4 +1,3 @@
 pub mod Checks
 pub mod FourDigits
 pub mod Places
-pub mod Shorts

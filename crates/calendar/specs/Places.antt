@@ -1,19 +1,16 @@
 -- The number of a date by its year's place on the line.
-use Rattle.std.specs.Prelude.{ℕ, suc, ◌+◌, ◌-◌, ℤ, nat_abs}
-use Rattle.calendar.specs.declared.numbers.Place.{Place}
-use Rattle.calendar.specs.declared.numbers.Place.TheVariants.{Nowhere, At}
+use Rattle.std.specs.Prelude.{ℕ, suc, ◌+◌, ◌-◌, ℤ, nat_abs, Option, Some, None}
 use Rattle.laws.specs.CalendarLine.{day_at, place}
 use Rattle.meaning.specs.Answers.{◌else◌, refuse_unless, within}
 use Rattle.meaning.specs.Bytes.{when, both}
 use Rattle.meaning.specs.Calendar.{leap, days_on, month_length, before_month}
 use Rattle.meaning.specs.Days.{is_short, day_number_by}
-use Rattle.meaning.specs.declared.Checked.{Checked}
-use Rattle.meaning.specs.declared.DayNumber.{DayNumber}
+use Rattle.meaning.specs.Results.{Checked, DayNumber}
 use Rattle.meaning.specs.declared.Refusal.TheVariants.{NoSuchDay, NoDayNumber}
 
 -- a year of the field record
-abbrev pub place_of : ℤ → Place
-place_of y = when (within 1 5879611 (nat_abs y)) (At (place y)) Nowhere
+abbrev pub place_of : ℤ → Option ℕ
+place_of y = when (within 1 5879611 (nat_abs y)) (Some (place y)) None
 
 -- 18
 abbrev pub short_check : ℕ → Checked

@@ -6,6 +6,7 @@ ghost use Rattle.meaning.specs.Calendar as calendar;
 use crate::table::days_before;
 
 // Nearly all years go the same way through the first test.
+#[tactic(auto, unfolding(meaning::specs::Calendar::leap))]
 pub fn is_leap(n: u32) -> bool
     ensures { result ≡ calendar.leap n }
 {

@@ -13,9 +13,9 @@ pub mod weeks;
 
 use crate::line::{on_line, since_monday, year_at, year_on_line};
 use crate::months::month_of;
-use crate::numbers::{Place, number_at, place_of};
+use crate::numbers::{number_at, place_of};
 use crate::weeks::week_of;
-use meaning::{Day, DayNumber, Refusal};
+use meaning::{Day, Refusal};
 
 pub fn day_of(number: i32) -> Day
     ensures { DayOf number result }
@@ -34,11 +34,11 @@ pub fn day_of(number: i32) -> Day
     }
 }
 
-pub fn day_number(year: i32, month: u32, day: u32) -> DayNumber
+pub fn day_number(year: i32, month: u32, day: u32) -> Result<i32, Refusal>
     ensures { NumbersDay year month day result }
 {
     match place_of(year) {
-        Place::Nowhere => DayNumber::Refused(Refusal::NoSuchDay),
-        Place::At(place) => number_at(place, month, day),
+        None => Err(Refusal::NoSuchDay),
+        Some(place) => number_at(place, month, day),
     }
 }

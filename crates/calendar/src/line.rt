@@ -39,7 +39,7 @@ pub fn year_at(place: u32) -> i32
     if 5880000 <= place {
         return (place - 5879999) as i32;
     }
-    0 - ((5880000 - place) as i32)
+    place as i32 - 5880000
 }
 
 // By the leap years among them, which takes less time than a look at the table.

@@ -12,6 +12,7 @@ fn lost_days(leap: bool) -> u32
 }
 
 // The days of so many months from January on.
+#[tactic(auto, unfolding(meaning::specs::Calendar::before_month))]
 pub fn days_of(leap: bool, months: u32) -> u32
     requires { months < 13 }
     ensures { result ≡ before_month leap (suc months) }
@@ -23,6 +24,7 @@ pub fn days_of(leap: bool, months: u32) -> u32
     days - lost_days(leap)
 }
 
+#[tactic(auto, unfolding(meaning::specs::Calendar::month_length, meaning::specs::Calendar::before_month))]
 pub fn length_of(leap: bool, month: u32) -> u32
     requires { (1 ≤ month) × (month ≤ 12) }
     ensures { result ≡ month_length leap month }

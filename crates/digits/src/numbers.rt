@@ -11,8 +11,8 @@ pub fn put_two(n: u32, out: &mut [u8], at: usize) -> usize
     requires { (n < 100) × (at + 2 ≤ length out.old) }
     ensures { Laid out.old out.new at result (text.digits 2 n) }
 {
-    out[at + 1] = 48 + (n % 10) as u8;
-    out[at] = 48 + (n / 10) as u8;
+    out[at + 1] = b'0' + (n % 10) as u8;
+    out[at] = b'0' + (n / 10) as u8;
     at + 2
 }
 
@@ -23,7 +23,7 @@ pub fn put_short(n: u32, k: usize, out: &mut [u8], at: usize) -> usize
 {
     if k < 2 {
         if n < 10 {
-            return put_byte(48 + n as u8, out, at);
+            return put_byte(b'0' + n as u8, out, at);
         }
     }
     put_two(n, out, at)
@@ -43,7 +43,7 @@ pub fn put_nine(n: u32, out: &mut [u8], at: usize) -> usize
     requires { (n < 1000000000) × (at + 9 ≤ length out.old) }
     ensures { Laid out.old out.new at result (text.digits 9 n) }
 {
-    let first = put_byte(48 + (n / 100000000) as u8, out, at);
+    let first = put_byte(b'0' + (n / 100000000) as u8, out, at);
     let next = put_four(n / 10000 % 10000, out, first);
     put_four(n % 10000, out, next)
 }

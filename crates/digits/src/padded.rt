@@ -21,11 +21,9 @@ fn lay_digits(n: u32, w: usize, out: &mut [u8], at: usize)
     requires { at + w ≤ length out.old }
     ensures { out.new ≡ sets out.old at (text.digits w n) }
 {
-    let mut i = w;
     let mut m = n;
-    while 0 < i {
-        i -= 1;
-        out[at + i] = 48 + (m % 10) as u8;
+    for i in (0..w).rev() {
+        out[at + i] = b'0' + (m % 10) as u8;
         m /= 10;
     }
 }
@@ -34,8 +32,7 @@ fn lay_digits(n: u32, w: usize, out: &mut [u8], at: usize)
 pub fn padded_length(n: u32, k: usize) -> usize
     ensures { result ≡ length (text.num k n) }
 {
-    let w = width(n);
-    if k < w { w } else { k }
+    k.max(width(n))
 }
 
 // Specification, "format! with a width": the digits are laid straight into their place, with zeros before them.

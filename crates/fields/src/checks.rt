@@ -1,79 +1,45 @@
-// Refusals 4 and 14.
+// Refusals 4 and 14, and the checks that end with 14.
 ghost use Rattle.std.specs.Prelude.{◌≡◌};
-ghost use Rattle.fields.specs.Ranges.{field_out};
-ghost use Rattle.meaning.specs.Answers.{◌else◌, within, fields_check, first_current_year, current_year_check};
+ghost use Rattle.meaning.specs.Answers.{refuse_unless, within, fields_check, first_current_year, current_year_check};
+ghost use Rattle.meaning.specs.Trust.{trust_check};
+ghost use Rattle.meaning.specs.declared.Refusal.TheVariants.{FieldRange};
 
 use crate::signed::{is_negative, size};
 use meaning::unit_sizes::{NANOS_PER_DAY, SECS_PER_DAY_U64};
-use meaning::{Checked, Edition, Fields, Refusal};
+use meaning::{Edition, Fields, Refusal};
+use pattern::checks::pattern_check;
 
 // Both stay within a day.
 const MOST_NANOS: u64 = NANOS_PER_DAY - 1;
 
 const MOST_OFFSET: u64 = SECS_PER_DAY_U64 - 1;
 
-fn is_within(low: u64, high: u64, n: u64) -> bool
-    ensures { result ≡ within low high n }
+// 4 of a field, by its number, whose value is not within its range.
+fn field_check(field: u32, low: u64, high: u64, n: u64) -> Result<(), Refusal>
+    ensures { result ≡ refuse_unless (within low high n) (FieldRange field) }
 {
-    if low <= n { n <= high } else { false }
-}
-
-// The first check that refuses.
-pub fn or_else(first: Checked, next: Checked) -> Checked
-    ensures { result ≡ (first else next) }
-{
-    match first {
-        Checked::Fine => next,
-        Checked::Refused(_) => first,
+    if low <= n && n <= high {
+        return Ok(());
     }
-}
-
-// The first field out of its range; 0 stands for none.
-#[tactic(auto, unfolding(crate::specs::Ranges::first_out))]
-fn field_out(f: Fields) -> u32
-    ensures { result ≡ field_out f }
-{
-    let y = f.year;
-    let o = f.offset;
-    if !is_within(1, 5879611, size(y) as u64) {
-        return 1;
-    }
-    if !is_within(1, 12, f.month as u64) {
-        return 2;
-    }
-    if !is_within(1, 31, f.day as u64) {
-        return 3;
-    }
-    if !is_within(1, 366, f.doy as u64) {
-        return 4;
-    }
-    if !is_within(1, 53, f.week as u64) {
-        return 5;
-    }
-    if !is_within(0, 6, f.wday as u64) {
-        return 6;
-    }
-    if !is_within(0, MOST_NANOS, f.nanos) {
-        return 7;
-    }
-    if !is_within(0, MOST_OFFSET, size(o) as u64) {
-        return 8;
-    }
-    0
+    Err(Refusal::FieldRange(field))
 }
 
 // 4: the first field that is out of its range.
-pub fn fields_check(f: Fields) -> Checked
+#[tactic(auto, unfolding(meaning::specs::Answers::fields_check))]
+pub fn fields_check(f: Fields) -> Result<(), Refusal>
     ensures { result ≡ fields_check f }
 {
-    let field = field_out(f);
-    if field == 0 {
-        return Checked::Fine;
-    }
-    Checked::Refused(Refusal::FieldRange(field))
+    field_check(1, 1, 5879611, size(f.year) as u64)?;
+    field_check(2, 1, 12, f.month as u64)?;
+    field_check(3, 1, 31, f.day as u64)?;
+    field_check(4, 1, 366, f.doy as u64)?;
+    field_check(5, 1, 53, f.week as u64)?;
+    field_check(6, 0, 6, f.wday as u64)?;
+    field_check(7, 0, MOST_NANOS, f.nanos)?;
+    field_check(8, 0, MOST_OFFSET, size(f.offset) as u64)
 }
 
-fn first_current_year(edition: Edition) -> u64
+fn first_current_year(edition: Edition) -> u32
     ensures { result ≡ first_current_year edition }
 {
     match edition {
@@ -84,14 +50,20 @@ fn first_current_year(edition: Edition) -> u64
 
 // 14: the current year is 1 to 9999, in the second edition 81 to 9999.
 #[tactic(auto, unfolding(meaning::specs::Answers::current_year_check))]
-pub fn current_year_check(edition: Edition, year: i32) -> Checked
+pub fn current_year_check(edition: Edition, year: i32) -> Result<(), Refusal>
     ensures { result ≡ current_year_check edition year }
 {
-    if is_negative(year) {
-        return Checked::Refused(Refusal::CurrentYear(year));
+    if !is_negative(year) && first_current_year(edition) <= size(year) && size(year) <= 9999 {
+        return Ok(());
     }
-    if is_within(first_current_year(edition), 9999, size(year) as u64) {
-        return Checked::Fine;
-    }
-    Checked::Refused(Refusal::CurrentYear(year))
+    Err(Refusal::CurrentYear(year))
+}
+
+// 1, 2, 3 and 14: what is asked once of a pattern and a year, whatever is read by them.
+#[tactic(auto, unfolding(meaning::specs::Trust::trust_check))]
+pub fn trust_check(edition: Edition, pattern: &[u8], year: i32) -> Result<(), Refusal>
+    ensures { result ≡ trust_check edition pattern.now year }
+{
+    pattern_check(pattern)?;
+    current_year_check(edition, year)
 }

@@ -1,10 +1,9 @@
 // What a record gives to write: the numbers, and the places of the names in their lists.
-ghost use Rattle.std.specs.Prelude.{◌≡◌, ◌+◌, ◌-◌, ◌/◌, ◌%◌, ◌^◌, ◌≤◌, ◌<◌, eqb, ltb};
+ghost use Rattle.std.specs.Prelude.{◌≡◌, ◌+◌, ◌-◌, ◌/◌, ◌%◌, ◌^◌, ◌≤◌, ◌<◌, eqb, ltb, Ok};
 ghost use Rattle.meaning.specs.Answers.{fields_check};
 ghost use Rattle.meaning.specs.Bytes.{when};
 ghost use Rattle.meaning.specs.UnitSizes.{nanos_per_second};
 ghost use Rattle.meaning.specs.Writing as written;
-ghost use Rattle.meaning.specs.declared.Checked.TheVariants.{Fine};
 
 use crate::signed::is_negative;
 use meaning::unit_sizes::{NANOS_PER_SEC, SECS_PER_HOUR, SECS_PER_MINUTE};
@@ -48,7 +47,7 @@ fn in_place_of_zero(k: u32, n: u32) -> u32
 
 #[tactic(auto, unfolding(meaning::specs::Writing::quantity_of))]
 pub fn quantity_of(quantity: Quantity, f: Fields) -> u32
-    requires { fields_check f ≡ Fine }
+    requires { fields_check f ≡ Ok tt }
     ensures { result ≡ written.quantity_of quantity f }
 {
     match quantity {
@@ -96,7 +95,7 @@ fn noon_place(am: usize, midnight: usize, pm: usize, noon: usize, second: u32) -
 // The place, in its list, of the name that is written.
 #[tactic(auto, unfolding(meaning::specs::Writing::place_of))]
 pub fn place_of(names: NameList, f: Fields) -> usize
-    requires { fields_check f ≡ Fine }
+    requires { fields_check f ≡ Ok tt }
     ensures { result ≡ written.place_of names f }
 {
     let year = f.year;

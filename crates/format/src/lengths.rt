@@ -1,10 +1,9 @@
 // How many bytes a step writes, with no byte written. A text of at most 2,048 bytes is asked for, so that no sum overflows.
-ghost use Rattle.std.specs.Prelude.{◌≡◌, ◌<◌, ◌≤◌, nat_abs, length};
+ghost use Rattle.std.specs.Prelude.{◌≡◌, ◌<◌, ◌≤◌, nat_abs, length, Ok};
 ghost use Rattle.format.specs.Literals.{open_text};
 ghost use Rattle.meaning.specs.Answers.{fields_check};
 ghost use Rattle.meaning.specs.OpenedBooks.{book_in};
 ghost use Rattle.meaning.specs.Writing.{signed_text, two_digit_text, group_text, zone_text, name_text, rule_text, step_text};
-ghost use Rattle.meaning.specs.declared.Checked.TheVariants.{Fine};
 ghost use Rattle.pattern.specs.Next.{Lost};
 ghost use Rattle.rules.specs.Steps.{means, Held};
 
@@ -41,12 +40,7 @@ pub fn year_length(z: i32, k: usize) -> usize
 fn two_digit_length(z: i32) -> usize
     ensures { result ≡ length (two_digit_text z) }
 {
-    if is_negative(z) {
-        if size(z) < 10 {
-            return 3;
-        }
-    }
-    2
+    if is_negative(z) && size(z) < 10 { 3 } else { 2 }
 }
 
 // Two digits of a zone, behind a colon or not, where the group is there.
@@ -75,14 +69,14 @@ fn zone_length(z: i32, utc: bool, colon: bool, minutes: Group, seconds: Group) -
 
 // The name that a record gives.
 fn length_of_name(book: &[u8], names: NameList, f: Fields) -> usize
-    requires { fields_check f ≡ Fine }
+    requires { fields_check f ≡ Ok tt }
     ensures { result ≡ length (name_text (book_in book.now) names f) }
 {
     name_length(book, names, place_of(names, f))
 }
 
 pub fn rule_length(book: &[u8], rule: Rule, f: Fields) -> usize
-    requires f_value { fields_check f ≡ Fine }
+    requires f_value { fields_check f ≡ Ok tt }
     requires f_len_bound { length (rule_text (book_in book.now) rule f) ≤ 2048 }
     ensures { result ≡ length (rule_text (book_in book.now) rule f) }
 {
@@ -90,19 +84,17 @@ pub fn rule_length(book: &[u8], rule: Rule, f: Fields) -> usize
         Rule::Number {
             quantity,
             least,
-            most: _,
-            unit: _,
-            zero: _,
+            ..
         } => padded_length(quantity_of(quantity, f), least as usize),
         Rule::SkippedNumber {
             quantity,
             least,
-            most: _,
+            ..
         } => padded_length(quantity_of(quantity, f), least as usize),
         Rule::LetterQuarter => 2,
-        Rule::SkippedName { names, length: _ } => length_of_name(book, names, f),
+        Rule::SkippedName { names, .. } => length_of_name(book, names, f),
         Rule::MatchedName(names) => length_of_name(book, names, f),
-        Rule::Letters { names, length: _ } => length_of_name(book, names, f),
+        Rule::Letters { names, .. } => length_of_name(book, names, f),
         Rule::Years(k) => year_length(f.year, k),
         Rule::FixedYear(k) => year_length(f.year, k),
         Rule::TwoDigitYear => two_digit_length(f.year),
@@ -118,13 +110,13 @@ pub fn rule_length(book: &[u8], rule: Rule, f: Fields) -> usize
 // What has a rule is measured by it. Called at five places, rule_length stays a call of its own, so that writing takes none of its
 // stack.
 pub fn step_length(book: &[u8], step: Step, pattern: &[u8], f: Fields) -> usize
-    requires f_value { fields_check f ≡ Fine }
+    requires f_value { fields_check f ≡ Ok tt }
     requires held { Held pattern.now step }
     requires step_len_bound { length (step_text (book_in book.now) f (means pattern.now step)) ≤ 2048 }
     ensures { result ≡ length (step_text (book_in book.now) f (means pattern.now step)) }
 {
     match step {
-        Step::Times { byte: _, count } => count,
+        Step::Times { count, .. } => count,
         Step::Quoted { from, to } => unescaped_length(&pattern[from..to]),
         Step::Open { from } => open_length(&pattern[from..]),
         Step::Short { number, count } => padded_length(short_number(number, f), count as usize),
@@ -136,11 +128,7 @@ pub fn step_length(book: &[u8], step: Step, pattern: &[u8], f: Fields) -> usize
         ),
         Step::MonthWide => rule_length(book, Rule::MatchedName(NameList::MonthWide), f),
         Step::WdayWide => rule_length(book, Rule::MatchedName(NameList::WdayWide), f),
-        Step::Run {
-            role,
-            byte: _,
-            count,
-        } => match role {
+        Step::Run { role, count, .. } => match role {
             Role::Literal => count,
             Role::Symbol(rule) => rule_length(book, rule, f),
         },

@@ -12,6 +12,7 @@ pub fn put_unescaped(src: &[u8], out: &mut [u8], at: usize) -> usize
     ensures { Laid out.old out.new at result (unescaped src.now) }
 {
     let mut next = at;
+    // A loop by hand: a doubled quote is two bytes, and no iterator of a slice steps by one or two.
     let mut i = 0;
     while i < src.len() {
         let b = src[i];

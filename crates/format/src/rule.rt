@@ -1,10 +1,9 @@
 // What a symbol writes: the text of its rule.
-ghost use Rattle.std.specs.Prelude.{◌≡◌, ◌+◌, ◌≤◌, length};
+ghost use Rattle.std.specs.Prelude.{◌≡◌, ◌+◌, ◌≤◌, length, Ok};
 ghost use Rattle.laws.specs.Laid.{Laid};
 ghost use Rattle.meaning.specs.Answers.{fields_check};
 ghost use Rattle.meaning.specs.OpenedBooks.{book_in};
 ghost use Rattle.meaning.specs.Writing.{rule_text};
-ghost use Rattle.meaning.specs.declared.Checked.TheVariants.{Fine};
 
 use crate::symbols::{put_name_of, put_quantity};
 use crate::years::{two_digit_year, zero_padded_i};
@@ -21,7 +20,7 @@ const QUARTER: Rule = Rule::SkippedNumber {
 
 // It calls itself for the quarter behind its letter, which keeps it a call of its own where steps are written.
 pub fn format_rule(book: &[u8], rule: Rule, f: Fields, out: &mut [u8], at: usize) -> usize
-    requires f_value { fields_check f ≡ Fine }
+    requires f_value { fields_check f ≡ Ok tt }
     requires f_in_bounds { at + length (rule_text (book_in book.now) rule f) ≤ length out.old }
     ensures { Laid out.old out.new at result (rule_text (book_in book.now) rule f) }
 {
@@ -29,22 +28,20 @@ pub fn format_rule(book: &[u8], rule: Rule, f: Fields, out: &mut [u8], at: usize
         Rule::Number {
             quantity,
             least,
-            most: _,
-            unit: _,
-            zero: _,
+            ..
         } => put_quantity(quantity, least, f, out, at),
         Rule::SkippedNumber {
             quantity,
             least,
-            most: _,
+            ..
         } => put_quantity(quantity, least, f, out, at),
         Rule::LetterQuarter => {
             let next = put_byte(b'Q', out, at);
             format_rule(book, QUARTER, f, out, next)
         }
-        Rule::SkippedName { names, length: _ } => put_name_of(book, names, f, out, at),
+        Rule::SkippedName { names, .. } => put_name_of(book, names, f, out, at),
         Rule::MatchedName(names) => put_name_of(book, names, f, out, at),
-        Rule::Letters { names, length: _ } => put_name_of(book, names, f, out, at),
+        Rule::Letters { names, .. } => put_name_of(book, names, f, out, at),
         Rule::Years(k) => zero_padded_i(f.year, k, out, at),
         Rule::FixedYear(k) => zero_padded_i(f.year, k, out, at),
         Rule::TwoDigitYear => two_digit_year(f.year, out, at),

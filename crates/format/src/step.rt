@@ -1,10 +1,9 @@
 // What a step writes.
-ghost use Rattle.std.specs.Prelude.{◌≡◌, ◌+◌, ◌≤◌, length};
+ghost use Rattle.std.specs.Prelude.{◌≡◌, ◌+◌, ◌≤◌, length, Ok};
 ghost use Rattle.laws.specs.Laid.{Laid};
 ghost use Rattle.meaning.specs.Answers.{fields_check};
 ghost use Rattle.meaning.specs.OpenedBooks.{book_in};
 ghost use Rattle.meaning.specs.Writing.{run_step, step_text, quantity_of};
-ghost use Rattle.meaning.specs.declared.Checked.TheVariants.{Fine};
 ghost use Rattle.rules.specs.ShortRules.{short_quantity};
 ghost use Rattle.rules.specs.Steps.{means, Held};
 
@@ -22,7 +21,7 @@ use rules::step::Step;
 
 // The number that a short one writes; the day stands for no number.
 pub fn short_number(short: Short, f: Fields) -> u32
-    requires { fields_check f ≡ Fine }
+    requires { fields_check f ≡ Ok tt }
     ensures { result ≡ quantity_of (short_quantity short) f }
 {
     match short {
@@ -31,7 +30,6 @@ pub fn short_number(short: Short, f: Fields) -> u32
         Short::Hour => second_of_day(f.nanos) / SECS_PER_HOUR,
         Short::Minute => second_of_day(f.nanos) % SECS_PER_HOUR / SECS_PER_MINUTE,
         Short::Second => second_of_day(f.nanos) % SECS_PER_MINUTE,
-        Short::Other => f.day,
     }
 }
 
@@ -45,7 +43,7 @@ fn put_run(
     out: &mut [u8],
     at: usize,
 ) -> usize
-    requires f_value { fields_check f ≡ Fine }
+    requires f_value { fields_check f ≡ Ok tt }
     requires count_in_bounds { at + length (step_text (book_in book.now) f (run_step role b count)) ≤ length out.old }
     ensures { Laid out.old out.new at result (step_text (book_in book.now) f (run_step role b count)) }
 {
@@ -63,7 +61,7 @@ pub fn format_step(
     out: &mut [u8],
     at: usize,
 ) -> usize
-    requires f_value { fields_check f ≡ Fine }
+    requires f_value { fields_check f ≡ Ok tt }
     requires held { Held pattern.now step }
     requires step_in_bounds { at + length (step_text (book_in book.now) f (means pattern.now step)) ≤ length out.old }
     ensures { Laid out.old out.new at result (step_text (book_in book.now) f (means pattern.now step)) }

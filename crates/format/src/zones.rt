@@ -74,10 +74,7 @@ fn is_nothing(minutes: Group, seconds: Group, n: u32) -> bool
 fn is_minus(z: i32, minutes: Group, seconds: Group) -> bool
     ensures { (c : Bool) → result ≡ is_minus c minutes seconds z }
 {
-    if is_nothing(minutes, seconds, size(z)) {
-        return false;
-    }
-    is_negative(z)
+    !is_nothing(minutes, seconds, size(z)) && is_negative(z)
 }
 
 fn sign_of(negative: bool) -> u8
@@ -105,7 +102,7 @@ fn put_zone(
 pub fn is_z(utc: bool, n: u32) -> bool
     ensures { result ≡ both utc (eqb n 0) }
 {
-    if utc { n == 0 } else { false }
+    utc && n == 0
 }
 
 // X with offset 0 writes Z at any count.

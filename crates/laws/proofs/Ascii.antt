@@ -1,9 +1,10 @@
 -- A written text is ASCII, as a read asks for: digits and signs are, the English names, and the bytes of a pattern that is
 -- accepted. With its length it passes the checks 6 and 7 of a read.
+use Rattle.std.specs.Prelude.{Ok}
 use mathlib.Core.Bool.{Bool, true, false}
 use mathlib.Core.List.{List, [], ◌∷◌, ◌++◌, map}
 use mathlib.Core.Path.{◌≡◌, refl}
-use Prim.Native.Char.{Char, code}
+use Prim.Native.Char.{code}
 use Prim.Native.Nat.{ℕ, zero, suc, ◌-◌, ◌/◌, ◌%◌, ◌≤◌, max}
 use native.Mathlib.Omega.{arith}
 use lib.Dec.{eqb, leb, ltb}
@@ -18,7 +19,6 @@ use Rattle.meaning.specs.Rules.{role_of}
 use Rattle.meaning.specs.Splitting.{Element, byte, escaped, single, element_of, elements, Content, run, quotes, quoted, unclosed, join_byte, join_escaped, join_inside, outside, inside, contents}
 use Rattle.meaning.specs.Whole.{text}
 use Rattle.meaning.specs.Writing.{quantity_of, signed_text, two_digit_text, colon_text, is_there, group_text, offset_digits, is_minus, offset_text, zone_text, place_of, name_text, rule_text, is_negative, run_step, step_of, ends_in_quote, steps, literal, step_text, texts}
-use Rattle.meaning.specs.declared.Checked.TheVariants.{Fine}
 use Rattle.meaning.specs.declared.Fields.{Fields}
 use Rattle.meaning.specs.declared.Group.{Group}
 use Rattle.meaning.specs.declared.NameList.{NameList}
@@ -254,12 +254,12 @@ module _ (book : Book) (known : AsciiNames book) (f : Fields) where
   text-ascii pair p h = texts-ascii pair (contents p) (contents-ascii p h)
 
 -- "Written text is at most 8 bytes per pattern byte, so it always fits the text limit", and a read takes its bytes
-pattern-ascii : (p : List ℕ) → pattern_check p ≡ Fine → Ascii p
+pattern-ascii : (p : List ℕ) → pattern_check p ≡ Ok tt → Ascii p
 pattern-ascii p h =
     every-weaker (within 1 127) is_ascii (λ b k. ascii-yes b (leb-true b 127 (both_true (leb 1 b) (leb b 127) k).1)) p (pattern-fine p h).bytes
 
-pub written-checks : (book : Book) → AsciiNames book → Short book → (pair : Pair) (p : List ℕ) (f : Fields) → pattern_check p ≡ Fine → fields_check f ≡ Fine
-    → text_check (text pair book p f) ≡ Fine
+pub written-checks : (book : Book) → AsciiNames book → Short book → (pair : Pair) (p : List ℕ) (f : Fields) → pattern_check p ≡ Ok tt → fields_check f ≡ Ok tt
+    → text_check (text pair book p f) ≡ Ok tt
 unfolding text_check
 written-checks book known short pair p f h k =
     let s = text pair book p f in

@@ -1,5 +1,6 @@
 -- Books, read and written: the row that a book was opened into stands for that book, which is a valid one, and is written as the same
 -- bytes where they were of version 1; and what was written of a row reads as itself.
+use Rattle.std.specs.Prelude.{Ok}
 use mathlib.Core.Bool.{true}
 use mathlib.Core.List.{List, [], append-nil}
 use mathlib.Core.Path.{◌≡◌, refl, ap, ◌∙◌}
@@ -14,7 +15,6 @@ use Rattle.meaning.specs.Books.{shelves, book_of, names_check, Valid, Shelved, c
 use Rattle.meaning.specs.Bytes.{when}
 use Rattle.meaning.specs.Names.{english}
 use Rattle.meaning.specs.OpenedBooks.{opened_size, book_in, opened_names, all_names, book_names, held_names}
-use Rattle.meaning.specs.declared.Checked.TheVariants.{Fine}
 use Rattle.meaning.specs.declared.Refusal.TheVariants.{BookCut}
 use Rattle.laws.proofs.Books.{Kept, names-kept, written-checked, written_read, opened, read-written}
 use Rattle.laws.proofs.Checks.{else-fine}
@@ -24,7 +24,7 @@ use Rattle.laws.proofs.Tests.{when-is}
 
 -- good names, opened
 
-module _ (ns : List (List ℕ)) (all : length ns ≡ 64) (good : names_check shelves 1 ns ≡ Fine) where
+module _ (ns : List (List ℕ)) (all : length ns ≡ 64) (good : names_check shelves 1 ns ≡ Ok tt) where
   pub opened-size : length (opened_names ns) ≡ opened_size
   opened-size = opened-length ns ∙ ap (λ (n : ℕ). 21 * n) all
 
@@ -35,14 +35,14 @@ module _ (ns : List (List ℕ)) (all : length ns ≡ 64) (good : names_check she
 
 -- a book that was read
 
-names-there : (v : ℕ) (s : List ℕ) (found : Shelved) → Kept 64 s found → shelved_check v found ≡ Fine
-    → (length (all_names found) ≡ 64) × (names_check shelves 1 (all_names found) ≡ Fine)
+names-there : (v : ℕ) (s : List ℕ) (found : Shelved) → Kept 64 s found → shelved_check v found ≡ Ok tt
+    → (length (all_names found) ≡ 64) × (names_check shelves 1 (all_names found) ≡ Ok tt)
 names-there v s cut kept h = absurd (let z : ◌≡◌ {A = ℕ} 0 1 = cc in omega arith)
 names-there v s (shelved ns rest) kept h =
     (kept.1, (else-fine (refuse_unless (when (may_go_on v) true (eqb (length rest) 0)) BookCut) (names_check shelves 1 ns) h).1)
 
-module _ (s : List ℕ) (fine : book_check s ≡ Fine) where
-  pub read_names : (length (book_names s) ≡ 64) × (names_check shelves 1 (book_names s) ≡ Fine)
+module _ (s : List ℕ) (fine : book_check s ≡ Ok tt) where
+  pub read_names : (length (book_names s) ≡ 64) × (names_check shelves 1 (book_names s) ≡ Ok tt)
   read_names = names-there (version_of s) (drop 5 s) (names_in 64 (drop 5 s)) (names-kept 64 (drop 5 s)) (opened s fine).there
 
   -- what it was opened into stands for its names
@@ -70,8 +70,8 @@ unfolding held_names
 held_all row =
     when-is (λ (ns : List (List ℕ)). length ns ≡ 64) (eqb (length row) opened_size) (λ _. count_at 255 64 row) (λ _. all-names english english-valid)
 
-module _ (row : List ℕ) (good : names_check shelves 1 (held_names row) ≡ Fine) where
-  pub written-fine : book_check (book_bytes (held_names row)) ≡ Fine
+module _ (row : List ℕ) (good : names_check shelves 1 (held_names row) ≡ Ok tt) where
+  pub written-fine : book_check (book_bytes (held_names row)) ≡ Ok tt
   written-fine = written-checked (held_names row) (held_all row) ∙ good
 
   written-names : book_names (book_bytes (held_names row)) ≡ held_names row

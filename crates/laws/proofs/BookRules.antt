@@ -1,5 +1,6 @@
 -- What the rules of a book give of each of its lists: every name has the letters that it may have, and where no name may begin
 -- another, none does.
+use Rattle.std.specs.Prelude.{Ok}
 use mathlib.Core.Bool.{Bool, true}
 use mathlib.Core.List.{List, [], ◌∷◌, ◌++◌, map}
 use mathlib.Core.Option.{Option, none, some}
@@ -14,7 +15,6 @@ use Rattle.meaning.specs.Books as books
 use Rattle.meaning.specs.Bytes.{when, both}
 use Rattle.meaning.specs.Names.{Book, english, names}
 use Rattle.meaning.specs.Readers.{begins}
-use Rattle.meaning.specs.declared.Checked.TheVariants.{Fine}
 use Rattle.meaning.specs.declared.NameList.{NameList}
 use Rattle.meaning.specs.declared.NameList.TheVariants.{EraAbbreviated, EraNarrow, EraWide, QuarterWide, MonthAbbreviated, MonthWide, MonthNarrow, WdayAbbreviated, WdayWide, WdayNarrow, WdayShort, PeriodUpper, PeriodLower, PeriodDotted, PeriodLetter, NoonUpper, NoonLower, NoonDotted, NoonLetter}
 use Rattle.meaning.specs.declared.Refusal.TheVariants.{BookName}
@@ -46,7 +46,7 @@ pub record Good (s : books.Shelf) (earlier ns : List (List ℕ)) : Type 0 where
   pub apart-each : s.apart ≡ true → all_apart ns ≡ true
   pub apart-earlier : s.apart ≡ true → every (books.apart_from earlier) ns ≡ true
 
-good-names : (s : books.Shelf) (k i : ℕ) (earlier ns : List (List ℕ)) → length ns ≡ k → books.shelf_check s k i earlier ns ≡ Fine → Good s earlier ns
+good-names : (s : books.Shelf) (k i : ℕ) (earlier ns : List (List ℕ)) → length ns ≡ k → books.shelf_check s k i earlier ns ≡ Ok tt → Good s earlier ns
 unfolding books.shelf_check books.is_good books.apart_from every all_apart
 good-names s zero i earlier [] e h = record { fit = refl; apart-each = λ _. refl; apart-earlier = λ _. refl }
 good-names s zero i earlier (name ∷ ns) e h = absurd (omega arith)
@@ -86,7 +86,7 @@ Goods [] ls = Unit
 Goods (s ∷ ss) [] = Unit
 Goods (s ∷ ss) (l ∷ ls) = Good s [] l × Goods ss ls
 
-goods : (ss : List books.Shelf) (i : ℕ) (ls : List (List (List ℕ))) → map length ls ≡ map (λ s. s.count) ss → books.names_check ss i (books.joined ls) ≡ Fine
+goods : (ss : List books.Shelf) (i : ℕ) (ls : List (List (List ℕ))) → map length ls ≡ map (λ s. s.count) ss → books.names_check ss i (books.joined ls) ≡ Ok tt
     → Goods ss ls
 unfolding books.names_check books.joined
 goods [] i ls e h = tt
@@ -97,7 +97,7 @@ goods (s ∷ ss) i (l ∷ ls) e h =
     let r = books.joined ls in
     let t = else-fine (books.shelf_check s s.count i [] (l ++ r)) (books.names_check ss (i + s.count) (drop s.count (l ++ r))) h in
     let behind : drop s.count (l ++ r) ≡ r = rw (← size) (drop-append_seam l r) in
-    let own : books.shelf_check s s.count i [] l ≡ Fine = rw (shelf-alone s s.count i [] l r size) at t.0 in
+    let own : books.shelf_check s s.count i [] l ≡ Ok tt = rw (shelf-alone s s.count i [] l r size) at t.0 in
     (good-names s s.count i [] l size own, goods ss (i + s.count) ls sizes (rw behind at t.1))
 
 pub good-lists : (b : Book) → books.Valid b → Goods books.shelves (books.lists_of b)

@@ -1,4 +1,5 @@
 -- Name books: what is written is read as itself, and what is read of version 1 is written as it was.
+use Rattle.std.specs.Prelude.{Ok}
 use mathlib.Core.Bool.{true}
 use mathlib.Core.List.{List, [], ◌∷◌, ◌++◌, append_assoc, append-nil}
 use mathlib.Core.Path.{◌≡◌, refl, sym, ap, ◌∙◌}
@@ -12,7 +13,6 @@ use Rattle.meaning.specs.Answers.{◌else◌, refuse_unless}
 use Rattle.meaning.specs.Books.{shelves, is_mark, is_version, version_of, shelved_check, Shelved, cut, shelved, behind_name, names_in, names_check, mark, book_check, shelve_names, book_bytes}
 use Rattle.meaning.specs.Bytes.{both, bytes}
 use Rattle.meaning.specs.Readers.{begins}
-use Rattle.meaning.specs.declared.Checked.TheVariants.{Fine}
 use Rattle.meaning.specs.declared.Refusal.TheVariants.{BookMark, BookVersion, BookCut}
 use Rattle.laws.proofs.Checks.{else-fine, fine-unless}
 use Rattle.laws.proofs.Tests.{both_true, by-test}
@@ -69,9 +69,9 @@ pub record Opened (s : List ℕ) : Type 0 where
   pub is_book : is_mark s ≡ true
   pub has-version : 5 ≤ length s
   pub known : is_version (version_of s) ≡ true
-  pub there : shelved_check (version_of s) (names_in 64 (drop 5 s)) ≡ Fine
+  pub there : shelved_check (version_of s) (names_in 64 (drop 5 s)) ≡ Ok tt
 
-pub opened : (s : List ℕ) → book_check s ≡ Fine → Opened s
+pub opened : (s : List ℕ) → book_check s ≡ Ok tt → Opened s
 unfolding book_check
 opened s h =
     let names = shelved_check (version_of s) (names_in 64 (drop 5 s)) in
@@ -108,13 +108,13 @@ none_left : (s : List ℕ) → eqb (length s) 0 ≡ true → s ≡ []
 none_left [] h = refl
 none_left (b ∷ s) h = absurd (omega (arith, eqb-true (length (b ∷ s)) 0 h))
 
-pub read-written : (s : List ℕ) (ns : List (List ℕ)) (rest : List ℕ) → book_check s ≡ Fine → version_of s ≡ 1
-    → names_in 64 (drop 5 s) ≡ shelved ns rest → (book_bytes ns ≡ s) × (length ns ≡ 64) × (names_check shelves 1 ns ≡ Fine)
+pub read-written : (s : List ℕ) (ns : List (List ℕ)) (rest : List ℕ) → book_check s ≡ Ok tt → version_of s ≡ 1
+    → names_in 64 (drop 5 s) ≡ shelved ns rest → (book_bytes ns ≡ s) × (length ns ≡ 64) × (names_check shelves 1 ns ≡ Ok tt)
 unfolding book_bytes
 read-written s ns rest h v e =
     let o = opened s h in
     let ended = eqb (length rest) 0 in
-    let there : (refuse_unless ended BookCut else names_check shelves 1 ns) ≡ Fine = rw (v, e) at o.there in
+    let there : (refuse_unless ended BookCut else names_check shelves 1 ns) ≡ Ok tt = rw (v, e) at o.there in
     let t = else-fine (refuse_unless ended BookCut) (names_check shelves 1 ns) there in
     let last : rest ≡ [] = none_left rest (fine-unless ended BookCut t.0) in
     let kept : Kept 64 (drop 5 s) (shelved ns rest) = rw e at (names-kept 64 (drop 5 s)) in

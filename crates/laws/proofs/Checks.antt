@@ -1,4 +1,5 @@
 -- Laws of checks that stand one behind the other: what it says that none refuses.
+use Rattle.std.specs.Prelude.{Ok, Err}
 use mathlib.Core.Bool.{Bool, true, false}
 use mathlib.Core.List.{List, [], ◌∷◌}
 use mathlib.Core.Path.{◌≡◌, refl, sym}
@@ -14,8 +15,7 @@ use Rattle.meaning.specs.Names.{Book}
 use Rattle.meaning.specs.Splitting.{contents}
 use Rattle.meaning.specs.Trust.{trust_check}
 use Rattle.meaning.specs.Whole.{text, write_check, read_check}
-use Rattle.meaning.specs.declared.Checked.{Checked}
-use Rattle.meaning.specs.declared.Checked.TheVariants.{Fine, Refused}
+use Rattle.meaning.specs.Results.{Checked}
 use Rattle.meaning.specs.declared.Edition.{Edition}
 use Rattle.meaning.specs.declared.Fields.{Fields}
 use Rattle.meaning.specs.declared.Pair.{Pair}
@@ -23,28 +23,28 @@ use Rattle.meaning.specs.declared.Refusal.{Refusal}
 use Rattle.meaning.specs.declared.Refusal.TheVariants.{PatternTooLong, PatternByte, NoRoom, TextTooLong, TextByte}
 use Rattle.laws.proofs.Tests.{by-test, both_true, both-are, every}
 
-not-fine : (why : Refusal) → Refused why ≡ Fine → ⊥
+not-fine : (why : Refusal) → ◌≡◌ {A = Checked} (Err why) (Ok tt) → ⊥
 not-fine why h = let z : ◌≡◌ {A = ℕ} 0 1 = cc in omega arith
 
 -- both checks are fine where the first that refuses is none
-pub else-fine : (a b : Checked) → (a else b) ≡ Fine → (a ≡ Fine) × (b ≡ Fine)
-else-fine Fine b h = (refl, h)
-else-fine (Refused why) b h = absurd (not-fine why h)
+pub else-fine : (a b : Checked) → (a else b) ≡ Ok tt → (a ≡ Ok tt) × (b ≡ Ok tt)
+else-fine (Ok _) b h = (refl, h)
+else-fine (Err why) b h = absurd (not-fine why h)
 
 pub else-assoc : (a b c : Checked) → ((a else b) else c) ≡ (a else (b else c))
-else-assoc Fine b c = refl
-else-assoc (Refused why) b c = refl
+else-assoc (Ok _) b c = refl
+else-assoc (Err why) b c = refl
 
 pub within-is : (low high n : ℕ) → within low high n ≡ true → (low ≤ n) × (n ≤ high)
 within-is low high n t = let w = both_true (leb low n) (leb n high) t in (leb-true low n w.0, leb-true n high w.1)
 
-pub fine-unless : (t : Bool) (why : Refusal) → refuse_unless t why ≡ Fine → t ≡ true
+pub fine-unless : (t : Bool) (why : Refusal) → refuse_unless t why ≡ Ok tt → t ≡ true
 fine-unless true why h = refl
 fine-unless false why h = absurd (not-fine why h)
 
 -- no byte is refused where all are within the limits, wherever the count starts
 module _ (why : ℕ → Refusal) (low high : ℕ) where
-  pub bytes-within : (i : ℕ) (s : List ℕ) → byte_check why low high i s ≡ Fine → every (within low high) s ≡ true
+  pub bytes-within : (i : ℕ) (s : List ℕ) → byte_check why low high i s ≡ Ok tt → every (within low high) s ≡ true
   unfolding byte_check every
   bytes-within i [] h = refl
   bytes-within i (b ∷ s) h =
@@ -52,7 +52,7 @@ module _ (why : ℕ → Refusal) (low high : ℕ) where
       (λ e. both-are (within low high b) (every (within low high) s) e (bytes-within (suc i) s (rw (e, byte_check) at h)))
       (λ e. absurd (not-fine (why i) (rw (e, byte_check) at h)))
 
-  pub within-bytes : (i : ℕ) (s : List ℕ) → every (within low high) s ≡ true → byte_check why low high i s ≡ Fine
+  pub within-bytes : (i : ℕ) (s : List ℕ) → every (within low high) s ≡ true → byte_check why low high i s ≡ Ok tt
   unfolding byte_check every
   within-bytes i [] h = refl
   within-bytes i (b ∷ s) h =
@@ -65,15 +65,15 @@ pub record Accepted (p : List ℕ) : Type 0 where
   pub bytes : every (within 1 127) p ≡ true
   pub quotes : ends_in_lone_quote (contents p) ≡ false
 
-pub fine-short : (p : List ℕ) → bytes_check p ≡ Fine → length p ≤ 256
+pub fine-short : (p : List ℕ) → bytes_check p ≡ Ok tt → length p ≤ 256
 unfolding bytes_check
 fine-short p h = leb-true (length p) 256 (fine-unless (leb (length p) 256) _ (else-fine _ (byte_check PatternByte 1 127 0 p) h).0)
 
-fine-quotes : (t : Bool) (why : Refusal) → when t (Refused why) Fine ≡ Fine → t ≡ false
+fine-quotes : (t : Bool) (why : Refusal) → ◌≡◌ {A = Checked} (when t (Err why) (Ok tt)) (Ok tt) → t ≡ false
 fine-quotes true why h = absurd (not-fine why h)
 fine-quotes false why h = refl
 
-pub pattern-fine : (p : List ℕ) → pattern_check p ≡ Fine → Accepted p
+pub pattern-fine : (p : List ℕ) → pattern_check p ≡ Ok tt → Accepted p
 unfolding pattern_check bytes_check
 pattern-fine p h =
     let t = else-fine (bytes_check p) _ h in
@@ -85,21 +85,21 @@ pattern-fine p h =
     }
 
 module _ (p : List ℕ) (h : Accepted p) where
-  pub fine-bytes : bytes_check p ≡ Fine
+  pub fine-bytes : bytes_check p ≡ Ok tt
   unfolding bytes_check
   fine-bytes = rw (le-leb (length p) 256 h.short) (within-bytes PatternByte 1 127 0 p h.bytes)
 
-  pub fine-pattern : pattern_check p ≡ Fine
+  pub fine-pattern : pattern_check p ≡ Ok tt
   unfolding pattern_check
   fine-pattern = rw (fine-bytes, h.quotes)
 
 -- what a write whose checks are fine can rely on
 pub record Writes (pair : Pair) (book : Book) (p : List ℕ) (f : Fields) (room : ℕ) : Type 0 where
-  pub pattern : pattern_check p ≡ Fine
-  pub fields : fields_check f ≡ Fine
+  pub pattern : pattern_check p ≡ Ok tt
+  pub fields : fields_check f ≡ Ok tt
   pub fits : length (text pair book p f) ≤ room
 
-pub write-fine : (pair : Pair) (book : Book) (p : List ℕ) (f : Fields) (room : ℕ) → write_check pair book p f room ≡ Fine → Writes pair book p f room
+pub write-fine : (pair : Pair) (book : Book) (p : List ℕ) (f : Fields) (room : ℕ) → write_check pair book p f room ≡ Ok tt → Writes pair book p f room
 unfolding write_check
 write-fine pair book p f room h =
     let n = length (text pair book p f) in
@@ -109,12 +109,12 @@ write-fine pair book p f room h =
 
 -- and what it asks for
 module _ {pair : Pair} {book : Book} {p : List ℕ} {f : Fields} {room : ℕ} (h : Writes pair book p f room) where
-  pub fine-write : write_check pair book p f room ≡ Fine
+  pub fine-write : write_check pair book p f room ≡ Ok tt
   unfolding write_check
   fine-write = rw (h.pattern, h.fields, le-leb (length (text pair book p f)) room h.fits)
 
 -- what a text whose checks are fine can rely on
-pub text-short : (s : List ℕ) → text_check s ≡ Fine → length s ≤ 2048
+pub text-short : (s : List ℕ) → text_check s ≡ Ok tt → length s ≤ 2048
 unfolding text_check
 text-short s h =
     let short = refuse_unless (leb (length s) 2048) (TextTooLong (length s)) in

@@ -1,5 +1,6 @@
 -- Request [2]: a number has one day, a day that has a number comes back from it, and a number from its day. And the first and the
 -- last day that have one.
+use Rattle.std.specs.Prelude.{Ok, Err}
 use mathlib.Core.Bool.{true}
 use mathlib.Core.Path.{◌≡◌, sym, ap, ◌∙◌}
 use Prim.Native.Nat.{ℕ, suc, ◌+◌, ◌-◌}
@@ -9,7 +10,6 @@ use lib.IntN.{ℤ, pos, negsuc}
 use Rattle.meaning.specs.Calendar.{leap, days_on, total, before_month, is_date, day_of_year, date_number}
 use Rattle.meaning.specs.Days.{DayOf, is_short, day_number}
 use Rattle.meaning.specs.declared.Day.{Day}
-use Rattle.meaning.specs.declared.DayNumber.TheVariants as number
 use Rattle.meaning.specs.declared.Refusal.{Refusal}
 use Rattle.meaning.specs.declared.Refusal.TheVariants.{NoSuchDay, NoDayNumber}
 use Rattle.laws.proofs.CalendarDates.{SameDate, is-date, one-date}
@@ -29,7 +29,7 @@ short-is (pos n) h = omega (arith, leb-true n 2147483647 h)
 short-is (negsuc n) h = omega (arith, leb-true (suc n) 2147483648 h)
 
 -- every number comes back from its day
-pub number-comes-back : (z : ℤ) (r : Day) → Short z → DayOf z r → day_number r.year r.month r.day ≡ number.Number z
+pub number-comes-back : (z : ℤ) (r : Day) → Short z → DayOf z r → day_number r.year r.month r.day ≡ Ok z
 unfolding day_number
 number-comes-back z r short k = rw (k.real, k.numbered, is-short z short)
 
@@ -38,21 +38,21 @@ record Numbered (y : ℤ) (m d : ℕ) (z : ℤ) : Type 0 where
   real : is_date y m d ≡ true
   is : date_number y m d ≡ z
 
-refused-no-number : {P : Type 0} (why : Refusal) (z : ℤ) → number.Refused why ≡ number.Number z → P
+refused-no-number : {P : Type 0} (why : Refusal) (z : ℤ) → Err why ≡ Ok z → P
 refused-no-number why z e = absurd (let f : ◌≡◌ {A = ℕ} 0 1 = cc in omega arith)
 
-numbered : (y : ℤ) (m d : ℕ) (z : ℤ) → day_number y m d ≡ number.Number z → Numbered y m d z
+numbered : (y : ℤ) (m d : ℕ) (z : ℤ) → day_number y m d ≡ Ok z → Numbered y m d z
 unfolding day_number
 numbered y m d z e =
     by-test (is_date y m d)
     (λ t.
     by-test (is_short (date_number y m d))
-    (λ s. let f : number.Number (date_number y m d) ≡ number.Number z = rw (t, s) at e in record { real = t; is = cc })
+    (λ s. let f : Ok (date_number y m d) ≡ Ok z = rw (t, s) at e in record { real = t; is = cc })
     (λ s. refused-no-number NoDayNumber z (rw (t, s) at e)))
     (λ t. refused-no-number NoSuchDay z (rw t at e))
 
 -- every day that has a number comes back from it
-pub day-comes-back : (y : ℤ) (m d : ℕ) (z : ℤ) (r : Day) → day_number y m d ≡ number.Number z → DayOf z r → SameDate r.year y r.month m r.day d
+pub day-comes-back : (y : ℤ) (m d : ℕ) (z : ℤ) (r : Day) → day_number y m d ≡ Ok z → DayOf z r → SameDate r.year y r.month m r.day d
 day-comes-back y m d z r e k =
     let n = numbered y m d z e in
     one-date r.year y r.month m r.day d (is-date r.year r.month r.day k.real) (is-date y m d n.real) (k.numbered ∙ sym n.is)
@@ -90,18 +90,18 @@ june day =
     let e : days_on 389 ≡ 142079 = omega (arith, days-on 389) in
     in-year (negsuc 5879610) (151 + day - 1) y ∙ ap (λ (n : ℕ). day_at (n + (151 + day - 1))) e
 
-pub last-day : day_number (pos 5879611) 7 12 ≡ number.Number (pos 2147483647)
+pub last-day : day_number (pos 5879611) 7 12 ≡ Ok (pos 2147483647)
 unfolding leap is_date day_number
 last-day = rw (july 12)
 
-pub after_last : day_number (pos 5879611) 7 13 ≡ number.Refused NoDayNumber
+pub after_last : day_number (pos 5879611) 7 13 ≡ Err NoDayNumber
 unfolding leap is_date day_number
 after_last = rw (july 13)
 
-pub first-day : day_number (negsuc 5879610) 6 23 ≡ number.Number (negsuc 2147483647)
+pub first-day : day_number (negsuc 5879610) 6 23 ≡ Ok (negsuc 2147483647)
 unfolding leap is_date day_number
 first-day = rw (june 23)
 
-pub before-first : day_number (negsuc 5879610) 6 22 ≡ number.Refused NoDayNumber
+pub before-first : day_number (negsuc 5879610) 6 22 ≡ Err NoDayNumber
 unfolding leap is_date day_number
 before-first = rw (june 22)

@@ -1,6 +1,7 @@
 -- A promise that equates a result with a definition determines it: two results that it allows coincide, and so do two outputs.
 -- Then the promise of each public function; that of the check is `answers-coincide` in `trust`, that of the day of a number
 -- `days-coincide` in `DayNumbers`, that of a mending `mends-coincide` in `trust`.
+use Rattle.std.specs.Prelude.{Option, Result}
 use mathlib.Core.Bool.{Bool}
 use mathlib.Core.List.{List}
 use mathlib.Core.Path.{◌≡◌, sym, ◌∙◌}
@@ -12,19 +13,15 @@ use Rattle.meaning.specs.Names.{Book}
 use Rattle.meaning.specs.Promises.{SameAnswer, Splits, Writes, Reads, ParsesOffset, TellsRead, NumbersDay, OpensBook, WritesBook, ReadsList, ReadsLine, Undoes, ReadsStamp, WritesStamp}
 use Rattle.meaning.specs.declared.Change.{Change}
 use Rattle.meaning.specs.declared.Choices.{Choices}
-use Rattle.meaning.specs.declared.DayNumber.{DayNumber}
+use Rattle.meaning.specs.Results.{DayNumber, Listed, Offset, Stamped, Undone, Wrote}
 use Rattle.meaning.specs.declared.Fields.{Fields}
 use Rattle.meaning.specs.declared.LineRead.{LineRead}
-use Rattle.meaning.specs.declared.Listed.{Listed}
-use Rattle.meaning.specs.declared.Offset.{Offset}
 use Rattle.meaning.specs.declared.Pair.{Pair}
 use Rattle.meaning.specs.declared.ParseUnit.{ParseUnit}
 use Rattle.meaning.specs.declared.Reading.{Reading}
 use Rattle.meaning.specs.declared.Split.{Split}
-use Rattle.meaning.specs.declared.Undone.{Undone}
+use Rattle.meaning.specs.declared.Refusal.{Refusal}
 use Rattle.meaning.specs.declared.Stamp.{Stamp}
-use Rattle.meaning.specs.declared.Stamped.{Stamped}
-use Rattle.meaning.specs.declared.Wrote.{Wrote}
 
 pub determined : {A : Type 0} {d r s : A} → r ≡ d → s ≡ d → r ≡ s
 determined e f = e ∙ sym f
@@ -33,7 +30,7 @@ pub same-determined : {A : Type 0} {answer : A → Answer} {d r s : A} → SameA
 same-determined e f = determined e.whole f.whole
 
 -- pattern::parse_format_string
-pub splits-coincide : (p : List ℕ) {r s : Split} → Splits p r → Splits p s → r ≡ s
+pub splits-coincide : (p : List ℕ) {r s : Result Split Refusal} → Splits p r → Splits p s → r ≡ s
 splits-coincide p = same-determined
 
 -- writer::format and writer::date::format
@@ -41,7 +38,7 @@ pub writes-coincide : (pair : Pair) (book : Book) (p : List ℕ) (f : Fields) (o
 writes-coincide pair book p f out w v = (same-determined w.0 v.0, determined w.1 v.1)
 
 -- reader::parse_with, and reader::parse and reader::date::parse, which have no choice
-pub reads-coincide : (choices : Choices) (book : Book) (p s : List ℕ) (current : ℤ) {r t : Reading} → Reads choices book p s current r
+pub reads-coincide : (choices : Choices) (book : Book) (p s : List ℕ) (current : ℤ) {r t : Result Reading Refusal} → Reads choices book p s current r
     → Reads choices book p s current t → r ≡ t
 reads-coincide choices book p s current = same-determined
 
@@ -69,7 +66,7 @@ pub lists-coincide : (choices : Choices) (book : Book) (p s : List ℕ) (current
     → ReadsList choices book p s current rows r after → ReadsList choices book p s current rows t after' → (r ≡ t) × (after ≡ after')
 lists-coincide choices book p s current rows w v = (same-determined w.0 v.0, determined w.1 v.1)
 
-pub lines-coincide : (choices : Choices) (book : Book) (p s : List ℕ) (at : ℕ) (current : ℤ) {r t : LineRead}
+pub lines-coincide : (choices : Choices) (book : Book) (p s : List ℕ) (at : ℕ) (current : ℤ) {r t : Option LineRead}
     → ReadsLine choices book p s at current r → ReadsLine choices book p s at current t → r ≡ t
 lines-coincide choices book p s at current = determined
 

@@ -1,4 +1,5 @@
 -- What the check of a record says, as bounds of its fields, and how many digits each quantity can have.
+use Rattle.std.specs.Prelude.{Ok}
 use mathlib.Core.Path.{◌≡◌}
 use Prim.Native.Nat.{ℕ, zero, suc, ◌+◌, ◌-◌, ◌/◌, ◌%◌, ◌^◌, ◌≤◌, ◌<◌}
 use native.Mathlib.Nat.{div-lt_iff_lt-mul, pow-le-pow_right, pow-suc}
@@ -9,8 +10,7 @@ use lib.Pow.{pow-add}
 use borrow.Author.Tests.{leb-true, leb-false}
 use Rattle.meaning.specs.Answers.{◌else◌, refuse_unless, within, fields_check}
 use Rattle.meaning.specs.Writing.{quantity_of, in_place_of_zero, hour_of}
-use Rattle.meaning.specs.declared.Checked.{Checked}
-use Rattle.meaning.specs.declared.Checked.TheVariants.{Fine}
+use Rattle.meaning.specs.Results.{Checked}
 use Rattle.meaning.specs.declared.Fields.{Fields}
 use Rattle.meaning.specs.declared.Quantity.{Quantity}
 use Rattle.meaning.specs.declared.Quantity.TheVariants.{Month, Quarter, Week, Day, DayOfYear, Weekday, WeekdayFromMonday, Hour1To12, Hour0To11, Hour0To23, Hour1To24, Minute, Second, Fraction}
@@ -30,16 +30,16 @@ pub record Allowed (f : Fields) : Type 0 where
   pub offset : nat_abs f.offset ≤ 86399
 
 -- a bound of a field, and the checks behind it
-in-range : (low high n : ℕ) (why : Refusal) (next : Checked) → (refuse_unless (within low high n) why else next) ≡ Fine
-    → ((low ≤ n) × (n ≤ high)) × (next ≡ Fine)
+in-range : (low high n : ℕ) (why : Refusal) (next : Checked) → (refuse_unless (within low high n) why else next) ≡ Ok tt
+    → ((low ≤ n) × (n ≤ high)) × (next ≡ Ok tt)
 in-range low high n why next h =
     let t = else-fine (refuse_unless (within low high n) why) next h in
     (within-is low high n (fine-unless (within low high n) why t.0), t.1)
 
-last-in-range : (low high n : ℕ) (why : Refusal) → refuse_unless (within low high n) why ≡ Fine → (low ≤ n) × (n ≤ high)
+last-in-range : (low high n : ℕ) (why : Refusal) → refuse_unless (within low high n) why ≡ Ok tt → (low ≤ n) × (n ≤ high)
 last-in-range low high n why h = within-is low high n (fine-unless (within low high n) why h)
 
-pub allowed : (f : Fields) → fields_check f ≡ Fine → Allowed f
+pub allowed : (f : Fields) → fields_check f ≡ Ok tt → Allowed f
 unfolding fields_check
 allowed f h =
     let year = in-range 1 5879611 (nat_abs f.year) _ _ h in

@@ -1,5 +1,6 @@
 -- Two half patterns side by side: the join has the parts of the one and then those of the other, it is accepted, and to write it
 -- is to write the one and, behind that, the other. The empty pattern is neutral.
+use Rattle.std.specs.Prelude.{Result, Ok, Err}
 use mathlib.Core.Bool.{false}
 use mathlib.Core.List.{List, [], ◌∷◌, ◌++◌, map, append-nil, append_assoc, map-append}
 use mathlib.Core.Path.{◌≡◌, refl, ap, ◌∙◌}
@@ -13,11 +14,11 @@ use Rattle.meaning.specs.Names.{Book}
 use Rattle.meaning.specs.Splitting.{Content, contents, length_of, parts_from, parts}
 use Rattle.meaning.specs.Whole.{split_into, split, text, write, output}
 use Rattle.meaning.specs.Writing.{step_of, steps, texts}
-use Rattle.meaning.specs.declared.Checked.TheVariants.{Fine}
 use Rattle.meaning.specs.declared.Fields.{Fields}
 use Rattle.meaning.specs.declared.Pair.{Pair}
 use Rattle.meaning.specs.declared.Part.{Part}
-use Rattle.meaning.specs.declared.Wrote.TheVariants as wrote
+use Rattle.meaning.specs.declared.Refusal.{Refusal}
+use Rattle.meaning.specs.declared.Split.{Split}
 use Rattle.laws.specs.Halves.{ends_open, starts_quoted, meet_equal, Beside, moved}
 use Rattle.laws.proofs.Checks.{Accepted, pattern-fine, fine-bytes, fine-pattern, Writes}
 use Rattle.laws.proofs.Seams as seams
@@ -25,6 +26,11 @@ use Rattle.laws.proofs.Splitting.{total, parts-fill}
 use Rattle.laws.proofs.Tests.{every_append}
 use Rattle.laws.proofs.Texts.{texts-join}
 use Rattle.laws.proofs.Writes.{wrote-length, length-wrote, output-wrote}
+
+-- how many parts an answer has
+abbrev pub used_of : Result Split Refusal → ℕ
+used_of (Ok s) = s.used
+used_of (Err why) = 0
 
 -- the parts of contents one after the other, and of those behind k bytes more
 
@@ -78,18 +84,18 @@ module _ {p q : List ℕ} (beside : Beside p q) where
         quotes = lone-quote p q beside.closed beside.apart a.quotes b.quotes;
       }
 
-  pub bytes-join : bytes_check (p ++ q) ≡ Fine
+  pub bytes-join : bytes_check (p ++ q) ≡ Ok tt
   bytes-join = fine-bytes (p ++ q) accepted
 
-  pub check-join : pattern_check (p ++ q) ≡ Fine
+  pub check-join : pattern_check (p ++ q) ≡ Ok tt
   check-join = fine-pattern (p ++ q) accepted
 
   -- the split has these parts, and no part behind them
-  pub split-join : split (p ++ q) ≡ split_into Fine (parts p ++ map (moved (length p)) (parts q))
+  pub split-join : split (p ++ q) ≡ Ok (split_into (parts p ++ map (moved (length p)) (parts q)))
   unfolding split
   split-join = rw (bytes-join, parts_join)
 
-  pub used-join : (split (p ++ q)).used ≡ (split p).used + (split q).used
+  pub used-join : used_of (split (p ++ q)) ≡ used_of (split p) + used_of (split q)
   unfolding split
   used-join =
       rw (bytes-join, fine-bytes p (pattern-fine p beside.first), fine-bytes q (pattern-fine q beside.second), parts_join)
@@ -131,8 +137,8 @@ module _ {p q : List ℕ} (beside : Beside p q) where
         output-wrote pair book (p ++ q) f out (writes-join a b)
         ∙ rw (length-join, text-join pair book f, first, second, take-append_seam, drop-drop, append_assoc)
 
-    pub write-join : {n m : ℕ} → write pair book p f out ≡ wrote.Length n → write pair book q f (drop n out) ≡ wrote.Length m
-        → (write pair book (p ++ q) f out ≡ wrote.Length (n + m))
+    pub write-join : {n m : ℕ} → write pair book p f out ≡ Ok n → write pair book q f (drop n out) ≡ Ok m
+        → (write pair book (p ++ q) f out ≡ Ok (n + m))
         × (output pair book (p ++ q) f out ≡ take n (output pair book p f out) ++ output pair book q f (drop n out))
     write-join {n} {m} h k =
         let a = wrote-length pair book p f out h in
@@ -141,9 +147,9 @@ module _ {p q : List ℕ} (beside : Beside p q) where
         (length-wrote pair book (p ++ q) f out (writes-join a.0 b.0) ∙ rw length-join, output-join a.0 b.0)
 
     -- and where the join is written, so are both
-    pub write-halves : {l : ℕ} → write pair book (p ++ q) f out ≡ wrote.Length l
-        → (l ≡ length one + length other) × (write pair book p f out ≡ wrote.Length (length one))
-        × (write pair book q f (drop (length one) out) ≡ wrote.Length (length other))
+    pub write-halves : {l : ℕ} → write pair book (p ++ q) f out ≡ Ok l
+        → (l ≡ length one + length other) × (write pair book p f out ≡ Ok (length one))
+        × (write pair book q f (drop (length one) out) ≡ Ok (length other))
     write-halves h =
         let a = wrote-length pair book (p ++ q) f out h in (
           a.1 ∙ length-join,
@@ -155,7 +161,7 @@ module _ {p q : List ℕ} (beside : Beside p q) where
 
 -- The empty pattern is neutral: it is beside every accepted pattern, before it and behind it, and has no part and no text.
 
-empty-accepted : pattern_check [] ≡ Fine
+empty-accepted : pattern_check [] ≡ Ok tt
 unfolding pattern_check
 empty-accepted = refl
 
@@ -165,7 +171,7 @@ nothing-met [] = refl
 nothing-met (a ∷ []) = refl
 nothing-met (a ∷ b ∷ p) = nothing-met (b ∷ p)
 
-pub empty-first : (q : List ℕ) → pattern_check q ≡ Fine → Beside [] q
+pub empty-first : (q : List ℕ) → pattern_check q ≡ Ok tt → Beside [] q
 empty-first q h =
     record {
       first = empty-accepted;
@@ -175,7 +181,7 @@ empty-first q h =
       short = omega (arith, (pattern-fine q h).short);
     }
 
-pub empty-second : (p : List ℕ) → pattern_check p ≡ Fine → Beside p []
+pub empty-second : (p : List ℕ) → pattern_check p ≡ Ok tt → Beside p []
 empty-second p h =
     record {
       first = h;

@@ -1,5 +1,6 @@
 -- The laws of lists. The first line of a text is the one before its first newline, and behind that stand the other lines; so the lines
 -- are found by places, one after the other. How many there are is told by the newlines. And line i's cells depend on line i alone.
+use Rattle.std.specs.Prelude.{Option, Some, None, Result, Ok}
 use mathlib.Core.Bool.{true, false}
 use mathlib.Core.List.{List, [], ◌∷◌, map}
 use mathlib.Core.Path.{◌≡◌, refl, sym, ap, ◌∙◌}
@@ -13,14 +14,14 @@ use native.Mathlib.Numerals.{add-one}
 use borrow.Author.Tests.{eq-eqb, ne_eqb, leb-true, leb-false, ltb-true, ltb-false}
 use Rattle.meaning.specs.Answers.{◌else◌, refuse_unless, pattern_check, current_year_check}
 use Rattle.meaning.specs.Bytes.{when, both}
-use Rattle.meaning.specs.Lists.{newline, before, lines, read_lines, Rows, cell, code_of, laid, hold, list_check, list_rows, no_line, line_at, read_line}
+use Rattle.meaning.specs.Lists.{newline, before, lines, read_lines, Rows, cell, code_of, laid, hold, list_check, list_rows, line_at, read_line}
 use Rattle.meaning.specs.Names.{Book}
 use Rattle.meaning.specs.Whole.{read}
-use Rattle.meaning.specs.declared.Checked.TheVariants.{Fine}
 use Rattle.meaning.specs.declared.Choices.{Choices}
 use Rattle.meaning.specs.declared.LineRead.{LineRead}
 use Rattle.meaning.specs.declared.ParseUnit.TheVariants.{Year, Month, DayOfMonth}
 use Rattle.meaning.specs.declared.Reading.{Reading}
+use Rattle.meaning.specs.declared.Refusal.{Refusal}
 use Rattle.meaning.specs.declared.Refusal.TheVariants.{ShortRow}
 use Rattle.laws.specs.Lists.{line_length, line_end, next_line, newlines, cells_at, cells_of, stepped}
 use Rattle.laws.proofs.Checks.{else-fine, fine-unless}
@@ -177,8 +178,8 @@ room n rows h =
       codes = leb-true n _ e.1;
     }
 
-module _ (rs : List Reading) (rows : Rows) where
-  cells-laid : (i : ℕ) (d : Reading) → i < length rs → Room (length rs) rows → cells_at i (laid rs rows) ≡ cells_of (get_or rs i d)
+module _ (rs : List (Result Reading Refusal)) (rows : Rows) where
+  cells-laid : (i : ℕ) (d : Result Reading Refusal) → i < length rs → Room (length rs) rows → cells_at i (laid rs rows) ≡ cells_of (get_or rs i d)
   cells-laid i d h r =
       rw (
         get-laid (cell DayOfMonth) rs rows.days i d (pos 0) h r.days,
@@ -187,7 +188,7 @@ module _ (rs : List Reading) (rows : Rows) where
         get-laid code_of rs rows.codes i d 0 h r.codes,
       )
 
-  past : {B : Type 0} (f : Reading → B) (row : List B) (i : ℕ) (e : B) → length rs ≤ i → get_or (sets row 0 (map f rs)) i e ≡ get_or row i e
+  past : {B : Type 0} (f : Result Reading Refusal → B) (row : List B) (i : ℕ) (e : B) → length rs ≤ i → get_or (sets row 0 (map f rs)) i e ≡ get_or row i e
   past f row i e h = get-past row 0 (map f rs) i e (omega (arith, length-map rs f))
 
   cells-past : (i : ℕ) → length rs ≤ i → cells_at i (laid rs rows) ≡ cells_at i rows
@@ -199,7 +200,7 @@ module _ (rs : List Reading) (rows : Rows) where
         past code_of rows.codes i 0 h,
       )
 
-module _ (choices : Choices) (book : Book) (p s : List ℕ) (current : ℤ) (rows : Rows) (fine : list_check choices.edition p s current rows ≡ Fine) where
+module _ (choices : Choices) (book : Book) (p s : List ℕ) (current : ℤ) (rows : Rows) (fine : list_check choices.edition p s current rows ≡ Ok tt) where
   pub list-room : Room (length (lines s)) rows
   unfolding list_check
   list-room =
@@ -228,7 +229,7 @@ module _ (choices : Choices) (book : Book) (p s : List ℕ) (current : ℤ) (row
 
 -- whatever the texts and the rows are
 pub line-alone : (choices : Choices) (book : Book) (p : List ℕ) (current : ℤ) (s t : List ℕ) (rows rows' : Rows)
-    → list_check choices.edition p s current rows ≡ Fine → list_check choices.edition p t current rows' ≡ Fine
+    → list_check choices.edition p s current rows ≡ Ok tt → list_check choices.edition p t current rows' ≡ Ok tt
     → (i : ℕ) → i < length (lines s) → i < length (lines t) → get_or (lines s) i [] ≡ get_or (lines t) i []
     → cells_at i (list_rows choices book p s current rows) ≡ cells_at i (list_rows choices book p t current rows')
 line-alone choices book p current s t rows rows' fine fine' i h k e =
@@ -237,20 +238,24 @@ line-alone choices book p current s t rows rows' fine fine' i h k e =
     ∙ sym (line-cells choices book p t current rows' fine' i k)
 
 -- a step by what it gives
-step_by : (give : ℕ → LineRead) (steps at : ℕ) (l : LineRead) → give at ≡ l
-    → stepped give (suc steps) at ≡ elim l.there [ true ↦ l.reading ∷ stepped give steps l.next | false ↦ [] ]
+step_by : (give : ℕ → Option LineRead) (steps at : ℕ) (l : LineRead) → give at ≡ Some l
+    → stepped give (suc steps) at ≡ l.reading ∷ stepped give steps l.next
 unfolding stepped
-step_by give steps at l e = ap (λ (m : LineRead). elim m.there [ true ↦ m.reading ∷ stepped give steps m.next | false ↦ [] ]) e
+step_by give steps at l e = rw (stepped, e) refl
+
+no-step : (give : ℕ → Option LineRead) (steps at : ℕ) → give at ≡ None → stepped give (suc steps) at ≡ []
+unfolding stepped
+no-step give steps at e = rw (stepped, e) refl
 
 -- The line reader gives the line at a place, as it is read by itself, and none at the end; so its steps give the lines in order.
 
 module _ (choices : Choices) (book : Book) (p s : List ℕ) (current : ℤ) where
   pub line_read : (at : ℕ) → at < length s
-      → read_line choices book p s at current ≡ line_at (length s) at (take (line_end s at - at) (drop at s)) (read choices book p (take (line_end s at - at) (drop at s)) current)
+      → read_line choices book p s at current ≡ Some (line_at (length s) at (take (line_end s at - at) (drop at s)) (read choices book p (take (line_end s at - at) (drop at s)) current))
   unfolding read_line
   line_read at h = rw (line-there s at h)
 
-  pub no-line-read : (at : ℕ) → length s ≤ at → read_line choices book p s at current ≡ no_line
+  pub no-line-read : (at : ℕ) → length s ≤ at → read_line choices book p s at current ≡ None
   unfolding read_line
   no-line-read at h = rw (line-none s at h)
 
@@ -270,7 +275,7 @@ module _ (choices : Choices) (book : Book) (p s : List ℕ) (current : ℤ) wher
       ∙ rw (line-there s at inside, line-long at (omega arith), on))
       (λ e.
       let past : length s ≤ at = ltb-false at (length s) e in
-      step_by (λ i. read_line choices book p s i current) steps at no_line (no-line-read at past) ∙ rw (line-none s at past))
+      no-step (λ i. read_line choices book p s i current) steps at (no-line-read at past) ∙ rw (line-none s at past))
 
   pub steps-are-lines : stepped (λ at. read_line choices book p s at current) (length s) 0 ≡ read_lines choices book p s current
   unfolding read_lines

@@ -1,5 +1,6 @@
 -- Each condition of `Beside` is needed: two accepted patterns that meet all but one, and what is written of their join is not
 -- what they write one after the other. An open quote, equal bytes, two quotes, 257 bytes.
+use Rattle.std.specs.Prelude.{Ok, Err}
 use mathlib.Core.Bool.{Bool, true, false, not}
 use mathlib.Core.List.{List, [], ◌∷◌, ◌++◌, map}
 use mathlib.Core.Path.{◌≡◌, refl}
@@ -14,8 +15,7 @@ use Rattle.meaning.specs.Whole.{write}
 use Rattle.meaning.specs.declared.Fields.{Fields}
 use Rattle.meaning.specs.declared.Pair.TheVariants.{Full}
 use Rattle.meaning.specs.declared.Refusal.TheVariants.{PatternTooLong}
-use Rattle.meaning.specs.declared.Wrote.{Wrote}
-use Rattle.meaning.specs.declared.Wrote.TheVariants.{Length, Refused}
+use Rattle.meaning.specs.Results.{Wrote}
 use Rattle.laws.specs.Halves.{starts_quoted, meet_equal}
 use Rattle.laws.proofs.Tests.{every}
 
@@ -38,9 +38,9 @@ answer p = write Full english p day (replicate 300 0)
 
 -- as many bytes as both
 abbrev and_then : Wrote → Wrote → Wrote
-and_then (Length n) (Length m) = Length (n + m)
-and_then (Length n) (Refused why) = Refused why
-and_then (Refused why) other = Refused why
+and_then (Ok n) (Ok m) = Ok (n + m)
+and_then (Ok n) (Err why) = Err why
+and_then (Err why) other = Err why
 
 pub asked : List ℕ → List ℕ → Row
 asked p q =
@@ -60,10 +60,10 @@ row p q quoted equal n apart joined =
 
 pub table : List Row
 table =
-    row (bytes "'a") (bytes "d") true false 3 (Length 3) (Length 2)
-    ∷ row (bytes "d") (bytes "d") false true 2 (Length 4) (Length 2)
-    ∷ row (bytes "'a'") (bytes "'b'") false true 6 (Length 2) (Length 3)
-    ∷ row (replicate 256 (code "/")) (bytes "-") false false 257 (Length 257) (Refused (PatternTooLong 257))
+    row (bytes "'a") (bytes "d") true false 3 (Ok 3) (Ok 2)
+    ∷ row (bytes "d") (bytes "d") false true 2 (Ok 4) (Ok 2)
+    ∷ row (bytes "'a'") (bytes "'b'") false true 6 (Ok 2) (Ok 3)
+    ∷ row (replicate 256 (code "/")) (bytes "-") false false 257 (Ok 257) (Err (PatternTooLong 257))
     ∷ []
 
 pub answers : map (λ r. asked r.first r.second) table ≡ table
@@ -71,9 +71,9 @@ unfolding table asked write bytes num starts_quoted meet_equal
 answers = refl
 
 abbrev differ : Wrote → Wrote → Bool
-differ (Length n) (Length m) = not (eqb n m)
-differ (Length n) (Refused why) = true
-differ (Refused why) other = false
+differ (Ok n) (Ok m) = not (eqb n m)
+differ (Ok n) (Err why) = true
+differ (Err why) other = false
 
 pub all-differ : every (λ r. differ r.apart r.joined) table ≡ true
 unfolding table every

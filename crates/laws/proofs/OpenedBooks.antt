@@ -1,5 +1,6 @@
 -- Any row that is lent stands for a book with as many names as there must be, none longer than it may be: so what is written with it
 -- has its eight bytes for each pattern byte, whatever the row holds.
+use Rattle.std.specs.Prelude.{Ok}
 use mathlib.Core.List.{List, [], ◌∷◌}
 use mathlib.Core.Option.{Option, none, some}
 use mathlib.Core.Path.{◌≡◌, refl, sym, ap, ◌∙◌}
@@ -14,7 +15,6 @@ use Rattle.meaning.specs.Names.{Book, english, names}
 use Rattle.meaning.specs.OpenedBooks.{name_at, names_at, opened_size, opened_book, book_in}
 use Rattle.meaning.specs.Whole.{text}
 use Rattle.meaning.specs.Writing.{place_of}
-use Rattle.meaning.specs.declared.Checked.TheVariants.{Fine}
 use Rattle.meaning.specs.declared.Fields.{Fields}
 use Rattle.meaning.specs.declared.NameList.{NameList}
 use Rattle.meaning.specs.declared.NameList.TheVariants.{EraAbbreviated, EraNarrow, EraWide, QuarterWide, MonthAbbreviated, MonthWide, MonthNarrow, WdayAbbreviated, WdayWide, WdayNarrow, WdayShort, PeriodUpper, PeriodLower, PeriodDotted, PeriodLetter, NoonUpper, NoonLower, NoonDotted, NoonLetter}
@@ -96,9 +96,9 @@ opened-as-many row l =
 pub opened-there : (row : List ℕ) (l : NameList) (f : Fields) → Allowed f → place_of l f < length (names (book_in row) l)
 opened-there row l f h = rw (opened-as-many row l) (place-there l f h)
 
-pub opened-eight-bytes : (row : List ℕ) (pair : Pair) (p : List ℕ) (f : Fields) → fields_check f ≡ Fine → length (text pair (book_in row) p f) ≤ 8 * length p
+pub opened-eight-bytes : (row : List ℕ) (pair : Pair) (p : List ℕ) (f : Fields) → fields_check f ≡ Ok tt → length (text pair (book_in row) p f) ≤ 8 * length p
 opened-eight-bytes row pair p f h = eight-bytes (book_in row) (opened-short row) f pair p h
 
-pub opened-text-fits : (row : List ℕ) (pair : Pair) (p : List ℕ) (f : Fields) → pattern_check p ≡ Fine → fields_check f ≡ Fine
+pub opened-text-fits : (row : List ℕ) (pair : Pair) (p : List ℕ) (f : Fields) → pattern_check p ≡ Ok tt → fields_check f ≡ Ok tt
     → length (text pair (book_in row) p f) ≤ 2048
 opened-text-fits row pair p f h k = text-fits (book_in row) (opened-short row) f pair p h k

@@ -1,5 +1,6 @@
 -- Books that are opened: the row stands for the book that was read, which is a valid one; what was written reads as itself; and a
 -- book of version 1 that was read is written as it was.
+use Rattle.std.specs.Prelude.{Ok}
 use mathlib.Core.Bool.{Bool, true}
 use mathlib.Core.List.{List, [], ◌∷◌, ◌++◌, map, append_assoc}
 use mathlib.Core.Path.{◌≡◌, refl, sym, ap, ◌∙◌}
@@ -13,9 +14,7 @@ use Rattle.meaning.specs.Answers.{within}
 use Rattle.meaning.specs.Books.{Shelf, shelves, book_of, lists_of, joined, names_of, all_letters, names_check, Valid}
 use Rattle.meaning.specs.Names.{Book}
 use Rattle.meaning.specs.OpenedBooks.{name_at, names_at, book_in, in_room, opened_names}
-use Rattle.meaning.specs.declared.Checked.TheVariants.{Fine}
 use Rattle.laws.proofs.BookRules.{fits, Goods, good-lists}
-use Rattle.laws.proofs.Books.{opened}
 use Rattle.laws.proofs.Tests.{both_true, every, every_append, every-weaker}
 
 -- a name in its room
@@ -163,16 +162,16 @@ module _ (ns : List (List ℕ)) (all : length ns ≡ 64) where
   pub names-of-book : names_of (book_of ns) ≡ ns
   names-of-book = joined-cuts (map (λ s. s.count) shelves) 0 ns all
 
-  pub book-valid : names_check shelves 1 ns ≡ Fine → Valid (book_of ns)
+  pub book-valid : names_check shelves 1 ns ≡ Ok tt → Valid (book_of ns)
   book-valid good = record { counts = count-cuts (map (λ s. s.count) shelves) 0 ns all; good = rw names-of-book good }
 
   -- none has more letters than its room
-  pub all_short : names_check shelves 1 ns ≡ Fine → every (short 20) ns ≡ true
+  pub all_short : names_check shelves 1 ns ≡ Ok tt → every (short 20) ns ≡ true
   unfolding every
   all_short good =
       let v = book-valid good in
       rw names-of-book at (joined-short shelves (lists_of (book_of ns)) refl v.counts (good-lists (book_of ns) v))
 
   -- so a row that they are opened into stands for their book
-  pub opened-book : names_check shelves 1 ns ≡ Fine → book_in (opened_names ns) ≡ book_of ns
+  pub opened-book : names_check shelves 1 ns ≡ Ok tt → book_in (opened_names ns) ≡ book_of ns
   opened-book good = rw names-of-book at (opened-is (book_of ns) (book-valid good))

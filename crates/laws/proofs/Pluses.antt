@@ -2,12 +2,13 @@
 -- stops where the bytes are there and begin with a plus; `number-at-plus`: it is stopped by a plus nowhere else.
 -- `read-but-for-plus` and `offset-but-for-plus`: reading and parse_offset answer 19 at a plus of the text, or all that they
 -- answered with the Rust's number reader. The laws before them go through the definitions of reading.
+use Rattle.std.specs.Prelude.{Ok, Err}
 use mathlib.Core.Bool.{Bool, true, false}
 use mathlib.Core.List.{List, [], ◌∷◌}
 use mathlib.Core.Logic.{◌⊎◌, inl, inr}
 use mathlib.Core.Option.{Option, none, some}
 use mathlib.Core.Path.{◌≡◌, refl, sym, ◌∙◌}
-use Prim.Native.Char.{Char, code}
+use Prim.Native.Char.{code}
 use Prim.Native.Nat.{ℕ, zero, suc, ◌+◌, ◌-◌}
 use native.Mathlib.Nat.{add-zero}
 use native.Mathlib.Omega.{arith}
@@ -26,16 +27,13 @@ use Rattle.meaning.specs.Reading.{minus_first, year_length, colon_length, zone_b
 use Rattle.meaning.specs.Whole.{Gave, Walk, refused_at, walk_with, read_by, read_check, read, offset_by, hour_and_minute, two_at_with, parse_offset}
 use Rattle.meaning.specs.Writing.{Step, literal, field, steps}
 use Rattle.meaning.specs.declared.Carried.{Carried}
-use Rattle.meaning.specs.declared.Checked.{Checked}
+use Rattle.meaning.specs.Results.{Checked, Offset}
 use Rattle.meaning.specs.declared.Choices.{Choices}
-use Rattle.meaning.specs.declared.Checked.TheVariants.{Fine, Refused}
 use Rattle.meaning.specs.declared.Edition.{Edition}
 use Rattle.meaning.specs.declared.Group.{Group}
 use Rattle.meaning.specs.declared.Group.TheVariants.{Never, NotZero, Always}
 use Rattle.meaning.specs.declared.Numeral.{Numeral}
 use Rattle.meaning.specs.declared.Numeral.TheVariants.{Count, Year}
-use Rattle.meaning.specs.declared.Offset.{Offset}
-use Rattle.meaning.specs.declared.Offset.TheVariants as offset
 use Rattle.meaning.specs.declared.Refusal.TheVariants.{InPart, OffsetLength}
 use Rattle.meaning.specs.declared.Rule.{Rule}
 use Rattle.meaning.specs.declared.Rule.TheVariants.{Number, SkippedNumber, LetterQuarter, SkippedName, MatchedName, Letters, Years, FixedYear, TwoDigitYear, Zone}
@@ -166,12 +164,12 @@ step-plus choices book current (field rule) s = rule-plus choices.edition book c
 -- the walk over the parts, and the whole reading
 
 data WalkPlusOrSame (text : List ℕ) : Walk → Walk → Type 0 where
-  refused-at-plus : {i place : ℕ} {v : Walk} → get_or text place 0 ≡ plus → WalkPlusOrSame text (refused_at (Refused (InPart PlusSign i place))) v
+  refused-at-plus : {i place : ℕ} {v : Walk} → get_or text place 0 ≡ plus → WalkPlusOrSame text (refused_at (InPart PlusSign i place)) v
   same-walk : {w : Walk} → WalkPlusOrSame text w w
 
 -- what follows part i at a place, by what it gave
 abbrev pub behind_part : ℕ → ℕ → (ℕ → Carried → Walk) → Got Carried → Walk
-behind_part i at next g = elim g [ got n c ↦ next n c | stopped why place ↦ refused_at (Refused (InPart why i (at + place))) ]
+behind_part i at next g = elim g [ got n c ↦ next n c | stopped why place ↦ refused_at (InPart why i (at + place)) ]
 
 module _ (text : List ℕ) (i at : ℕ) (next next' : ℕ → Carried → Walk) (h : (n : ℕ) (c : Carried) → WalkPlusOrSame text (next n c) (next' n c)) where
   same-part : (g : Got Carried) → WalkPlusOrSame text (behind_part i at next g) (behind_part i at next' g)
@@ -194,13 +192,13 @@ module _ (choices : Choices) (book : Book) (current : ℕ) (text : List ℕ) whe
       (step-plus choices book current step (drop at text))
 
 by-check : (s : List ℕ) (checked : Checked) {w v : Walk} → WalkPlusOrSame s w v
-    → RefusedAtPlus s (read_by checked w).checked ⊎ (read_by checked w ≡ read_by checked v)
-by-check s Fine (refused-at-plus {i} {place} e) = inl (record { part = i; place = place; refused = refl; there = e })
-by-check s Fine same-walk = inr refl
-by-check s (Refused why) h = inr refl
+    → RefusedAtPlus s (read_by checked w) ⊎ (read_by checked w ≡ read_by checked v)
+by-check s (Ok _) (refused-at-plus {i} {place} e) = inl (record { part = i; place = place; refused = refl; there = e })
+by-check s (Ok _) same-walk = inr refl
+by-check s (Err why) h = inr refl
 
 pub read-but-for-plus : (choices : Choices) (book : Book) (p s : List ℕ) (current : ℤ)
-    → RefusedAtPlus s (read choices book p s current).checked ⊎ (read choices book p s current ≡ read_with_plus choices book p s current)
+    → RefusedAtPlus s (read choices book p s current) ⊎ (read choices book p s current ≡ read_with_plus choices book p s current)
 unfolding read
 read-but-for-plus choices book p s current =
     by-check s (read_check choices.edition p s current) (walk-plus choices book (nat_abs current) s 0 0 (steps choices.pair p) [])
@@ -236,11 +234,11 @@ time-plus s east hour hour' minute minute' (inr e) m = rw (← e) (minute-plus s
 
 -- the checks before them, and Z
 checks-plus : (s : List ℕ) (checked : Checked) (z : Bool) (six : Checked) (o o' : Offset) → OffsetPlus s o o'
-    → OffsetPlus s (offset_by checked (when z (offset.Seconds (pos 0)) (offset_by six o))) (offset_by checked (when z (offset.Seconds (pos 0)) (offset_by six o')))
-checks-plus s (Refused why) z six o o' h = inr (inr refl)
-checks-plus s Fine true six o o' h = inr (inr refl)
-checks-plus s Fine false (Refused why) o o' h = inr (inr refl)
-checks-plus s Fine false Fine o o' h = h
+    → OffsetPlus s (offset_by checked (when z (Ok (pos 0)) (offset_by six o))) (offset_by checked (when z (Ok (pos 0)) (offset_by six o')))
+checks-plus s (Err why) z six o o' h = inr (inr refl)
+checks-plus s (Ok _) true six o o' h = inr (inr refl)
+checks-plus s (Ok _) false (Err why) o o' h = inr (inr refl)
+checks-plus s (Ok a) false (Ok b) o o' h = h
 
 pub offset-but-for-plus : (s : List ℕ)
     → OffsetAtPlus s 1 (parse_offset s) ⊎ OffsetAtPlus s 4 (parse_offset s) ⊎ (parse_offset s ≡ parse_offset_with_plus s)

@@ -1,5 +1,6 @@
 -- Laws of the readers that reading is made of: what each step gives where it goes on and where it stops, and one reader
 -- after the other. Proofs about reading cite these and do not open `skip` or `take_number`.
+use Rattle.std.specs.Prelude.{Ok}
 use mathlib.Core.Bool.{Bool, true, false}
 use mathlib.Core.List.{List, [], ◌∷◌, ◌++◌}
 use mathlib.Core.Option.{Option, none, some}
@@ -16,7 +17,6 @@ use Rattle.meaning.specs.Answers.{rest_check}
 use Rattle.meaning.specs.Bytes.{digit_at, plus}
 use Rattle.meaning.specs.Numerals.{Signed, all_digits, plus_first, number_of}
 use Rattle.meaning.specs.Readers.{got, stopped, Reader, behind, ◌>>=◌, skip, first_differing, same_by, same, take_number, reach}
-use Rattle.meaning.specs.declared.Checked.TheVariants.{Fine}
 use Rattle.meaning.specs.declared.Numeral.{Numeral}
 use Rattle.meaning.specs.declared.Numeral.TheVariants.{Count, Year}
 use Rattle.meaning.specs.declared.Trouble.{Trouble}
@@ -128,6 +128,6 @@ reach-exact (suc more) i s n h k d e = go (eq-or-lt_of_le h)
     go (inr l) ih = reach-on more i s (d i l) ∙ ih l
 
 -- where no byte remains, no reading leaves any
-pub none_left : (strict : Bool) (at : ℕ) (s : List ℕ) → length s ≤ 0 → rest_check strict at s ≡ Fine
+pub none_left : (strict : Bool) (at : ℕ) (s : List ℕ) → length s ≤ 0 → rest_check strict at s ≡ Ok tt
 none_left true at s h = rw (le-ltb 0 (length s) h)
 none_left false at s h = refl

@@ -1,5 +1,6 @@
 -- At most eight bytes are written for each pattern byte, with any book whose names are no longer than they may be, so a written
 -- text always fits the text limit. The table of rules is tested as a whole by computation; the test is lifted to each symbol and count.
+use Rattle.std.specs.Prelude.{Ok}
 use mathlib.Core.Bool.{Bool, true, false}
 use mathlib.Core.List.{List, [], ◌∷◌, ◌++◌, map}
 use mathlib.Core.Path.{◌≡◌, refl}
@@ -17,7 +18,6 @@ use Rattle.meaning.specs.Rules.{Counts, just, up_to, among, Row, ◌is◌, Other
 use Rattle.meaning.specs.Splitting.{Content, run, quotes, quoted, unclosed, contents, length_of, inside_length}
 use Rattle.meaning.specs.Whole.{text}
 use Rattle.meaning.specs.Writing.{quantity_of, signed_text, two_digit_text, offset_digits, offset_text, group_text, is_there, colon_text, zone_text, name_text, place_of, rule_text, is_negative, literal, run_step, step_of, ends_in_quote, steps, step_text, texts}
-use Rattle.meaning.specs.declared.Checked.TheVariants.{Fine}
 use Rattle.meaning.specs.declared.Fields.{Fields}
 use Rattle.meaning.specs.declared.Group.{Group}
 use Rattle.meaning.specs.declared.Group.TheVariants.{Never, NotZero, Always}
@@ -207,10 +207,10 @@ module _ (book : Book) (short : Short book) (f : Fields) where
       rw length-append (omega (arith, step-length pair h c t.0, texts-length pair h cs t.1))
 
   -- demand 1: "at most eight per pattern byte"
-  pub eight-bytes : (pair : Pair) (p : List ℕ) → fields_check f ≡ Fine → length (text pair book p f) ≤ 8 * length p
+  pub eight-bytes : (pair : Pair) (p : List ℕ) → fields_check f ≡ Ok tt → length (text pair book p f) ≤ 8 * length p
   unfolding text steps
   eight-bytes pair p h = omega (arith, texts-length pair (allowed f h) (contents p) (runs-are-some p), parts-fill p)
 
   -- "Written text is at most 8 bytes per pattern byte, so it always fits the text limit."
-  pub text-fits : (pair : Pair) (p : List ℕ) → pattern_check p ≡ Fine → fields_check f ≡ Fine → length (text pair book p f) ≤ 2048
+  pub text-fits : (pair : Pair) (p : List ℕ) → pattern_check p ≡ Ok tt → fields_check f ≡ Ok tt → length (text pair book p f) ≤ 2048
   text-fits pair p h k = omega (arith, eight-bytes pair p k, (pattern-fine p h).short)

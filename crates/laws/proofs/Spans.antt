@@ -1,6 +1,7 @@
 -- The laws of spans. Of an accepted reading: a unit's span lies in the bytes read and is not empty, those of two units do not overlap,
 -- and the part that gave the value gives it again from the bytes of the span alone. Units that were not read have zeros, and so has
 -- all of a refused reading.
+use Rattle.std.specs.Prelude.{Result, Ok, Err}
 use mathlib.Core.Bool.{true, false}
 use mathlib.Core.List.{List, [], ◌∷◌, map}
 use mathlib.Core.Logic.{◌⊎◌}
@@ -17,12 +18,11 @@ use Rattle.meaning.specs.Names.{Book}
 use Rattle.meaning.specs.Readers.{Got, got, stopped}
 use Rattle.meaning.specs.Reading.{read_step}
 use Rattle.meaning.specs.Trust.{part_at}
-use Rattle.meaning.specs.Whole.{Gave, Walk, walked, refused_at, walked_by, walk, unit_number, is_of, value_in, last_of, was_read, value_of, began_at, ended_at, fifteen, marked, reading_of, read_by, read_check, read}
+use Rattle.meaning.specs.Whole.{Gave, Walk, walked, refused_at, walked_by, walk, unit_number, is_of, value_in, last_of, was_read, value_of, began_at, ended_at, fifteen, marked, reading_of, record_of, read_by, read_check, read}
 use Rattle.meaning.specs.Writing.{Step, steps}
 use Rattle.meaning.specs.declared.Carried.{Carried}
 use Rattle.meaning.specs.declared.Carried.TheVariants.{Nothing, Value}
-use Rattle.meaning.specs.declared.Checked.{Checked}
-use Rattle.meaning.specs.declared.Checked.TheVariants.{Fine, Refused}
+use Rattle.meaning.specs.Results.{Checked}
 use Rattle.meaning.specs.declared.Choices.{Choices}
 use Rattle.meaning.specs.declared.ParseUnit.{ParseUnit}
 use Rattle.meaning.specs.declared.Reading.{Reading}
@@ -48,8 +48,7 @@ pub record Kept (choices : Choices) (book : Book) (current : ℕ) (ss : List Ste
 
 abbrev pub Walks : Choices → Book → ℕ → List Step → List ℕ → Walk → Type 0
 Walks choices book current ss text (walked taken gave) = Kept choices book current ss text taken gave
-Walks choices book current ss text (refused_at Fine) = ⊥
-Walks choices book current ss text (refused_at (Refused why)) = Unit
+Walks choices book current ss text (refused_at why) = Unit
 
 -- the first of the parts from i on
 record PartThere (ss : List Step) (i : ℕ) (step : Step) (rest : List Step) : Type 0 where
@@ -99,15 +98,14 @@ module _ (choices : Choices) (book : Book) (current : ℕ) (ss : List Step) (tex
 record Accepted (choices : Choices) (book : Book) (current : ℕ) (ss : List Step) (text : List ℕ) (r : Reading) : Type 0 where
   taken : ℕ
   gave : List Gave
-  is : r ≡ reading_of Fine taken gave
+  is : r ≡ reading_of taken gave
   kept : Kept choices book current ss text taken gave
 
-accepted : (choices : Choices) (book : Book) (current : ℕ) (ss : List Step) (text : List ℕ) (checked : Checked) (w : Walk)
-    → Walks choices book current ss text w → (read_by checked w).checked ≡ Fine → Accepted choices book current ss text (read_by checked w)
-accepted choices book current ss text Fine (walked taken gave) h e = record { taken = taken; gave = gave; is = refl; kept = h }
-accepted choices book current ss text Fine (refused_at Fine) h e = absurd h
-accepted choices book current ss text Fine (refused_at (Refused why)) h e = absurd (let z : ◌≡◌ {A = ℕ} 0 1 = cc in omega arith)
-accepted choices book current ss text (Refused why) w h e = absurd (let z : ◌≡◌ {A = ℕ} 0 1 = cc in omega arith)
+accepted : (choices : Choices) (book : Book) (current : ℕ) (ss : List Step) (text : List ℕ) (checked : Checked) (w : Walk) (r : Reading)
+    → Walks choices book current ss text w → Ok r ≡ read_by checked w → Accepted choices book current ss text r
+accepted choices book current ss text (Ok _) (walked taken gave) r h e = record { taken = taken; gave = gave; is = cc; kept = h }
+accepted choices book current ss text (Ok _) (refused_at why) r h e = absurd (let z : ◌≡◌ {A = ℕ} 0 1 = cc in omega arith)
+accepted choices book current ss text (Err why) w r h e = absurd (let z : ◌≡◌ {A = ℕ} 0 1 = cc in omega arith)
 
 -- the rows at k
 record RowsAt (r : Reading) (gave : List Gave) (k : ℕ) : Type 0 where
@@ -116,9 +114,9 @@ record RowsAt (r : Reading) (gave : List Gave) (k : ℕ) : Type 0 where
   ends : span_end r k ≡ ended_at gave k
   values : value_at r k ≡ value_of gave k
 
-row : (checked : Checked) (taken : ℕ) (gave : List Gave) (k : ℕ) → k < 15 → RowsAt (reading_of checked taken gave) gave k
+row : (taken : ℕ) (gave : List Gave) (k : ℕ) → k < 15 → RowsAt (reading_of taken gave) gave k
 unfolding entries
-row checked taken gave k h =
+row taken gave k h =
     record {
       marks = marked-bits (map (was_read gave) fifteen) k ∙ get-entry 15 (was_read gave) false k h;
       starts = get-entry 15 (began_at gave) 0 k h;
@@ -145,17 +143,17 @@ span-some choices book current ss text there start end c k e from =
 
 -- the laws
 
-module _ (choices : Choices) (book : Book) (p s : List ℕ) (current : ℤ) (r : Reading) (is : r ≡ read choices book p s current) (fine : r.checked ≡ Fine) where
+module _ (choices : Choices) (book : Book) (p s : List ℕ) (current : ℤ) (r : Reading) (is : Ok r ≡ read choices book p s current) where
   entries-of : Accepted choices book (nat_abs current) (steps choices.pair p) s r
   unfolding read InOrder AllOf
   entries-of =
       let ss = steps choices.pair p in
-      rw is (accepted choices book (nat_abs current) ss s (read_check choices.edition p s current) (walk choices book (nat_abs current) 0 0 ss s [])
+      accepted choices book (nat_abs current) ss s (read_check choices.edition p s current) (walk choices book (nat_abs current) 0 0 ss s []) r
       (walks choices book (nat_abs current) ss s (letters-whole book choices.pair p) 0 0 ss [] refl
-      (record { in-text = omega arith; in_order = tt; from = tt })) (rw is at fine))
+      (record { in-text = omega arith; in_order = tt; from = tt })) is
 
   row_of : (k : ℕ) → k < 15 → RowsAt r entries-of.gave k
-  row_of k h = row_as entries-of.gave k entries-of.is (row Fine entries-of.taken entries-of.gave k h)
+  row_of k h = row_as entries-of.gave k entries-of.is (row entries-of.taken entries-of.gave k h)
 
   last_entry : (k : ℕ) → k < 15 → marked r.mask k ≡ true
       → LastOf (FromPart choices book (nat_abs current) (steps choices.pair p) s) entries-of.gave k
@@ -193,15 +191,8 @@ module _ (choices : Choices) (book : Book) (p s : List ℕ) (current : ℤ) (r :
       let u = unit-of l.entry.carried k l.of-unit in
       record { unit = u.0; is = u.1; from = rw (w.starts, w.ends, w.values, l.start, l.end, l.value, ← u.2) l.has }
 
-all-zeros : (checked : Checked) (w : Walk) {why : Refusal} → (read_by checked w).checked ≡ Refused why
-    → ((read_by checked w).starts ≡ replicate 15 0) × ((read_by checked w).ends ≡ replicate 15 0)
+-- nothing but zeros stands for a refused reading
+pub spans-refused : (choices : Choices) (book : Book) (p s : List ℕ) (current : ℤ) (r : Result Reading Refusal) → r ≡ read choices book p s current
+    → {why : Refusal} → r ≡ Err why → ((record_of r).starts ≡ replicate 15 0) × ((record_of r).ends ≡ replicate 15 0)
 unfolding last_of
-all-zeros Fine (walked taken gave) e = absurd (let z : ◌≡◌ {A = ℕ} 0 1 = cc in omega arith)
-all-zeros Fine (refused_at checked) e = (refl, refl)
-all-zeros (Refused why) w e = (refl, refl)
-
-pub spans-refused : (choices : Choices) (book : Book) (p s : List ℕ) (current : ℤ) (r : Reading) → r ≡ read choices book p s current
-    → {why : Refusal} → r.checked ≡ Refused why → (r.starts ≡ replicate 15 0) × (r.ends ≡ replicate 15 0)
-unfolding read
-spans-refused choices book p s current r is e =
-    rw is (all-zeros (read_check choices.edition p s current) (walk choices book (nat_abs current) 0 0 (steps choices.pair p) s []) (rw is at e))
+spans-refused choices book p s current r is e = rw e (refl, refl)

@@ -1,4 +1,5 @@
 -- What it says that no check of a date-time that was read refuses: each number is in its range, and there is such a day.
+use Rattle.std.specs.Prelude.{Ok}
 use mathlib.Core.Bool.{true, not}
 use mathlib.Core.Path.{◌≡◌}
 use Prim.Native.Nat.{ℕ, ◌≤◌}
@@ -9,7 +10,6 @@ use Rattle.meaning.specs.Answers.{refuse_unless, within}
 use Rattle.meaning.specs.Days.{day_check}
 use Rattle.meaning.specs.StampGrammar.{DateTime}
 use Rattle.meaning.specs.Stamps.{is_clock, in_range, date_time_check}
-use Rattle.meaning.specs.declared.Checked.TheVariants.{Fine}
 use Rattle.meaning.specs.declared.Refusal.TheVariants.{StampRange, LeapSecond, StampYear}
 use Rattle.laws.proofs.Checks.{else-fine, fine-unless, within-is}
 use Rattle.laws.proofs.Tests.{both_true}
@@ -50,9 +50,9 @@ pub record Accepted (t : DateTime) : Type 0 where
   pub range : in_range t ≡ true
   pub second : t.time.second ≡ 60 → ⊥
   pub year : t.date.year ≡ 0 → ⊥
-  pub day : day_check (pos t.date.year) t.date.month t.date.day ≡ Fine
+  pub day : day_check (pos t.date.year) t.date.month t.date.day ≡ Ok tt
 
-pub checks-fine : (t : DateTime) → date_time_check t ≡ Fine → Accepted t
+pub checks-fine : (t : DateTime) → date_time_check t ≡ Ok tt → Accepted t
 unfolding date_time_check
 checks-fine t h =
     let range = else-fine (refuse_unless (in_range t) StampRange) _ h in

@@ -1,5 +1,6 @@
 -- The text of a stamp is what a pattern writes for its fields, whatever else the field record holds: with no fraction and no mark it is
 -- `yyyy-MM-dd'T'HH:mm:ss_xXX`.
+use Rattle.std.specs.Prelude.{Ok}
 use mathlib.Core.Bool.{Bool, true, false}
 use mathlib.Core.List.{List, [], ◌∷◌, ◌++◌, append_assoc, append-nil}
 use mathlib.Core.Path.{◌≡◌, refl, sym, ◌∙◌}
@@ -14,7 +15,6 @@ use Rattle.meaning.specs.Splitting as splitting
 use Rattle.meaning.specs.Stamps.{stamp_fields, stamp_fraction, stamp_offset, stamp_text}
 use Rattle.meaning.specs.Whole.{text}
 use Rattle.meaning.specs.Writing.{is_negative, quantity_of, signed_text, zone_text, rule_text, step_of, steps, step_text, texts}
-use Rattle.meaning.specs.declared.Checked.TheVariants.{Fine}
 use Rattle.meaning.specs.declared.Fields.{Fields}
 use Rattle.meaning.specs.declared.Group.TheVariants.{Never, Always}
 use Rattle.meaning.specs.declared.Pair.TheVariants.{Full}
@@ -95,7 +95,7 @@ stamp-by-pattern book t f same positive =
     ∙ same_parts t f same (whole_second t) t.unknown
     ∙ rw (← fraction-is t (whole_second t) refl, ← offset-is t t.unknown refl) (sym (stamp-pieces t positive))
 
-pub pattern-fine : (whole unknown : Bool) → pattern_check (stamp_pattern whole unknown) ≡ Fine
+pub pattern-fine : (whole unknown : Bool) → pattern_check (stamp_pattern whole unknown) ≡ Ok tt
 unfolding pattern_check byte_check bytes splitting.contents splitting.outside splitting.elements
 pattern-fine true true = refl
 pattern-fine true false = refl

@@ -1,4 +1,5 @@
 -- What the writer of stamps leaves in a lent output: it reads as the record; and a pattern leaves the same, with the same answer.
+use Rattle.std.specs.Prelude.{Ok}
 use mathlib.Core.Bool.{Bool, true, false}
 use mathlib.Core.List.{List, ◌++◌}
 use mathlib.Core.Path.{◌≡◌, subst}
@@ -13,13 +14,10 @@ use Rattle.meaning.specs.Bytes.{bytes}
 use Rattle.meaning.specs.Names.{Book}
 use Rattle.meaning.specs.Stamps.{stamp_check, stamp_text, stamp_write_check, read_stamp, write_stamp, stamp_output}
 use Rattle.meaning.specs.Whole.{write_check, write, output}
-use Rattle.meaning.specs.declared.Checked.TheVariants.{Fine}
 use Rattle.meaning.specs.declared.Fields.{Fields}
 use Rattle.meaning.specs.declared.Pair.TheVariants.{Full}
 use Rattle.meaning.specs.declared.Refusal.TheVariants.{NoRoom}
 use Rattle.meaning.specs.declared.Stamp.{Stamp}
-use Rattle.meaning.specs.declared.Stamped.TheVariants as stamped
-use Rattle.meaning.specs.declared.Wrote.TheVariants as wrote
 use Rattle.laws.proofs.Checks.{else-fine, fine-unless}
 use Rattle.laws.proofs.StampPatterns.{stamp_pattern, FieldsOf, whole_second, stamp-by-pattern, pattern-fine}
 use Rattle.laws.proofs.Stamps.{stamp-fine, positive, written-reads}
@@ -27,7 +25,7 @@ use Rattle.laws.proofs.Writes.{wrote-fine}
 
 -- written into a lent output, then read from there
 
-pub output-reads : (t : Stamp) (out : List ℕ) {n : ℕ} → write_stamp t out ≡ wrote.Length n → read_stamp (take n (stamp_output t out)) ≡ stamped.Read t
+pub output-reads : (t : Stamp) (out : List ℕ) {n : ℕ} → write_stamp t out ≡ Ok n → read_stamp (take n (stamp_output t out)) ≡ Ok t
 unfolding write_stamp stamp_output stamp_write_check
 output-reads t out {n} h =
     let s = stamp_text t in
@@ -40,7 +38,7 @@ output-reads t out {n} h =
 
 -- by a pattern, with any field record that has the stamp's fields
 
-module _ (book : Book) (t : Stamp) (f : Fields) (same : FieldsOf t f) (allowed : fields_check f ≡ Fine) (h : stamp_check t ≡ Fine) (out : List ℕ) where
+module _ (book : Book) (t : Stamp) (f : Fields) (same : FieldsOf t f) (allowed : fields_check f ≡ Ok tt) (h : stamp_check t ≡ Ok tt) (out : List ℕ) where
   abbrev AsPattern : List ℕ → Type 0
   AsPattern p = (write Full book p f out ≡ write_stamp t out) × (output Full book p f out ≡ stamp_output t out)
 

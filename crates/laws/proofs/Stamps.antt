@@ -1,5 +1,6 @@
 -- RFC 3339 stamps, about the definitions alone: a record that is written, then read, is itself; and what was read is written, and then reads
 -- as the same record.
+use Rattle.std.specs.Prelude.{Ok, Err}
 use mathlib.Core.Bool.{Bool, true, false}
 use mathlib.Core.List.{List, [], ◌∷◌, ◌++◌, append-nil}
 use mathlib.Core.Path.{◌≡◌, refl, ap, ◌∙◌}
@@ -18,14 +19,11 @@ use Rattle.meaning.specs.Numerals.{integer}
 use Rattle.meaning.specs.StampGrammar.{Ruled, reads, halts, NumOffset, DateTime, date_time, whole}
 use Rattle.meaning.specs.Stamps.{in_range, date_time_check, seconds_of, stamp_of, stamped_by, stamped_in, read_stamp, stamp_fields, four_digits, offset_written, stamp_check, stamp_fraction, stamp_offset, stamp_text}
 use Rattle.meaning.specs.Writing.{is_negative, quantity_of, signed_text, offset_digits, is_minus, offset_text}
-use Rattle.meaning.specs.declared.Checked.{Checked}
-use Rattle.meaning.specs.declared.Checked.TheVariants.{Fine, Refused}
+use Rattle.meaning.specs.Results.{Checked, Stamped}
 use Rattle.meaning.specs.declared.Group.TheVariants.{Never, Always}
 use Rattle.meaning.specs.declared.Pair.TheVariants.{Full}
 use Rattle.meaning.specs.declared.Refusal.TheVariants.{StampYear, StampOffset}
 use Rattle.meaning.specs.declared.Stamp.{Stamp}
-use Rattle.meaning.specs.declared.Stamped.{Stamped}
-use Rattle.meaning.specs.declared.Stamped.TheVariants as stamped
 use Rattle.laws.proofs.Ascii.{english-ascii, written-checks}
 use Rattle.laws.proofs.BookNames.{valid-short}
 use Rattle.laws.proofs.Checks.{else-fine, fine-unless, within-is}
@@ -42,12 +40,12 @@ use Rattle.laws.proofs.Zones.{offset_value, zero-offset, value-is}
 -- what a record that is written has
 
 pub record Written (t : Stamp) : Type 0 where
-  pub fields : fields_check (stamp_fields t) ≡ Fine
+  pub fields : fields_check (stamp_fields t) ≡ Ok tt
   pub year : four_digits t.year ≡ true
-  pub day : day_check t.year t.month t.day ≡ Fine
+  pub day : day_check t.year t.month t.day ≡ Ok tt
   pub offset : offset_written t ≡ true
 
-pub stamp-fine : (t : Stamp) → stamp_check t ≡ Fine → Written t
+pub stamp-fine : (t : Stamp) → stamp_check t ≡ Ok tt → Written t
 unfolding stamp_check
 stamp-fine t h =
     let a = else-fine (fields_check (stamp_fields t)) _ h in
@@ -55,7 +53,7 @@ stamp-fine t h =
     let c = else-fine (day_check t.year t.month t.day) _ b.1 in
     record { fields = a.0; year = fine-unless (four_digits t.year) StampYear b.0; day = c.0; offset = fine-unless (offset_written t) StampOffset c.1 }
 
-pub fine-stamp : (t : Stamp) → Written t → stamp_check t ≡ Fine
+pub fine-stamp : (t : Stamp) → Written t → stamp_check t ≡ Ok tt
 unfolding stamp_check
 fine-stamp t w = rw (w.fields, w.year, w.day, w.offset)
 
@@ -192,7 +190,7 @@ module _ (t : Stamp) (w : Written t) where
         le-leb (nat_abs t.offset % 3600 / 60) 59 (omega arith),
       )
 
-  passes : date_time_check time_of ≡ Fine
+  passes : date_time_check time_of ≡ Ok tt
   unfolding date_time_check
   passes =
       let some = sizes.year.0 in
@@ -208,7 +206,7 @@ module _ (t : Stamp) (w : Written t) where
   unfolding stamp_of
   stamp-is = rw (offset-size, time-is, signed-again t.unknown t.offset unmarked, marked-again t.unknown t.offset unmarked, ← four.is)
 
-  text-checks : text_check (stamp_text t) ≡ Fine
+  text-checks : text_check (stamp_text t) ≡ Ok tt
   text-checks =
       let f = stamp_fields t in
       let p = stamp_pattern (whole_second t) t.unknown in
@@ -216,7 +214,7 @@ module _ (t : Stamp) (w : Written t) where
       rw (← stamp-by-pattern english t f own positive)
       (written-checks english english-ascii (valid-short english english-valid) Full p f (pattern-fine (whole_second t) t.unknown) w.fields)
 
-  reads-itself : read_stamp (stamp_text t) ≡ stamped.Read t
+  reads-itself : read_stamp (stamp_text t) ≡ Ok t
   unfolding read_stamp
   reads-itself =
       let a = sizes in
@@ -225,24 +223,24 @@ module _ (t : Stamp) (w : Written t) where
 
 -- what was read has what a record that is written has
 
-by-checks : (c : Checked) (r : Stamped) {t : Stamp} → stamped_by c r ≡ stamped.Read t → (c ≡ Fine) × (r ≡ stamped.Read t)
-by-checks Fine r e = (refl, e)
-by-checks (Refused why) r e = absurd (let q : ◌≡◌ {A = ℕ} 0 1 = cc in omega arith)
+by-checks : (c : Checked) (r : Stamped) {t : Stamp} → stamped_by c r ≡ Ok t → (c ≡ Ok tt) × (r ≡ Ok t)
+by-checks (Ok _) r e = (refl, e)
+by-checks (Err why) r e = absurd (let q : ◌≡◌ {A = ℕ} 0 1 = cc in omega arith)
 
 -- the date-time that it was read from
 record ReadFrom (s : List ℕ) (t : Stamp) : Type 0 where
   parts : DateTime
   small : Small parts
-  checked : date_time_check parts ≡ Fine
+  checked : date_time_check parts ≡ Ok tt
   same : stamp_of parts ≡ t
 
-from_parts : (s : List ℕ) (t : Stamp) (r : Ruled DateTime) → whole date_time s ≡ r → stamped_in r ≡ stamped.Read t → ReadFrom s t
+from_parts : (s : List ℕ) (t : Stamp) (r : Ruled DateTime) → whole date_time s ≡ r → stamped_in r ≡ Ok t → ReadFrom s t
 from_parts s t (reads parts at) e h =
-    let c = by-checks (date_time_check parts) (stamped.Read (stamp_of parts)) h in
+    let c = by-checks (date_time_check parts) (Ok (stamp_of parts)) h in
     record { parts = parts; small = read_small s parts at e; checked = c.0; same = cc }
 from_parts s t (halts at) e h = absurd (let q : ◌≡◌ {A = ℕ} 0 1 = cc in omega arith)
 
-read-from : (s : List ℕ) (t : Stamp) → read_stamp s ≡ stamped.Read t → ReadFrom s t
+read-from : (s : List ℕ) (t : Stamp) → read_stamp s ≡ Ok t → ReadFrom s t
 unfolding read_stamp
 read-from s t h = from_parts s t (whole date_time s) refl (by-checks (text_check s) (stamped_in (whole date_time s)) h).1
 
@@ -253,11 +251,11 @@ mark-fine true true = refl
 mark-fine true false = refl
 mark-fine false nothing = refl
 
-module _ (p : DateTime) (small : Small p) (h : date_time_check p ≡ Fine) where
+module _ (p : DateTime) (small : Small p) (h : date_time_check p ≡ Ok tt) where
   abbrev offset_size : ℕ
   offset_size = seconds_of p.offset.hour p.offset.minute
 
-  fields-fine : fields_check (stamp_fields (stamp_of p)) ≡ Fine
+  fields-fine : fields_check (stamp_fields (stamp_of p)) ≡ Ok tt
   unfolding stamp_of fields_check
   fields-fine =
       let a = checks-fine p h in
@@ -295,15 +293,15 @@ module _ (p : DateTime) (small : Small p) (h : date_time_check p ≡ Fine) where
 -- the theorems
 
 -- a record that is written, then read, is itself
-pub written-reads : (t : Stamp) → stamp_check t ≡ Fine → read_stamp (stamp_text t) ≡ stamped.Read t
+pub written-reads : (t : Stamp) → stamp_check t ≡ Ok tt → read_stamp (stamp_text t) ≡ Ok t
 written-reads t h = reads-itself t (stamp-fine t h)
 
 -- what was read is written
-pub read-writes : (s : List ℕ) (t : Stamp) → read_stamp s ≡ stamped.Read t → stamp_check t ≡ Fine
+pub read-writes : (s : List ℕ) (t : Stamp) → read_stamp s ≡ Ok t → stamp_check t ≡ Ok tt
 read-writes s t h =
     let from = read-from s t h in
     fine-stamp t (rw from.same at (writes-parts from.parts from.small from.checked))
 
 -- and reads as the same record
-pub read_again : (s : List ℕ) (t : Stamp) → read_stamp s ≡ stamped.Read t → read_stamp (stamp_text t) ≡ stamped.Read t
+pub read_again : (s : List ℕ) (t : Stamp) → read_stamp s ≡ Ok t → read_stamp (stamp_text t) ≡ Ok t
 read_again s t h = written-reads t (read-writes s t h)

@@ -1,6 +1,7 @@
 -- The specification's numbers and values tell answers apart. Each answer is found again from its number and values, so two enums with
 -- the same ones are the same: a promise that equates the numbers and values says what one says that equates the enums. Then how
 -- a promise is met by an equation, and what the answer of the check is told by.
+use Rattle.std.specs.Prelude.{Result, Ok, Err}
 use mathlib.Core.Bool.{Bool, true, false}
 use mathlib.Core.List.{List, [], ◌∷◌}
 use mathlib.Core.Path.{◌≡◌, refl, ap, sym, ◌∙◌}
@@ -14,27 +15,16 @@ use Rattle.meaning.specs.Bytes.{when}
 use Rattle.meaning.specs.Names.{english}
 use Rattle.meaning.specs.Promises.{SameAnswer}
 use Rattle.meaning.specs.Trust.{SaysOf, Says, trust_check}
-use Rattle.meaning.specs.declared.Checked.{Checked}
-use Rattle.meaning.specs.declared.Checked.TheVariants as checked
-use Rattle.meaning.specs.declared.DayNumber.{DayNumber}
-use Rattle.meaning.specs.declared.DayNumber.TheVariants as day_number
+use Rattle.meaning.specs.Results.{Checked, DayNumber, Listed, Offset, Stamped, Wrote}
 use Rattle.meaning.specs.declared.Edition.{Edition}
 use Rattle.meaning.specs.declared.Fields.{Fields}
-use Rattle.meaning.specs.declared.Listed.{Listed}
-use Rattle.meaning.specs.declared.Listed.TheVariants as listed
-use Rattle.meaning.specs.declared.Offset.{Offset}
-use Rattle.meaning.specs.declared.Offset.TheVariants as offset
 use Rattle.meaning.specs.declared.Refusal.{Refusal}
 use Rattle.meaning.specs.declared.Refusal.TheVariants.{PatternTooLong, PatternByte, LoneQuote, FieldRange, NoRoom, TextTooLong, TextByte, InPart, OffsetLength, OffsetRange, CurrentYear, TextLeft, NoSuchDay, NoDayNumber, BookMark, BookVersion, BookCut, BookName, ShortRow, NotStamp, StampRange, LeapSecond, StampYear, StampOffset, MendedTooLong}
 use Rattle.meaning.specs.declared.Stamp.{Stamp}
-use Rattle.meaning.specs.declared.Stamped.{Stamped}
-use Rattle.meaning.specs.declared.Stamped.TheVariants as stamped
 use Rattle.meaning.specs.declared.Trouble.{Trouble}
 use Rattle.meaning.specs.declared.Trouble.TheVariants.{TooFew, NoNumber, NoName, NoSign, LiteralDiffers, PlusSign}
 use Rattle.meaning.specs.declared.Verdict.{Verdict}
 use Rattle.meaning.specs.declared.Verdict.TheVariants as verdict
-use Rattle.meaning.specs.declared.Wrote.{Wrote}
-use Rattle.meaning.specs.declared.Wrote.TheVariants as wrote
 
 -- what is found again from what it is told by is told apart
 told-apart : {A B : Type 0} (told : A → B) (found : B → A) → ((a : A) → found (told a) ≡ a) → (a b : A) → told a ≡ told b → a ≡ b
@@ -147,54 +137,54 @@ refused-again : {A : Type 0} (yes' : List ℤ → A) (no' : Refusal → A) (why 
 refused-again yes' no' why = rw ((found why).not-0, (found why).again)
 
 abbrev checked_of : Answer → Checked
-checked_of = answer_of (λ vs. checked.Fine) (λ why. checked.Refused why)
+checked_of = answer_of (λ vs. (Ok tt)) (λ why. Err why)
 
 checked-again : (c : Checked) (vs : List ℤ) → checked_of (answer_by c vs) ≡ c
-checked-again checked.Fine vs = refl
-checked-again (checked.Refused why) vs = refused-again (λ vs. checked.Fine) (λ w. checked.Refused w) why
+checked-again (Ok _) vs = refl
+checked-again (Err why) vs = refused-again (λ vs. (Ok tt)) (λ w. Err w) why
 
 -- what the checks found, as a split and a reading tell it
 pub checks-told-apart : (a b : Checked) (vs ws : List ℤ) → answer_by a vs ≡ answer_by b ws → a ≡ b
 checks-told-apart a b vs ws e = sym (checked-again a vs) ∙ ap checked_of e ∙ checked-again b ws
 
 abbrev wrote_of : Answer → Wrote
-wrote_of = answer_of (λ vs. wrote.Length (one vs)) (λ why. wrote.Refused why)
+wrote_of = answer_of (λ vs. Ok (one vs)) (λ why. Err why)
 
 wrote-again : (w : Wrote) → wrote_of (wrote_answer w) ≡ w
-wrote-again (wrote.Length n) = refl
-wrote-again (wrote.Refused why) = refused-again (λ vs. wrote.Length (one vs)) (λ w. wrote.Refused w) why
+wrote-again (Ok n) = refl
+wrote-again (Err why) = refused-again (λ vs. Ok (one vs)) (λ w. Err w) why
 
 pub wrotes-told-apart : (a b : Wrote) → wrote_answer a ≡ wrote_answer b → a ≡ b
 wrotes-told-apart = told-apart wrote_answer wrote_of wrote-again
 
 abbrev listed_of : Answer → Listed
-listed_of = answer_of (λ vs. listed.Lines (one vs)) (λ why. listed.Refused why)
+listed_of = answer_of (λ vs. Ok (one vs)) (λ why. Err why)
 
 listed-again : (l : Listed) → listed_of (list_answer l) ≡ l
-listed-again (listed.Lines n) = refl
-listed-again (listed.Refused why) = refused-again (λ vs. listed.Lines (one vs)) (λ w. listed.Refused w) why
+listed-again (Ok n) = refl
+listed-again (Err why) = refused-again (λ vs. Ok (one vs)) (λ w. Err w) why
 
 pub lists-told-apart : (a b : Listed) → list_answer a ≡ list_answer b → a ≡ b
 lists-told-apart = told-apart list_answer listed_of listed-again
 
 abbrev offset_of : Answer → Offset
-offset_of = answer_of (λ vs. offset.Seconds (get_or vs 0 (pos 0))) (λ why. offset.Refused why)
+offset_of = answer_of (λ vs. Ok (get_or vs 0 (pos 0))) (λ why. Err why)
 
 offset-again : (o : Offset) → offset_of (offset_answer o) ≡ o
-offset-again (offset.Seconds z) = refl
-offset-again (offset.Refused why) =
-    refused-again (λ vs. offset.Seconds (get_or vs 0 (pos 0))) (λ w. offset.Refused w) why
+offset-again (Ok z) = refl
+offset-again (Err why) =
+    refused-again (λ vs. Ok (get_or vs 0 (pos 0))) (λ w. Err w) why
 
 pub offsets-told-apart : (a b : Offset) → offset_answer a ≡ offset_answer b → a ≡ b
 offsets-told-apart = told-apart offset_answer offset_of offset-again
 
 abbrev day_number_of : Answer → DayNumber
-day_number_of = answer_of (λ vs. day_number.Number (get_or vs 0 (pos 0))) (λ why. day_number.Refused why)
+day_number_of = answer_of (λ vs. Ok (get_or vs 0 (pos 0))) (λ why. Err why)
 
 day-number-again : (d : DayNumber) → day_number_of (day_number_answer d) ≡ d
-day-number-again (day_number.Number z) = refl
-day-number-again (day_number.Refused why) =
-    refused-again (λ vs. day_number.Number (get_or vs 0 (pos 0))) (λ w. day_number.Refused w) why
+day-number-again (Ok z) = refl
+day-number-again (Err why) =
+    refused-again (λ vs. Ok (get_or vs 0 (pos 0))) (λ w. Err w) why
 
 pub day-numbers-told-apart : (a b : DayNumber) → day_number_answer a ≡ day_number_answer b → a ≡ b
 day-numbers-told-apart = told-apart day_number_answer day_number_of day-number-again
@@ -211,17 +201,17 @@ stamp_of vs =
     }
 
 abbrev stamped_of : Answer → Stamped
-stamped_of = answer_of (λ vs. stamped.Read (stamp_of vs)) (λ why. stamped.Refused why)
+stamped_of = answer_of (λ vs. Ok (stamp_of vs)) (λ why. Err why)
 
 mark-again : (unknown : Bool) → eqb (when unknown 1 0) 1 ≡ unknown
 mark-again true = refl
 mark-again false = refl
 
 stamped-again : (r : Stamped) → stamped_of (stamp_answer r) ≡ r
-stamped-again (stamped.Read t) =
-    ap (λ (b : Bool). stamped.Read (record { year = t.year; month = t.month; day = t.day; nanos = t.nanos; offset = t.offset; unknown = b }))
+stamped-again (Ok t) =
+    ap (λ (b : Bool). Ok (record { year = t.year; month = t.month; day = t.day; nanos = t.nanos; offset = t.offset; unknown = b }))
     (mark-again t.unknown)
-stamped-again (stamped.Refused why) = refused-again (λ vs. stamped.Read (stamp_of vs)) (λ w. stamped.Refused w) why
+stamped-again (Err why) = refused-again (λ vs. Ok (stamp_of vs)) (λ w. Err w) why
 
 pub stamps-told-apart : (a b : Stamped) → stamp_answer a ≡ stamp_answer b → a ≡ b
 stamps-told-apart = told-apart stamp_answer stamped_of stamped-again
@@ -242,15 +232,15 @@ fields_of vs =
 abbrev yes_or_no : List ℤ → Verdict
 yes_or_no vs = when (eqb (one vs) 1) verdict.Yes (verdict.No (two vs) (fields_of vs))
 
-abbrev verdict_of : Answer → Verdict
-verdict_of = answer_of yes_or_no (λ why. verdict.Refused why)
+abbrev verdict_of : Answer → Result Verdict Refusal
+verdict_of = answer_of (λ vs. Ok (yes_or_no vs)) (λ why. Err why)
 
-verdict-again : (v : Verdict) → verdict_of (verdict_answer v) ≡ v
-verdict-again verdict.Yes = refl
-verdict-again (verdict.No part f) = refl
-verdict-again (verdict.Refused why) = refused-again yes_or_no (λ w. verdict.Refused w) why
+verdict-again : (v : Result Verdict Refusal) → verdict_of (verdict_answer v) ≡ v
+verdict-again (Ok verdict.Yes) = refl
+verdict-again (Ok (verdict.No part f)) = refl
+verdict-again (Err why) = refused-again (λ vs. Ok (yes_or_no vs)) (λ w. Err w) why
 
-pub verdicts-told-apart : (a b : Verdict) → verdict_answer a ≡ verdict_answer b → a ≡ b
+pub verdicts-told-apart : (a b : Result Verdict Refusal) → verdict_answer a ≡ verdict_answer b → a ≡ b
 verdicts-told-apart = told-apart verdict_answer verdict_of verdict-again
 
 -- Either half of a promise gives the other: the whole answer for any kind of answer, the numbers and values for an enum.
@@ -274,9 +264,9 @@ pub stamp-by-told : (r d : Stamped) → stamp_answer r ≡ stamp_answer d → Sa
 stamp-by-told r d e = record { told = e; whole = stamps-told-apart r d e }
 
 -- the check: the first of its checks that refuses, or what its yes or no returns
-pub says-told : (edition : Edition) (p : List ℕ) (current : ℤ) (v : Verdict) → Says edition p current v
+pub says-told : (edition : Edition) (p : List ℕ) (current : ℤ) (v : Result Verdict Refusal) → Says edition p current v
     → verdict_answer v ≡ answer_by (trust_check edition p current) (verdict_answer v).values
 unfolding SaysOf
-says-told edition p current verdict.Yes s = rw (s english english-valid false).0
-says-told edition p current (verdict.No part f) s = rw (s english english-valid false).0
-says-told edition p current (verdict.Refused why) s = rw (s english english-valid false)
+says-told edition p current (Ok verdict.Yes) s = rw (s english english-valid false).0
+says-told edition p current (Ok (verdict.No part f)) s = rw (s english english-valid false).0
+says-told edition p current (Err why) s = rw (s english english-valid false)

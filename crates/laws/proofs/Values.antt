@@ -1,5 +1,6 @@
 -- Every value of a reading but the offset fits 32 signed bits: a number of the table has at most nine digits, a name is one of twelve at
 -- most, a year is held to 32 bits, and two digits stand for a year near the current one.
+use Rattle.std.specs.Prelude.{Ok, Err}
 use mathlib.Core.Bool.{Bool, true, false}
 use mathlib.Core.List.{List, [], ◌∷◌, map}
 use mathlib.Core.Option.{Option, none, some}
@@ -17,13 +18,12 @@ use Rattle.meaning.specs.Names.{Book, english, names}
 use Rattle.meaning.specs.Numerals.{all_digits, decimal, Signed, integer, largest, sized, sign_of, sized_by, number_of, plus_first}
 use Rattle.meaning.specs.OpenedBooks.{names_at, opened_book, book_in, opened_size}
 use Rattle.meaning.specs.Readers.{Got, got, stopped, Reader, behind, go_on, ◌>>=◌, done, skip, same, taken_number, take_number, take_count, take_year, reach, begins, first_name, match_name, letters, zone_sign}
-use Rattle.meaning.specs.Reading.{name_carries, minus_first, year_length, year, two_digits_mean, most_read, zero_for, zone_behind, zone_size, literal_read, taken_year, read_rule, read_step}
-use Rattle.meaning.specs.Whole.{Gave, Walk, walked, refused_at, walked_by, walk, unit_number, is_of, value_in, last_of, value_of, fifteen, read_by, read_check, read}
+use Rattle.meaning.specs.Reading.{name_carries, minus_first, year_length, two_digits_mean, most_read, zero_for, zone_behind, zone_size, literal_read, taken_year, read_rule, read_step}
+use Rattle.meaning.specs.Whole.{Gave, Walk, walked, refused_at, walked_by, walk, unit_number, is_of, value_in, last_of, value_of, fifteen, record_of, read_by, read_check, read}
 use Rattle.meaning.specs.Writing.{Step, literal, field, steps, is_negative}
 use Rattle.meaning.specs.declared.Carried.{Carried}
 use Rattle.meaning.specs.declared.Carried.TheVariants.{Nothing, Value}
-use Rattle.meaning.specs.declared.Checked.{Checked}
-use Rattle.meaning.specs.declared.Checked.TheVariants.{Fine, Refused}
+use Rattle.meaning.specs.Results.{Checked}
 use Rattle.meaning.specs.declared.Choices.{Choices}
 use Rattle.meaning.specs.declared.Edition.{Edition}
 use Rattle.meaning.specs.declared.Edition.TheVariants.{First, Second}
@@ -292,11 +292,11 @@ ShortEntries = AllOf (λ g. ShortCarried g.carried)
 
 abbrev ShortWalk : Walk → Type 0
 ShortWalk (walked taken gave) = ShortEntries gave
-ShortWalk (refused_at checked) = Unit
+ShortWalk (refused_at why) = Unit
 
 short-rest : (checked : Checked) (at : ℕ) (gave : List Gave) → ShortEntries gave → ShortWalk (walked_by checked at gave)
-short-rest Fine at gave h = h
-short-rest (Refused why) at gave h = tt
+short-rest (Ok _) at gave h = h
+short-rest (Err why) at gave h = tt
 
 short-part : (i at : ℕ) (next : ℕ → Carried → Walk) (g : Got Carried) → Gives ShortCarried g → ((n : ℕ) (c : Carried) → ShortCarried c → ShortWalk (next n c))
     → ShortWalk (behind_part i at next g)
@@ -334,20 +334,20 @@ value-at : (gave : List Gave) (k : ℕ) → k < 14 → ShortEntries gave → Sho
 unfolding entries
 value-at gave k h all = rw (get-entry 15 (value_of gave) (pos 0) k (omega arith)) (last-short gave k h all)
 
-year-near : (edition : Edition) (current : ℤ) → current_year_check edition current ≡ Fine → nat_abs current ≤ 9999
+year-near : (edition : Edition) (current : ℤ) → current_year_check edition current ≡ Ok tt → nat_abs current ≤ 9999
 unfolding current_year_check
 year-near edition current h =
     by-test (is_negative current) (λ e. absurd (let f = rw e at h in let z : ◌≡◌ {A = ℕ} 0 1 = cc in omega arith))
     (λ e. (within-is (first_current_year edition) 9999 (nat_abs current) (fine-unless _ _ (rw e at h))).1)
 
-read_short : (checked : Checked) (w : Walk) (k : ℕ) → k < 14 → (checked ≡ Fine → ShortWalk w) → Short (get_or (read_by checked w).values k (pos 0))
+read_short : (checked : Checked) (w : Walk) (k : ℕ) → k < 14 → (checked ≡ Ok tt → ShortWalk w) → Short (get_or (record_of (read_by checked w)).values k (pos 0))
 unfolding AllOf
-read_short Fine (walked taken gave) k h s = value-at gave k h (s refl)
-read_short Fine (refused_at checked) k h s = value-at [] k h tt
-read_short (Refused why) w k h s = value-at [] k h tt
+read_short (Ok _) (walked taken gave) k h s = value-at gave k h (s refl)
+read_short (Ok _) (refused_at why) k h s = value-at [] k h tt
+read_short (Err why) w k h s = value-at [] k h tt
 
 pub value-short : (choices : Choices) (book : Book) → FewMonths book → (p s : List ℕ) (current : ℤ) (k : ℕ) → k < 14
-    → Short (get_or (read choices book p s current).values k (pos 0))
+    → Short (get_or (record_of (read choices book p s current)).values k (pos 0))
 unfolding read read_check AllOf
 value-short choices book few p s current k h =
     let ss = steps choices.pair p in

@@ -1,9 +1,8 @@
 -- Two half patterns, a date pattern beside a time pattern: when their join is the one and then the other. That it is, is in
 -- proofs/Halves.
-use Rattle.std.specs.Prelude.{Bool, true, false, List, [], ◌∷◌, ◌≡◌, ℕ, ◌+◌, ◌≤◌, eqb, length}
+use Rattle.std.specs.Prelude.{Bool, true, false, List, [], ◌∷◌, ◌≡◌, ℕ, ◌+◌, ◌≤◌, eqb, length, Ok}
 use Rattle.meaning.specs.Answers.{pattern_check}
 use Rattle.meaning.specs.Splitting.{Content, run, quotes, quoted, unclosed, contents}
-use Rattle.meaning.specs.declared.Checked.TheVariants.{Fine}
 use Rattle.meaning.specs.declared.Part.{Part}
 
 -- whether the last part is a quote that nothing closes
@@ -29,8 +28,8 @@ meet_equal (a ∷ b ∷ p) q = meet_equal (b ∷ p) q
 
 -- two accepted patterns that can be laid side by side
 pub record Beside (p q : List ℕ) : Type 0 where
-  pub first : pattern_check p ≡ Fine
-  pub second : pattern_check q ≡ Fine
+  pub first : pattern_check p ≡ Ok tt
+  pub second : pattern_check q ≡ Ok tt
   pub closed : starts_quoted p q ≡ false
   pub apart : meet_equal p q ≡ false
   pub short : length p + length q ≤ 256

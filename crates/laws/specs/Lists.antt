@@ -1,11 +1,12 @@
 -- Lines by places, for the laws of lists and their code: how long a text's first line is, where the line at a place ends and the next one
 -- starts, and how many newlines there are; the cells of a line; and a line reader's steps.
-use Rattle.std.specs.Prelude.{true, false, List, [], ◌∷◌, ℕ, zero, suc, ◌+◌, min, eqb, ℤ, pos, length, get_or, drop}
+use Rattle.std.specs.Prelude.{true, false, List, [], ◌∷◌, ℕ, zero, suc, ◌+◌, min, eqb, ℤ, pos, length, get_or, drop, Option, Some, None, Result}
 use Rattle.meaning.specs.Bytes.{when}
 use Rattle.meaning.specs.Lists.{newline, Rows, cell, code_of}
 use Rattle.meaning.specs.declared.LineRead.{LineRead}
 use Rattle.meaning.specs.declared.ParseUnit.TheVariants.{Year, Month, DayOfMonth}
 use Rattle.meaning.specs.declared.Reading.{Reading}
+use Rattle.meaning.specs.declared.Refusal.{Refusal}
 
 -- the bytes before the first newline, or all
 unfoldable pub line_length : List ℕ → ℕ
@@ -39,11 +40,11 @@ cells_at i rows =
       code = get_or rows.codes i 0;
     }
 
-abbrev pub cells_of : Reading → Cells
+abbrev pub cells_of : Result Reading Refusal → Cells
 cells_of r = record { day = cell DayOfMonth r; month = cell Month r; year = cell Year r; code = code_of r }
 
 -- what the line reader gives, step by step, from a place on, in at most so many steps
-unfoldable pub stepped : (ℕ → LineRead) → ℕ → ℕ → List Reading
+unfoldable pub stepped : (ℕ → Option LineRead) → ℕ → ℕ → List (Result Reading Refusal)
 stepped at_place zero at = []
 stepped at_place (suc steps) at =
-    elim (at_place at).there [ true ↦ (at_place at).reading ∷ stepped at_place steps (at_place at).next | false ↦ [] ]
+    elim (at_place at) [ Some line ↦ line.reading ∷ stepped at_place steps line.next | None ↦ [] ]

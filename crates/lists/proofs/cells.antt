@@ -1,2 +1,2 @@
-mod Line
+pub mod Line
 pub mod Stored

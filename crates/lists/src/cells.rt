@@ -1,69 +1,70 @@
 // The cells of the four lent rows: whether there is one for each line, and the lines read into them.
-ghost use Rattle.std.specs.Prelude.{◌≡◌, ◌+◌, leb, pos, length, get_or};
-ghost use Rattle.laws.specs.CalendarLine.{Short};
+ghost use Rattle.std.specs.Prelude.{◌≡◌, leb, map, length, true};
+ghost use Rattle.lists.specs.LineReaders.{TakesLines, StandsFor, cell_in};
 ghost use Rattle.meaning.specs.Answers.{refuse_unless};
 ghost use Rattle.meaning.specs.Bytes.{both};
-ghost use Rattle.meaning.specs.Lists.{laid, list_check, read_lines, rows_of};
-ghost use Rattle.meaning.specs.OpenedBooks.{book_in};
-ghost use Rattle.meaning.specs.Whole.{unit_number};
+ghost use Rattle.meaning.specs.Lists.{hold, laid, lines, rows_of};
+ghost use Rattle.meaning.specs.Prepared.{narrow};
 
 use crate::lines::{line_end, next_line};
-use meaning::{Checked, Choices, ParseUnit, Refusal};
+use meaning::{ParseUnit, Refusal};
 use reader::record::unit_number;
-use rows::readings::read_row;
 
 // 24, by the lengths of the rows.
-pub fn rows_check(lines: usize, days: usize, months: usize, years: usize, codes: usize) -> Checked
+pub fn rows_check(
+    lines: usize,
+    days: usize,
+    months: usize,
+    years: usize,
+    codes: usize,
+) -> Result<(), Refusal>
     ensures { result ≡ refuse_unless (both (leb lines days) (both (leb lines months) (both (leb lines years) (leb lines codes)))) Refusal.ShortRow }
 {
-    if days < lines {
-        return Checked::Refused(Refusal::ShortRow);
+    if lines <= days && lines <= months && lines <= years && lines <= codes {
+        Ok(())
+    } else {
+        Err(Refusal::ShortRow)
     }
-    if months < lines {
-        return Checked::Refused(Refusal::ShortRow);
-    }
-    if years < lines {
-        return Checked::Refused(Refusal::ShortRow);
-    }
-    if codes < lines {
-        return Checked::Refused(Refusal::ShortRow);
-    }
-    Checked::Fine
 }
 
-// The value of a unit in the row of a reading, where 32 bits hold it; 0 where it was not read.
-fn value_of(answer: &[i64], unit: ParseUnit) -> i32
-    requires { (length answer.now ≡ 48) × Short (get_or answer.now (3 + unit_number unit) (pos 0)) }
-    ensures { result ≡ get_or answer.now (3 + unit_number unit) (pos 0) }
+// A value that 32 bits hold; 0 where they do not.
+fn short_value(n: i64) -> i32
+    ensures { result ≡ narrow n }
 {
-    let k = 3 + unit_number(unit);
-    answer[k] as i32
+    i32::try_from(n).unwrap_or(0)
 }
 
-// Each line read by itself, into its cell of each row, where all checks are fine.
-pub fn read_lines(
-    choices: Choices,
-    book: &[u8],
-    pattern: &[u8],
+// The value of a unit in the row of a reading, for a cell.
+fn cell_in(answer: &[i64], unit: ParseUnit) -> i32
+    requires { length answer.now ≡ 48 }
+    ensures { result ≡ cell_in unit answer.now }
+{
+    short_value(answer[3 + unit_number(unit)])
+}
+
+// Each line of a text read by itself, into its cell of each row: by a function that reads a line into a row of 48 numbers and gives its
+// code.
+pub fn lay_lines<F: Fn(&[u8], &mut [i64]) -> u32>(
     text: &[u8],
-    year: i32,
+    read: F,
     days: &mut [i32],
     months: &mut [i32],
     years: &mut [i32],
     codes: &mut [u32],
 )
-    requires { list_check choices.edition pattern.now text.now year (rows_of days.old months.old years.old codes.old) ≡ Checked.Fine }
-    ensures { rows_of days.new months.new years.new codes.new ≡ laid (read_lines choices (book_in book.now) pattern.now text.now year) (rows_of days.old months.old years.old codes.old) }
+    requires room { hold (length (lines text.now)) (rows_of days.old months.old years.old codes.old) ≡ true }
+    requires takes { TakesLines (F.pre read) }
+    ensures { (reading : _) → StandsFor (F.post read) reading → rows_of days.new months.new years.new codes.new ≡ laid (map reading (lines text.now)) (rows_of days.old months.old years.old codes.old) }
 {
     let mut answer = [0i64; 48];
     let mut at = 0;
     let mut i = 0;
     while at < text.len() {
         let end = line_end(text, at);
-        codes[i] = read_row(choices, book, pattern, &text[at..end], year, &mut answer);
-        days[i] = value_of(&answer, ParseUnit::DayOfMonth);
-        months[i] = value_of(&answer, ParseUnit::Month);
-        years[i] = value_of(&answer, ParseUnit::Year);
+        codes[i] = read(&text[at..end], &mut answer);
+        days[i] = cell_in(&answer, ParseUnit::DayOfMonth);
+        months[i] = cell_in(&answer, ParseUnit::Month);
+        years[i] = cell_in(&answer, ParseUnit::Year);
         i += 1;
         at = next_line(text, end);
     }

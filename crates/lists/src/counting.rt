@@ -7,11 +7,9 @@ ghost use Rattle.meaning.specs.Lists.{lines};
 fn count_newlines(text: &[u8]) -> usize
     ensures { result ≡ newlines text.now }
 {
-    let mut n: usize = 0;
-    let mut i = 0;
-    while i < text.len() {
-        n = if text[i] == b'\n' { n + 1 } else { n };
-        i += 1;
+    let mut n = 0;
+    for &byte in text {
+        n = if byte == b'\n' { n + 1 } else { n };
     }
     n
 }

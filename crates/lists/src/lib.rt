@@ -8,15 +8,37 @@ pub mod line;
 pub mod line_reader;
 pub mod lines;
 
-ghost use Rattle.meaning.specs.Lists.{rows_of};
+ghost use Rattle.std.specs.Prelude.{◌≡◌, length, map};
+ghost use Rattle.lists.specs.LineReaders.{TakesLines, StandsFor, rows_check};
+ghost use Rattle.meaning.specs.Lists.{lines, listed_by, rows_by, rows_of};
 ghost use Rattle.meaning.specs.OpenedBooks.{book_in};
 ghost use Rattle.meaning.specs.Promises.{ReadsList};
 
-use crate::cells::{read_lines, rows_check};
+use crate::cells::{lay_lines, rows_check};
 use crate::counting::count_lines;
-use fields::checks::or_else;
-use meaning::{Checked, Choices, Listed};
-use reader::checks::once_check;
+use fields::checks::trust_check;
+use meaning::{Choices, Refusal};
+use rows::readings::read_row;
+
+// A list by any reader of lines, a function that reads a line into a row of 48 numbers and gives its code: how many lines, or 24. Cells
+// past the last line stay, and a refused list stores nothing.
+pub fn lay_list<F: Fn(&[u8], &mut [i64]) -> u32>(
+    text: &[u8],
+    read: F,
+    days: &mut [i32],
+    months: &mut [i32],
+    years: &mut [i32],
+    codes: &mut [u32],
+) -> Result<usize, Refusal>
+    requires { TakesLines (F.pre read) }
+    ensures listed { result ≡ listed_by (rows_check text.now (rows_of days.old months.old years.old codes.old)) (length (lines text.now)) }
+    ensures rows { (reading : _) → StandsFor (F.post read) reading → rows_of days.new months.new years.new codes.new ≡ rows_by (rows_check text.now (rows_of days.old months.old years.old codes.old)) (map reading (lines text.now)) (rows_of days.old months.old years.old codes.old) }
+{
+    let n = count_lines(text);
+    rows_check(n, days.len(), months.len(), years.len(), codes.len())?;
+    lay_lines(text, read, days, months, years, codes);
+    Ok(n)
+}
 
 // Reads a list with these choices: the day, the month and the year of line i into cell i of their rows, and its answer's number into that
 // of the codes. Cells past the last line stay, and a refused list stores nothing.
@@ -30,20 +52,10 @@ pub fn read_list(
     months: &mut [i32],
     years: &mut [i32],
     codes: &mut [u32],
-) -> Listed
+) -> Result<usize, Refusal>
     ensures { ReadsList choices (book_in book.now) pattern.now text.now year (rows_of days.old months.old years.old codes.old) result (rows_of days.new months.new years.new codes.new) }
 {
-    let edition = choices.edition;
-    let of_pattern = once_check(edition, pattern, year);
-    let n = count_lines(text);
-    let of_rows = rows_check(n, days.len(), months.len(), years.len(), codes.len());
-    match or_else(of_pattern, of_rows) {
-        Checked::Fine => {
-            read_lines(
-                choices, book, pattern, text, year, days, months, years, codes,
-            );
-            Listed::Lines(n)
-        }
-        Checked::Refused(why) => Listed::Refused(why),
-    }
+    trust_check(choices.edition, pattern, year)?;
+    let read = |line: &[u8], row: &mut [i64]| read_row(choices, book, pattern, line, year, row);
+    lay_list(text, read, days, months, years, codes)
 }

@@ -27,7 +27,7 @@ pub fn next_line<'a, 'b, 'c>(
     book: &'b [u8],
     pattern: &'c [u8],
     year: i32,
-) -> LineRead
+) -> Option<LineRead>
     ensures { ReadsLine choices (book_in book.now) pattern.now reader.entry.text.now reader.entry.at year result }
 {
     read_line(choices, book, pattern, reader.text, reader.at, year)

@@ -7,14 +7,12 @@ pub fn line_end(text: &[u8], at: usize) -> usize
     requires { at ≤ length text.now }
     ensures { result ≡ line_end text.now at }
 {
-    let mut end = at;
-    while end < text.len() {
+    for end in at..text.len() {
         if text[end] == b'\n' {
             return end;
         }
-        end += 1;
     }
-    end
+    text.len()
 }
 
 // Where the line behind one that ends at a place starts: behind the newline, or where the text ends.
@@ -22,8 +20,5 @@ pub fn next_line(text: &[u8], end: usize) -> usize
     requires { end ≤ length text.now }
     ensures { result ≡ next_line text.now end }
 {
-    if end < text.len() {
-        return end + 1;
-    }
-    end
+    text.len().min(end + 1)
 }

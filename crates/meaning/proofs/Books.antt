@@ -1,4 +1,5 @@
 -- Name books, by samples: English as a book is read as the English names, and what is refused, in its order.
+use Rattle.std.specs.Prelude.{Ok, Err}
 use mathlib.Core.List.{List, [], ◌∷◌, ◌++◌}
 use mathlib.Core.Path.{◌≡◌, refl}
 use Prim.Native.Nat.{ℕ}
@@ -7,8 +8,7 @@ use Rattle.meaning.specs.Bytes.{bytes}
 use Rattle.meaning.specs.Books.{book_of, joined, names_of, Valid, names_check, book_bytes, book_check, names_in, shelved}
 use Rattle.meaning.specs.Names.{english}
 use Rattle.meaning.specs.OpenedBooks.{names_at, book_in, opened_names, held_names}
-use Rattle.meaning.specs.declared.Checked.{Checked}
-use Rattle.meaning.specs.declared.Checked.TheVariants.{Fine, Refused}
+use Rattle.meaning.specs.Results.{Checked}
 use Rattle.meaning.specs.declared.Refusal.TheVariants.{BookMark, BookVersion, BookCut, BookName}
 use Rattle.meaning.proofs.Tables.{Sample, ◌↦'◌, Answered}
 
@@ -42,22 +42,22 @@ english-valid = record { counts = refl; good = refl }
 
 pub table : List (Sample (List ℕ) Checked)
 table =
-    [] ↦' Refused BookMark
-    ∷ bytes "LN" ↦' Refused BookMark
-    ∷ bytes "LNX" ↦' Refused BookMark
-    ∷ bytes "LNB" ↦' Refused BookCut
-    ∷ (bytes "LNB" ++ (0 ∷ [])) ↦' Refused BookCut
-    ∷ (bytes "LNB" ++ (0 ∷ 3 ∷ [])) ↦' Refused BookVersion
-    ∷ (bytes "LNB" ++ (1 ∷ 0 ∷ [])) ↦' Refused BookVersion
-    ∷ (bytes "LNB" ++ (0 ∷ 1 ∷ [])) ↦' Refused BookCut
-    ∷ english_book ↦' Fine
-    ∷ (english_book ++ (0 ∷ [])) ↦' Refused BookCut
-    ∷ take 100 english_book ↦' Refused BookCut
-    ∷ (bytes "LNB" ++ (0 ∷ 2 ∷ []) ++ drop 5 english_book ++ (7 ∷ 8 ∷ [])) ↦' Fine
-    ∷ book_bytes (bytes "January" ∷ bytes "Jan" ∷ drop 2 (names_of english)) ↦' Refused (BookName 2)
-    ∷ book_bytes (bytes "J" ∷ drop 1 (names_of english)) ↦' Refused (BookName 1)
-    ∷ book_bytes (take 63 (names_of english) ++ (bytes "DD" ∷ [])) ↦' Refused (BookName 64)
-    ∷ book_bytes (take 24 (names_of english) ++ (bytes "Sun-day" ∷ drop 25 (names_of english))) ↦' Refused (BookName 25)
+    [] ↦' Err BookMark
+    ∷ bytes "LN" ↦' Err BookMark
+    ∷ bytes "LNX" ↦' Err BookMark
+    ∷ bytes "LNB" ↦' Err BookCut
+    ∷ (bytes "LNB" ++ (0 ∷ [])) ↦' Err BookCut
+    ∷ (bytes "LNB" ++ (0 ∷ 3 ∷ [])) ↦' Err BookVersion
+    ∷ (bytes "LNB" ++ (1 ∷ 0 ∷ [])) ↦' Err BookVersion
+    ∷ (bytes "LNB" ++ (0 ∷ 1 ∷ [])) ↦' Err BookCut
+    ∷ english_book ↦' (Ok tt)
+    ∷ (english_book ++ (0 ∷ [])) ↦' Err BookCut
+    ∷ take 100 english_book ↦' Err BookCut
+    ∷ (bytes "LNB" ++ (0 ∷ 2 ∷ []) ++ drop 5 english_book ++ (7 ∷ 8 ∷ [])) ↦' (Ok tt)
+    ∷ book_bytes (bytes "January" ∷ bytes "Jan" ∷ drop 2 (names_of english)) ↦' Err (BookName 2)
+    ∷ book_bytes (bytes "J" ∷ drop 1 (names_of english)) ↦' Err (BookName 1)
+    ∷ book_bytes (take 63 (names_of english) ++ (bytes "DD" ∷ [])) ↦' Err (BookName 64)
+    ∷ book_bytes (take 24 (names_of english) ++ (bytes "Sun-day" ∷ drop 25 (names_of english))) ↦' Err (BookName 25)
     ∷ []
 
 pub samples : Answered book_check table

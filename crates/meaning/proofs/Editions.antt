@@ -1,5 +1,6 @@
 -- The second edition, by samples: single M takes a second digit, yy the one year of its window, 14 for the first eighty years; and the
 -- same texts in the first.
+use Rattle.std.specs.Prelude.{Result, Ok, Err}
 use mathlib.Core.Bool.{false}
 use mathlib.Core.List.{List, [], ◌∷◌}
 use mathlib.Core.Path.{refl}
@@ -7,7 +8,7 @@ use Prim.Native.Nat.{ℕ}
 use Prim.Native.String.{String}
 use lib.IntN.{ℤ, pos, neg_ℤ}
 use lib.ListN.{take}
-use Rattle.meaning.specs.Answers.{number, details, Answer, accepted, answer_by}
+use Rattle.meaning.specs.Answers.{number, details, Answer, accepted, refused}
 use Rattle.meaning.specs.Bytes.{bytes}
 use Rattle.meaning.specs.Names.{english}
 use Rattle.meaning.specs.Readers.{take_number}
@@ -16,6 +17,7 @@ use Rattle.meaning.specs.declared.Edition.{Edition}
 use Rattle.meaning.specs.declared.Edition.TheVariants.{First, Second}
 use Rattle.meaning.specs.declared.Pair.TheVariants.{Full}
 use Rattle.meaning.specs.declared.Reading.{Reading}
+use Rattle.meaning.specs.declared.Refusal.{Refusal}
 use Rattle.meaning.proofs.Tables.{Sample, ◌↦'◌, Answered}
 
 pub record Question : Type 0 where
@@ -31,8 +33,9 @@ abbrev second : ℕ → String → String → Question
 second current p s = record { edition = Second; current = current; pattern = p; text = s }
 
 -- the bytes read, and year, month and day
-abbrev date_of : Reading → Answer
-date_of r = answer_by r.checked (pos r.taken ∷ take 3 r.values)
+abbrev date_of : Result Reading Refusal → Answer
+date_of (Ok r) = accepted (pos r.taken ∷ take 3 r.values)
+date_of (Err why) = refused why
 
 pub asked : Question → Answer
 unfolding read

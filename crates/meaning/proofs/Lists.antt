@@ -1,4 +1,5 @@
 -- Lists, by samples in the current year 2025: the lines of a text; rows of five in which each cell was 7; the line at a place.
+use Rattle.std.specs.Prelude.{Option, Some, None}
 use mathlib.Core.List.{List, [], ◌∷◌, map}
 use mathlib.Core.Path.{◌≡◌, refl}
 use Prim.Native.Nat.{ℕ}
@@ -84,8 +85,9 @@ samples = refl
 
 -- the line reader: whether there is a line, where it starts and ends, where the next one starts, and its answer's number
 
-abbrev told : LineRead → List ℕ
-told l = l.start ∷ l.end ∷ l.next ∷ (read_answer l.reading).number ∷ []
+abbrev told : Option LineRead → List ℕ
+told (Some l) = l.start ∷ l.end ∷ l.next ∷ (read_answer l.reading).number ∷ []
+told None = 0 ∷ 0 ∷ 0 ∷ 0 ∷ []
 
 pub line-answers : map (λ at. told (read_line (plain Full) english (bytes "d/M") (bytes "3/1\nx\n4/2") at (pos 2025))) (0 ∷ 4 ∷ 6 ∷ 9 ∷ 99 ∷ [])
     ≡ (0 ∷ 3 ∷ 4 ∷ 0 ∷ []) ∷ (4 ∷ 5 ∷ 6 ∷ 9 ∷ []) ∷ (6 ∷ 9 ∷ 9 ∷ 0 ∷ []) ∷ (0 ∷ 0 ∷ 0 ∷ 0 ∷ []) ∷ (0 ∷ 0 ∷ 0 ∷ 0 ∷ []) ∷ []

@@ -1,4 +1,5 @@
 -- Specification, "Sheet samples": the fourteen on the lines marked P, as one table under one theorem.
+use Rattle.std.specs.Prelude.{Result, Ok, Err}
 use mathlib.Core.List.{List, [], ◌∷◌}
 use mathlib.Core.Path.{refl}
 use Prim.Native.Nat.{ℕ}
@@ -16,14 +17,13 @@ use Rattle.meaning.specs.Rules as U
 use Rattle.meaning.specs.Splitting as S
 use Rattle.meaning.specs.Whole.{plain, write, output, read, write_check, read_check, text, walk, last_of, bits, how_many}
 use Rattle.meaning.specs.Writing as W
-use Rattle.meaning.specs.declared.Checked.TheVariants.{Fine, Refused}
 use Rattle.meaning.specs.declared.Fields.{Fields}
 use Rattle.meaning.specs.declared.Pair.TheVariants.{Full}
 use Rattle.meaning.specs.declared.Reading.{Reading}
+use Rattle.meaning.specs.declared.Refusal.{Refusal}
 use Rattle.meaning.specs.declared.Refusal.TheVariants.{LoneQuote, InPart}
 use Rattle.meaning.specs.declared.Trouble.TheVariants.{PlusSign}
-use Rattle.meaning.specs.declared.Wrote.{Wrote}
-use Rattle.meaning.specs.declared.Wrote.TheVariants as wrote
+use Rattle.meaning.specs.Results.{Wrote}
 use Rattle.meaning.proofs.Tables.{Sample, ◌↦'◌, Answered}
 
 -- record R, with another year in some samples
@@ -38,7 +38,7 @@ pub data Question : Type 0 where
 
 pub data Answer : Type 0 where
   wrote' : Wrote → List ℕ → Answer
-  read' : Reading → Answer
+  read' : Result Reading Refusal → Answer
 
 pub blank : List ℕ
 blank = replicate 16 0
@@ -53,37 +53,26 @@ asked (reading p s) = read' (read (plain Full) english (bytes p) (bytes s) (pos 
 -- refusal of a plus at a place of the first part
 pub gives : String → ℕ → Answer
 unfolding blank
-gives t n = wrote' (wrote.Length n) (lib.Seq.sets blank 0 (bytes t))
+gives t n = wrote' (Ok n) (lib.Seq.sets blank 0 (bytes t))
 
 pub lone_quote : ℕ → Answer
 unfolding blank
-lone_quote place = wrote' (wrote.Refused (LoneQuote place)) blank
+lone_quote place = wrote' (Err (LoneQuote place)) blank
 
 pub gives' : ℤ → ℤ → ℕ → ℕ → ℕ → List ℕ → List ℕ → Answer
 gives' month day mask units taken starts ends =
     read'
-    (record {
-      checked = Fine;
+    (Ok (record {
       taken = taken;
       values = mathlib.Core.List.◌++◌ (pos 0 ∷ month ∷ day ∷ []) (replicate 12 (pos 0));
       mask = mask;
       units = units;
       starts = mathlib.Core.List.◌++◌ starts (replicate 12 0);
       ends = mathlib.Core.List.◌++◌ ends (replicate 12 0);
-    })
+    }))
 
 pub plus_at : ℕ → Answer
-plus_at place =
-    read'
-    (record {
-      checked = Refused (InPart PlusSign 0 place);
-      taken = 0;
-      values = replicate 15 (pos 0);
-      mask = 0;
-      units = 0;
-      starts = replicate 15 0;
-      ends = replicate 15 0;
-    })
+plus_at place = read' (Err (InPart PlusSign 0 place))
 
 pub table : List (Sample Question Answer)
 unfolding gives lone_quote gives' plus_at

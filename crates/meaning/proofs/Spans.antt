@@ -9,7 +9,7 @@ use lib.ListN.{replicate, set}
 use Rattle.meaning.specs.Bytes.{bytes}
 use Rattle.meaning.specs.Names.{english, names}
 use Rattle.meaning.specs.Readers.{take_number}
-use Rattle.meaning.specs.Whole.{plain, read}
+use Rattle.meaning.specs.Whole.{plain, read, record_of}
 use Rattle.meaning.specs.declared.Pair.TheVariants.{Full}
 
 pub record Spans : Type 0 where
@@ -19,7 +19,7 @@ pub record Spans : Type 0 where
 pub asked : String → String → Spans
 unfolding read
 asked p s =
-    let r = read (plain Full) english (bytes p) (bytes s) (pos 2025) in
+    let r = record_of (read (plain Full) english (bytes p) (bytes s) (pos 2025)) in
     record { starts = r.starts; ends = r.ends }
 
 -- a unit's span, and one more

@@ -1,4 +1,5 @@
 -- RFC 3339 stamps, by samples: those of the RFC, what is refused, in its order and with its places, and what is written.
+use Rattle.std.specs.Prelude.{Ok, Err}
 use mathlib.Core.Bool.{Bool, true, false}
 use mathlib.Core.List.{List, [], ◌∷◌}
 use mathlib.Core.Path.{refl}
@@ -17,20 +18,17 @@ use Rattle.meaning.specs.Writing.{offset_digits, all_zero, is_minus}
 use Rattle.meaning.specs.declared.Refusal.{Refusal}
 use Rattle.meaning.specs.declared.Refusal.TheVariants.{FieldRange, NoRoom, NotStamp, StampRange, LeapSecond, StampYear, StampOffset, NoSuchDay}
 use Rattle.meaning.specs.declared.Stamp.{Stamp}
-use Rattle.meaning.specs.declared.Stamped.{Stamped}
-use Rattle.meaning.specs.declared.Stamped.TheVariants as stamped
-use Rattle.meaning.specs.declared.Wrote.{Wrote}
-use Rattle.meaning.specs.declared.Wrote.TheVariants as wrote
+use Rattle.meaning.specs.Results.{Stamped, Wrote}
 use Rattle.meaning.proofs.Tables.{Sample, ◌↦'◌, Answered}
 
 abbrev stamp : ℤ → ℕ → ℕ → ℕ → ℤ → Bool → Stamp
 stamp y m d n o u = record { year = y; month = m; day = d; nanos = n; offset = o; unknown = u }
 
 abbrev is : ℕ → ℕ → ℕ → ℕ → ℤ → Bool → Stamped
-is y m d n o u = stamped.Read (stamp (pos y) m d n o u)
+is y m d n o u = Ok (stamp (pos y) m d n o u)
 
 abbrev no : Refusal → Stamped
-no why = stamped.Refused why
+no why = Err why
 
 abbrev read_text : String → Stamped
 read_text s = read_stamp (bytes s)
@@ -86,10 +84,10 @@ abbrev asked : Question → Answer
 asked q = wrote' (write_stamp q.stamp (replicate q.room 0)) (stamp_output q.stamp (replicate q.room 0))
 
 abbrev gives : String → ℕ → Answer
-gives t n = wrote' (wrote.Length n) (sets (replicate 36 0) 0 (bytes t))
+gives t n = wrote' (Ok n) (sets (replicate 36 0) 0 (bytes t))
 
 abbrev refuses : Refusal → ℕ → Answer
-refuses why room = wrote' (wrote.Refused why) (replicate room 0)
+refuses why room = wrote' (Err why) (replicate room 0)
 
 -- the third of December, at five and nine past seven
 abbrev at : ℤ → ℕ → ℤ → Bool → Stamp

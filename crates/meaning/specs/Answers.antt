@@ -1,35 +1,24 @@
 -- Specification, "Answer numbers": each refusal's number and what it returns; the number and the values of each kind of answer;
 -- and the checks that give refusals 1 to 7, 14 and 16. The checks of a function stand in its order, in Whole; those of a day's number
 -- in Days.
-use Rattle.std.specs.Prelude.{Bool, true, false, List, [], ◌∷◌, ◌++◌, map, ℕ, suc, ◌-◌, leb, ltb, ℤ, pos, nat_abs, length}
+use Rattle.std.specs.Prelude.{Bool, true, false, List, [], ◌∷◌, ◌++◌, map, ℕ, suc, ◌-◌, leb, ltb, ℤ, pos, nat_abs, length, Result, Ok, Err}
 use Rattle.meaning.specs.Bytes.{when, both}
 use Rattle.meaning.specs.Splitting.{Content, run, quotes, quoted, unclosed, contents}
 use Rattle.meaning.specs.Writing.{is_negative}
-use Rattle.meaning.specs.declared.Checked.{Checked}
-use Rattle.meaning.specs.declared.Checked.TheVariants.{Fine, Refused}
+use Rattle.meaning.specs.Results.{Checked, DayNumber, Listed, Offset, Stamped, Wrote}
 use Rattle.meaning.specs.declared.Day.{Day}
-use Rattle.meaning.specs.declared.DayNumber.{DayNumber}
-use Rattle.meaning.specs.declared.DayNumber.TheVariants as day_number
 use Rattle.meaning.specs.declared.Edition.{Edition}
 use Rattle.meaning.specs.declared.Edition.TheVariants.{First, Second}
 use Rattle.meaning.specs.declared.Fields.{Fields}
-use Rattle.meaning.specs.declared.Listed.{Listed}
-use Rattle.meaning.specs.declared.Listed.TheVariants as listed
-use Rattle.meaning.specs.declared.Offset.{Offset}
-use Rattle.meaning.specs.declared.Offset.TheVariants as offset
 use Rattle.meaning.specs.declared.Reading.{Reading}
 use Rattle.meaning.specs.declared.Refusal.{Refusal}
 use Rattle.meaning.specs.declared.Refusal.TheVariants.{PatternTooLong, PatternByte, LoneQuote, FieldRange, NoRoom, TextTooLong, TextByte, InPart, OffsetLength, OffsetRange, CurrentYear, TextLeft, NoSuchDay, NoDayNumber, BookMark, BookVersion, BookCut, BookName, ShortRow, NotStamp, StampRange, LeapSecond, StampYear, StampOffset, MendedTooLong}
 use Rattle.meaning.specs.declared.Split.{Split}
 use Rattle.meaning.specs.declared.Stamp.{Stamp}
-use Rattle.meaning.specs.declared.Stamped.{Stamped}
-use Rattle.meaning.specs.declared.Stamped.TheVariants as stamped
 use Rattle.meaning.specs.declared.Trouble.{Trouble}
 use Rattle.meaning.specs.declared.Trouble.TheVariants.{TooFew, NoNumber, NoName, NoSign, LiteralDiffers, PlusSign}
 use Rattle.meaning.specs.declared.Verdict.{Verdict}
-use Rattle.meaning.specs.declared.Verdict.TheVariants as verdict
-use Rattle.meaning.specs.declared.Wrote.{Wrote}
-use Rattle.meaning.specs.declared.Wrote.TheVariants as wrote
+use Rattle.meaning.specs.declared.Verdict.TheVariants.{Yes, No}
 
 abbrev pub trouble_number : Trouble → ℕ
 trouble_number TooFew = 8
@@ -106,33 +95,40 @@ abbrev pub refused : Refusal → Answer
 refused why = record { number = number why; values = details why }
 
 abbrev pub answer_by : Checked → List ℤ → Answer
-answer_by Fine values = accepted values
-answer_by (Refused why) values = refused why
+answer_by (Ok _) values = accepted values
+answer_by (Err why) values = refused why
 
 -- how many parts
-abbrev pub split_answer : Split → Answer
-split_answer s = answer_by s.checked (pos s.used ∷ [])
+abbrev pub split_answer : Result Split Refusal → Answer
+split_answer (Ok s) = accepted (pos s.used ∷ [])
+split_answer (Err why) = refused why
+
+-- one number
+abbrev pub integer_answer : Result ℤ Refusal → Answer
+integer_answer (Ok z) = accepted (z ∷ [])
+integer_answer (Err why) = refused why
+
+abbrev pub count_answer : Result ℕ Refusal → Answer
+count_answer (Ok n) = accepted (pos n ∷ [])
+count_answer (Err why) = refused why
 
 -- the length of the text
 abbrev pub wrote_answer : Wrote → Answer
-wrote_answer (wrote.Length n) = accepted (pos n ∷ [])
-wrote_answer (wrote.Refused why) = refused why
+wrote_answer wrote = count_answer wrote
 
 -- the bytes read, the mask, how many units, the fifteen values, and where the part of each began and where it ended
-abbrev pub read_answer : Reading → Answer
-read_answer r =
-    answer_by r.checked
-    (pos r.taken ∷ pos r.mask ∷ pos r.units ∷ r.values ++ map pos r.starts ++ map pos r.ends)
+abbrev pub read_answer : Result Reading Refusal → Answer
+read_answer (Ok r) =
+    accepted (pos r.taken ∷ pos r.mask ∷ pos r.units ∷ r.values ++ map pos r.starts ++ map pos r.ends)
+read_answer (Err why) = refused why
 
 -- how many lines
 abbrev pub list_answer : Listed → Answer
-list_answer (listed.Lines n) = accepted (pos n ∷ [])
-list_answer (listed.Refused why) = refused why
+list_answer listed = count_answer listed
 
 -- the seconds
 abbrev pub offset_answer : Offset → Answer
-offset_answer (offset.Seconds z) = accepted (z ∷ [])
-offset_answer (offset.Refused why) = refused why
+offset_answer offset = integer_answer offset
 
 -- the eight fields
 abbrev pub field_numbers : Fields → List ℤ
@@ -141,8 +137,7 @@ field_numbers f =
 
 -- the day's number
 abbrev pub day_number_answer : DayNumber → Answer
-day_number_answer (day_number.Number z) = accepted (z ∷ [])
-day_number_answer (day_number.Refused why) = refused why
+day_number_answer number = integer_answer number
 
 -- the six fields of a day
 abbrev pub day_answer : Day → Answer
@@ -154,33 +149,33 @@ abbrev pub stamp_numbers : Stamp → List ℤ
 stamp_numbers t = t.year ∷ pos t.month ∷ pos t.day ∷ pos t.nanos ∷ t.offset ∷ pos (when t.unknown 1 0) ∷ []
 
 abbrev pub stamp_answer : Stamped → Answer
-stamp_answer (stamped.Read t) = accepted (stamp_numbers t)
-stamp_answer (stamped.Refused why) = refused why
+stamp_answer (Ok t) = accepted (stamp_numbers t)
+stamp_answer (Err why) = refused why
 
 -- 1 for yes; 0 for no, with the part and a record for which it fails
-abbrev pub verdict_answer : Verdict → Answer
-verdict_answer verdict.Yes = accepted (pos 1 ∷ [])
-verdict_answer (verdict.No part f) = accepted (pos 0 ∷ pos part ∷ field_numbers f)
-verdict_answer (verdict.Refused why) = refused why
+abbrev pub verdict_answer : Result Verdict Refusal → Answer
+verdict_answer (Ok Yes) = accepted (pos 1 ∷ [])
+verdict_answer (Ok (No part f)) = accepted (pos 0 ∷ pos part ∷ field_numbers f)
+verdict_answer (Err why) = refused why
 
 -- the first check that refuses
 abbrev pub ◌else◌ : Checked → Checked → Checked
-Fine else next = next
-(Refused why) else next = Refused why
+(Ok _) else next = next
+(Err why) else next = Err why
 
 infixr 20 ◌else◌
 abbrev pub refuse_unless : Bool → Refusal → Checked
-refuse_unless true why = Fine
-refuse_unless false why = Refused why
+refuse_unless true why = Ok tt
+refuse_unless false why = Err why
 
 abbrev pub within : ℕ → ℕ → ℕ → Bool
 within low high n = both (leb low n) (leb n high)
 
 -- the place of the first byte that is not within these limits, counted on from i
 unfoldable pub byte_check : (ℕ → Refusal) → ℕ → ℕ → ℕ → List ℕ → Checked
-byte_check why low high i [] = Fine
+byte_check why low high i [] = Ok tt
 byte_check why low high i (b ∷ s) =
-    elim (within low high b) [ true ↦ byte_check why low high (suc i) s | false ↦ Refused (why i) ]
+    elim (within low high b) [ true ↦ byte_check why low high (suc i) s | false ↦ Err (why i) ]
 
 -- 1, 2
 unfoldable pub bytes_check : List ℕ → Checked
@@ -203,7 +198,7 @@ unfoldable pub pattern_check : List ℕ → Checked
 unfolding bytes_check ends_in_lone_quote contents
 pattern_check p =
     bytes_check p else
-    when (ends_in_lone_quote (contents p)) (Refused (LoneQuote (length p - 1))) Fine
+    when (ends_in_lone_quote (contents p)) (Err (LoneQuote (length p - 1))) (Ok tt)
 
 -- 4: "Year -5,879,611 to 5,879,611, not 0", and so on
 unfoldable pub fields_check : Fields → Checked
@@ -235,9 +230,9 @@ first_current_year Second = 81
 
 unfoldable pub current_year_check : Edition → ℤ → Checked
 current_year_check edition current =
-    when (is_negative current) (Refused (CurrentYear current))
+    when (is_negative current) (Err (CurrentYear current))
     (refuse_unless (within (first_current_year edition) 9999 (nat_abs current)) (CurrentYear current))
 
 -- 16, of a strict reading: the text that remains at a place, behind the last part
 abbrev pub rest_check : Bool → ℕ → List ℕ → Checked
-rest_check strict at s = when (both strict (ltb 0 (length s))) (Refused (TextLeft at)) Fine
+rest_check strict at s = when (both strict (ltb 0 (length s))) (Err (TextLeft at)) (Ok tt)

@@ -1,13 +1,12 @@
 -- Request [8]: a name book. It opens with the mark LNB and a version of 16 bits, high byte first; then stand its 64 names, each
 -- behind a byte that is its length. Version 2 may have bytes behind the names.
-use Rattle.std.specs.Prelude.{Bool, true, false, not, List, [], ◌∷◌, ◌++◌, map, ◌≡◌, ℕ, zero, suc, ◌+◌, ◌*◌, eqb, leb, length, get_or, take, drop}
-use Prim.Native.Char.{Char, code}
+use Rattle.std.specs.Prelude.{Bool, true, false, not, List, [], ◌∷◌, ◌++◌, map, ◌≡◌, ℕ, zero, suc, ◌+◌, ◌*◌, eqb, leb, length, get_or, take, drop, Ok, Err}
+use Prim.Native.Char.{code}
 use Rattle.meaning.specs.Answers.{◌else◌, refuse_unless, within}
 use Rattle.meaning.specs.Bytes.{when, both, bytes}
 use Rattle.meaning.specs.Names.{Book}
 use Rattle.meaning.specs.Readers.{begins}
-use Rattle.meaning.specs.declared.Checked.{Checked}
-use Rattle.meaning.specs.declared.Checked.TheVariants.{Fine, Refused}
+use Rattle.meaning.specs.Results.{Checked}
 use Rattle.meaning.specs.declared.Refusal.TheVariants.{BookMark, BookVersion, BookCut, BookName}
 
 -- a list of a book: how many names, how many letters each has, and whether no name may begin another
@@ -78,20 +77,20 @@ is_good s earlier name =
 -- the first bad name of so many that are left of a list, counted on from i; else on to what follows
 unfoldable pub shelf_check : Shelf → ℕ → ℕ → List (List ℕ) → List (List ℕ) → Checked
 unfolding is_good
-shelf_check s zero i earlier ns = Fine
-shelf_check s (suc k) i earlier [] = Fine
+shelf_check s zero i earlier ns = Ok tt
+shelf_check s (suc k) i earlier [] = Ok tt
 shelf_check s (suc k) i earlier (name ∷ ns) = refuse_unless (is_good s earlier name) (BookName i) else shelf_check s k (suc i) (name ∷ earlier) ns
 
 -- 23
 unfoldable pub names_check : List Shelf → ℕ → List (List ℕ) → Checked
 unfolding shelf_check
-names_check [] i ns = Fine
+names_check [] i ns = Ok tt
 names_check (s ∷ ss) i ns = shelf_check s s.count i [] ns else names_check ss (i + s.count) (drop s.count ns)
 
 -- a book: as many names in each list as there must be, and none of them bad
 pub record Valid (b : Book) : Type 0 where
   pub counts : map length (lists_of b) ≡ map (λ s. s.count) shelves
-  pub good : names_check shelves 1 (names_of b) ≡ Fine
+  pub good : names_check shelves 1 (names_of b) ≡ Ok tt
 
 -- so many names, each behind its length, and the bytes that are left; none where these are too few
 pub data Shelved : Type 0 where
@@ -126,7 +125,7 @@ abbrev pub may_go_on : ℕ → Bool
 may_go_on v = eqb v 2
 
 abbrev pub shelved_check : ℕ → Shelved → Checked
-shelved_check v cut = Refused BookCut
+shelved_check v cut = Err BookCut
 shelved_check v (shelved ns rest) = refuse_unless (when (may_go_on v) true (eqb (length rest) 0)) BookCut else names_check shelves 1 ns
 
 unfoldable pub book_check : List ℕ → Checked

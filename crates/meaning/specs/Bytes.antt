@@ -1,7 +1,7 @@
 -- Bytes and decimal text, for the specification, "What each symbol does": a choice by a test, the bytes of a quoted text, what
 -- is a digit, and "num k". How numbers are read is in Numerals.
 use Rattle.std.specs.Prelude.{Bool, true, false, List, [], ◌∷◌, ◌++◌, ℕ, zero, suc, ◌+◌, ◌/◌, ◌%◌, max, leb, ltb, get_or}
-use Prim.Native.Char.{Char, code}
+use Prim.Native.Char.{code}
 use Prim.Native.String.{String, [] as []ˢ, ◌∷◌ as ◌∷ˢ◌}
 
 -- the first where the test holds, else the second

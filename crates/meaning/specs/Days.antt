@@ -1,13 +1,10 @@
 -- Request [2]: the day of a number, and the number of a day, which is checked for 17 and then 18.
-use Rattle.std.specs.Prelude.{Bool, true, ◌≡◌, ℕ, suc, leb, ℤ, pos, negsuc}
+use Rattle.std.specs.Prelude.{Bool, true, ◌≡◌, ℕ, suc, leb, ℤ, pos, negsuc, Ok, Err}
 use Rattle.meaning.specs.Answers.{◌else◌, refuse_unless}
 use Rattle.meaning.specs.Calendar.{is_date, day_of_year, date_number}
 use Rattle.meaning.specs.Weeks.{weekday, IsWeek}
-use Rattle.meaning.specs.declared.Checked.{Checked}
-use Rattle.meaning.specs.declared.Checked.TheVariants.{Fine, Refused}
+use Rattle.meaning.specs.Results.{Checked, DayNumber}
 use Rattle.meaning.specs.declared.Day.{Day}
-use Rattle.meaning.specs.declared.DayNumber.{DayNumber}
-use Rattle.meaning.specs.declared.DayNumber.TheVariants as number
 use Rattle.meaning.specs.declared.Refusal.TheVariants.{NoSuchDay, NoDayNumber}
 
 -- r is the day with that number, and what the calendar says of it
@@ -30,8 +27,8 @@ day_check y m d =
     refuse_unless (is_short (date_number y m d)) NoDayNumber
 
 abbrev pub day_number_by : Checked → ℤ → DayNumber
-day_number_by Fine z = number.Number z
-day_number_by (Refused why) z = number.Refused why
+day_number_by (Ok _) z = Ok z
+day_number_by (Err why) z = Err why
 
 unfoldable pub day_number : ℤ → ℕ → ℕ → DayNumber
 unfolding day_check

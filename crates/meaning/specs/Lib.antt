@@ -1,4 +1,5 @@
 pub mod Bytes
+pub mod Results
 pub mod UnitSizes
 pub mod Names
 pub mod Splitting

@@ -1,21 +1,19 @@
 -- Request [9]: a whole list at once. The lines of a text; each read by itself with one pattern, into four lent rows; and the line
 -- that starts at a place, read by itself.
-use Rattle.std.specs.Prelude.{Bool, true, false, List, [], ◌∷◌, map, ℕ, suc, ◌+◌, min, eqb, leb, ℤ, pos, length, get_or, drop}
+use Rattle.std.specs.Prelude.{Bool, true, false, List, [], ◌∷◌, map, ℕ, suc, ◌+◌, min, eqb, leb, ℤ, pos, length, get_or, drop, Option, Some, None, Result, Ok, Err}
 use Rattle.std.proofs.lemmas.List.Edits.{sets}
 use Rattle.meaning.specs.Answers.{◌else◌, refuse_unless, pattern_check, current_year_check, read_answer}
 use Rattle.meaning.specs.Bytes.{both}
 use Rattle.meaning.specs.Names.{Book}
-use Rattle.meaning.specs.Whole.{unit_number, reading_of, read}
-use Rattle.meaning.specs.declared.Checked.{Checked}
-use Rattle.meaning.specs.declared.Checked.TheVariants.{Fine, Refused}
+use Rattle.meaning.specs.Whole.{unit_number, record_of, read}
+use Rattle.meaning.specs.Results.{Checked, Listed}
 use Rattle.meaning.specs.declared.Choices.{Choices}
 use Rattle.meaning.specs.declared.Edition.{Edition}
 use Rattle.meaning.specs.declared.LineRead.{LineRead}
-use Rattle.meaning.specs.declared.Listed.{Listed}
-use Rattle.meaning.specs.declared.Listed.TheVariants as listed
 use Rattle.meaning.specs.declared.ParseUnit.{ParseUnit}
 use Rattle.meaning.specs.declared.ParseUnit.TheVariants.{Year, Month, DayOfMonth}
 use Rattle.meaning.specs.declared.Reading.{Reading}
+use Rattle.meaning.specs.declared.Refusal.{Refusal}
 use Rattle.meaning.specs.declared.Refusal.TheVariants.{ShortRow}
 
 -- "A newline ends a line and a last line without one counts; an empty text has no line."
@@ -34,7 +32,7 @@ lines (b ∷ s) = elim (eqb b newline) [ true ↦ [] ∷ lines s | false ↦ bef
 
 -- "Each step gives the line's own answer as the plain reader would, so a bad line spoils no other."
 
-unfoldable pub read_lines : Choices → Book → List ℕ → List ℕ → ℤ → List Reading
+unfoldable pub read_lines : Choices → Book → List ℕ → List ℕ → ℤ → List (Result Reading Refusal)
 unfolding lines read
 read_lines choices book p s current = map (λ line. read choices book p line current) (lines s)
 
@@ -50,14 +48,14 @@ pub record Rows : Type 0 where
 abbrev pub rows_of : List ℤ → List ℤ → List ℤ → List ℕ → Rows
 rows_of days months years codes = record { days = days; months = months; years = years; codes = codes }
 
-abbrev pub cell : ParseUnit → Reading → ℤ
-cell unit r = get_or r.values (unit_number unit) (pos 0)
+abbrev pub cell : ParseUnit → Result Reading Refusal → ℤ
+cell unit r = get_or (record_of r).values (unit_number unit) (pos 0)
 
-abbrev pub code_of : Reading → ℕ
+abbrev pub code_of : Result Reading Refusal → ℕ
 code_of r = (read_answer r).number
 
 -- "cells past the last line stay"
-abbrev pub laid : List Reading → Rows → Rows
+abbrev pub laid : List (Result Reading Refusal) → Rows → Rows
 laid rs rows =
     rows_of (sets rows.days 0 (map (cell DayOfMonth) rs)) (sets rows.months 0 (map (cell Month) rs))
     (sets rows.years 0 (map (cell Year) rs)) (sets rows.codes 0 (map code_of rs))
@@ -77,12 +75,12 @@ list_check edition p s current rows =
     refuse_unless (hold (length (lines s)) rows) ShortRow
 
 abbrev pub listed_by : Checked → ℕ → Listed
-listed_by Fine n = listed.Lines n
-listed_by (Refused why) n = listed.Refused why
+listed_by (Ok _) n = Ok n
+listed_by (Err why) n = Err why
 
-abbrev pub rows_by : Checked → List Reading → Rows → Rows
-rows_by Fine rs rows = laid rs rows
-rows_by (Refused why) rs rows = rows
+abbrev pub rows_by : Checked → List (Result Reading Refusal) → Rows → Rows
+rows_by (Ok _) rs rows = laid rs rows
+rows_by (Err why) rs rows = rows
 
 -- the answer, and the lent rows afterwards
 unfoldable pub read_list : Choices → Book → List ℕ → List ℕ → ℤ → Rows → Listed
@@ -96,18 +94,15 @@ list_rows choices book p s current rows =
 
 -- The line reader: the first line of what stands from a place on, with its answer and the place of the next line, or none.
 
-abbrev pub no_line : LineRead
-no_line = record { there = false; start = 0; end = 0; next = 0; reading = reading_of Fine 0 [] }
-
-abbrev pub line_at : ℕ → ℕ → List ℕ → Reading → LineRead
+abbrev pub line_at : ℕ → ℕ → List ℕ → Result Reading Refusal → LineRead
 line_at size at line r =
-    record { there = true; start = at; end = at + length line; next = min (suc (at + length line)) size; reading = r }
+    record { start = at; end = at + length line; next = min (suc (at + length line)) size; reading = r }
 
-abbrev pub first_line : ℕ → ℕ → (List ℕ → Reading) → List (List ℕ) → LineRead
-first_line size at reading [] = no_line
-first_line size at reading (line ∷ ls) = line_at size at line (reading line)
+abbrev pub first_line : ℕ → ℕ → (List ℕ → Result Reading Refusal) → List (List ℕ) → Option LineRead
+first_line size at reading [] = None
+first_line size at reading (line ∷ ls) = Some (line_at size at line (reading line))
 
-unfoldable pub read_line : Choices → Book → List ℕ → List ℕ → ℕ → ℤ → LineRead
+unfoldable pub read_line : Choices → Book → List ℕ → List ℕ → ℕ → ℤ → Option LineRead
 unfolding lines read
 read_line choices book p s at current =
     first_line (length s) at (λ line. read choices book p line current) (lines (drop at s))

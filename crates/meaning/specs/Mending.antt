@@ -1,8 +1,8 @@
 -- Request [12], mend this pattern: the bytes of a part, what a part becomes by itself, each change as a line of a list, and how
 -- listed changes are undone. Behind which parts spaces are put is a matter of the check, in `trust`'s Mending.
-use Rattle.std.specs.Prelude.{Bool, true, List, [], ◌∷◌, ◌++◌, ℕ, ◌+◌, ◌-◌, ◌*◌, eqb, leb, ℤ, pos, length, take, drop, replicate}
+use Rattle.std.specs.Prelude.{Bool, true, List, [], ◌∷◌, ◌++◌, ℕ, ◌+◌, ◌-◌, ◌*◌, eqb, leb, ℤ, pos, length, take, drop, replicate, Result, Ok, Err}
 use Prim.Native.Char.{code}
-use Rattle.meaning.specs.Answers.{Answer, answer_by, within, room_check}
+use Rattle.meaning.specs.Answers.{Answer, accepted, refused, within, room_check}
 use Rattle.meaning.specs.Bytes.{when, both, quote}
 use Rattle.meaning.specs.Readers.{begins}
 use Rattle.meaning.specs.Splitting.{Content, run, quotes, quoted, unclosed, length_of}
@@ -10,13 +10,12 @@ use Rattle.meaning.specs.Whole.{output_by}
 use Rattle.meaning.specs.Writing.{ends_in_quote}
 use Rattle.meaning.specs.declared.Change.{Change}
 use Rattle.meaning.specs.declared.Changes.{Changes}
-use Rattle.meaning.specs.declared.Checked.{Checked}
-use Rattle.meaning.specs.declared.Checked.TheVariants.{Fine, Refused}
+use Rattle.meaning.specs.Results.{Checked, Undone}
 use Rattle.meaning.specs.declared.Edition.{Edition}
 use Rattle.meaning.specs.declared.Edition.TheVariants.{First, Second}
 use Rattle.meaning.specs.declared.Mended.{Mended}
-use Rattle.meaning.specs.declared.Undone.{Undone}
-use Rattle.meaning.specs.declared.Undone.TheVariants as undone
+use Rattle.meaning.specs.declared.NotUndone.TheVariants.{Misfit, Refused}
+use Rattle.meaning.specs.declared.Refusal.{Refusal}
 
 abbrev pub space : ℕ
 space = code " "
@@ -87,9 +86,9 @@ change_numbers [] = []
 change_numbers (c ∷ cs) = pos c.place ∷ pos c.byte ∷ pos c.before ∷ pos c.after ∷ change_numbers cs
 
 -- the length of the mended pattern, how many changes, and each
-abbrev pub mended_answer : Mended → Answer
-mended_answer r =
-    answer_by r.checked (pos r.length ∷ pos r.changes.used ∷ change_numbers (changes_in r.changes))
+abbrev pub mended_answer : Result Mended Refusal → Answer
+mended_answer (Ok r) = accepted (pos r.length ∷ pos r.changes.used ∷ change_numbers (changes_in r.changes))
+mended_answer (Err why) = refused why
 
 -- Undoing. A change fits a pattern, of which the bytes before a place are done with, where it stands behind them; it only adds.
 unfoldable pub fits : List ℕ → ℕ → Change → Bool
@@ -112,13 +111,13 @@ undone_from p at (c ∷ cs) =
 -- the answer, 5 where the output is too small, and the lent output afterwards
 
 abbrev pub undone_by : Checked → List ℕ → Undone
-undone_by Fine t = undone.Length (length t)
-undone_by (Refused why) t = undone.Refused why
+undone_by (Ok _) t = Ok (length t)
+undone_by (Err why) t = Err (Refused why)
 
 unfoldable pub undo : List ℕ → List Change → List ℕ → Undone
 unfolding all_fit undone_from
 undo p cs out =
-    when (all_fit p 0 cs) (undone_by (room_check (length out) (length (undone_from p 0 cs))) (undone_from p 0 cs)) undone.Misfit
+    when (all_fit p 0 cs) (undone_by (room_check (length out) (length (undone_from p 0 cs))) (undone_from p 0 cs)) (Err Misfit)
 
 unfoldable pub undo_output : List ℕ → List Change → List ℕ → List ℕ
 unfolding all_fit undone_from

@@ -1,7 +1,7 @@
 -- Zones as the Rust writes them, with the sign by the offset alone, so that -30 seconds can be -00:00: kept to say which texts
 -- demand 2 excepts. The code cites nothing of this; the theorems are in `Minus` of laws.
 use Rattle.std.specs.Prelude.{Bool, true, false, List, [], ◌∷◌, ◌≡◌, ℕ, eqb, ltb, ℤ, nat_abs}
-use Prim.Native.Char.{Char, code}
+use Prim.Native.Char.{code}
 use Rattle.meaning.specs.Bytes.{when, both, minus, plus}
 use Rattle.meaning.specs.Writing.{is_negative, offset_digits, all_zero}
 use Rattle.meaning.specs.declared.Group.{Group}

@@ -6,8 +6,7 @@ use Rattle.meaning.specs.Books.{shelves, names_of, Shelved, cut, shelved, names_
 use Rattle.meaning.specs.Bytes.{when}
 use Rattle.meaning.specs.Names.{Book, english}
 use Rattle.meaning.specs.Whole.{wrote_by, output_by}
-use Rattle.meaning.specs.declared.Checked.{Checked}
-use Rattle.meaning.specs.declared.Wrote.{Wrote}
+use Rattle.meaning.specs.Results.{Checked, Wrote}
 
 -- the room of a name: a byte that is its length, and 20 for its letters
 abbrev pub name_room : ℕ

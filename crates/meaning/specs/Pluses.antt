@@ -1,6 +1,6 @@
 -- Reading as the Rust has it, where a number may begin with a plus: reading as it was before refusal 19, kept to say which texts
 -- demand 2 excepts. The code cites nothing of this; the theorems are in `Pluses` of laws.
-use Rattle.std.specs.Prelude.{Bool, false, List, [], ◌∷◌, ◌≡◌, ℕ, eqb, leb, ltb, ℤ, length, get_or, take}
+use Rattle.std.specs.Prelude.{Bool, false, List, [], ◌∷◌, ◌≡◌, ℕ, eqb, leb, ltb, ℤ, length, get_or, take, Result, Err}
 use Rattle.std.proofs.Math.Option.{Option, none}
 use Rattle.meaning.specs.Bytes.{when, both, plus}
 use Rattle.meaning.specs.Names.{Book}
@@ -8,12 +8,10 @@ use Rattle.meaning.specs.Numerals.{Signed, plus_first, sized, number_of}
 use Rattle.meaning.specs.Readers.{stopped, NumberReader, taken_number}
 use Rattle.meaning.specs.Whole.{read_with, parse_offset_with}
 use Rattle.meaning.specs.declared.Choices.{Choices}
-use Rattle.meaning.specs.declared.Checked.{Checked}
-use Rattle.meaning.specs.declared.Checked.TheVariants.{Refused}
+use Rattle.meaning.specs.Results.{Offset}
 use Rattle.meaning.specs.declared.Numeral.{Numeral}
-use Rattle.meaning.specs.declared.Offset.{Offset}
-use Rattle.meaning.specs.declared.Offset.TheVariants as offset
 use Rattle.meaning.specs.declared.Reading.{Reading}
+use Rattle.meaning.specs.declared.Refusal.{Refusal}
 use Rattle.meaning.specs.declared.Refusal.TheVariants.{InPart}
 use Rattle.meaning.specs.declared.Trouble.TheVariants.{TooFew, PlusSign}
 
@@ -27,7 +25,7 @@ unfoldable pub take_number_with_plus : NumberReader
 unfolding number_with_plus
 take_number_with_plus kind k s = when (ltb (length s) k) (stopped TooFew 0) (taken_number k (number_with_plus kind (take k s)))
 
-abbrev pub read_with_plus : Choices → Book → List ℕ → List ℕ → ℤ → Reading
+abbrev pub read_with_plus : Choices → Book → List ℕ → List ℕ → ℤ → Result Reading Refusal
 read_with_plus = read_with take_number_with_plus
 
 abbrev pub parse_offset_with_plus : List ℕ → Offset
@@ -38,13 +36,13 @@ abbrev pub plus_taken : ℕ → List ℕ → Bool
 plus_taken k s = both (leb k (length s)) (plus_first (take k s))
 
 -- what is excepted: a text that is refused 19, where it has a plus
-pub record RefusedAtPlus (s : List ℕ) (checked : Checked) : Type 0 where
+pub record RefusedAtPlus (s : List ℕ) (r : Result Reading Refusal) : Type 0 where
   pub part : ℕ
   pub place : ℕ
-  pub refused : checked ≡ Refused (InPart PlusSign part place)
+  pub refused : r ≡ Err (InPart PlusSign part place)
   pub there : get_or s place 0 ≡ plus
 
 -- the same of parse_offset, with the place of the hour or of the minute
 pub record OffsetAtPlus (s : List ℕ) (place : ℕ) (o : Offset) : Type 0 where
-  pub refused : o ≡ offset.Refused (InPart PlusSign 0 place)
+  pub refused : o ≡ Err (InPart PlusSign 0 place)
   pub there : get_or s place 0 ≡ plus

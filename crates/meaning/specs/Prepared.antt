@@ -1,6 +1,6 @@
 -- Request [11]: what a prepared pattern does: what its steps do, behind what its pattern was refused for. "Every answer, refusal, place and
 -- count equals the direct engine's": with a pattern's own check and steps these are `write`, `output` and `read` of Whole.
-use Rattle.std.specs.Prelude.{List, [], map, ℕ, ℤ, pos, nat_abs, length}
+use Rattle.std.specs.Prelude.{List, [], map, ℕ, ℤ, pos, nat_abs, length, Result, Ok, Err}
 use Rattle.meaning.specs.Answers.{◌else◌, refuse_unless, fields_check, room_check, current_year_check, text_check}
 use Rattle.meaning.specs.Bytes.{when}
 use Rattle.meaning.specs.Days.{is_short}
@@ -8,14 +8,13 @@ use Rattle.meaning.specs.Lists.{Rows, lines, hold, listed_by, rows_by}
 use Rattle.meaning.specs.Names.{Book}
 use Rattle.meaning.specs.Whole.{wrote_by, output_by, walk, read_by, last_of, bits, how_many}
 use Rattle.meaning.specs.Writing.{Step, texts}
-use Rattle.meaning.specs.declared.Checked.{Checked}
+use Rattle.meaning.specs.Results.{Checked, Listed, Wrote}
 use Rattle.meaning.specs.declared.Choices.{Choices}
 use Rattle.meaning.specs.declared.Edition.{Edition}
 use Rattle.meaning.specs.declared.Fields.{Fields}
-use Rattle.meaning.specs.declared.Listed.{Listed}
 use Rattle.meaning.specs.declared.Reading.{Reading}
+use Rattle.meaning.specs.declared.Refusal.{Refusal}
 use Rattle.meaning.specs.declared.Refusal.TheVariants.{ShortRow}
-use Rattle.meaning.specs.declared.Wrote.{Wrote}
 
 -- Writing: what the pattern was refused for, then 4, 5.
 
@@ -34,7 +33,7 @@ output_steps of_pattern book ss f out = output_by (write_steps_check of_pattern 
 
 -- Reading: what the pattern was refused for, then 14, 6, 7, then the steps in order. Of the choices strict and edition count: the pair was
 -- chosen when the steps were.
-unfoldable pub read_steps : Checked → Choices → Book → List Step → List ℕ → ℤ → Reading
+unfoldable pub read_steps : Checked → Choices → Book → List Step → List ℕ → ℤ → Result Reading Refusal
 unfolding current_year_check text_check walk last_of bits how_many
 read_steps of_pattern choices book ss s current =
     read_by (of_pattern else current_year_check choices.edition current else text_check s) (walk choices book (nat_abs current) 0 0 ss s [])
@@ -52,19 +51,19 @@ list_steps_check of_pattern edition s current rows =
 abbrev pub narrow : ℤ → ℤ
 narrow z = when (is_short z) z (pos 0)
 
-abbrev pub narrowed : Reading → Reading
-narrowed r =
-    record {
-      checked = r.checked;
+abbrev pub narrowed : Result Reading Refusal → Result Reading Refusal
+narrowed (Ok r) =
+    Ok (record {
       taken = r.taken;
       values = map narrow r.values;
       mask = r.mask;
       units = r.units;
       starts = r.starts;
       ends = r.ends;
-    }
+    })
+narrowed (Err why) = Err why
 
-unfoldable pub read_lines_steps : Checked → Choices → Book → List Step → List ℕ → ℤ → List Reading
+unfoldable pub read_lines_steps : Checked → Choices → Book → List Step → List ℕ → ℤ → List (Result Reading Refusal)
 unfolding lines read_steps
 read_lines_steps of_pattern choices book ss s current = map (λ line. narrowed (read_steps of_pattern choices book ss line current)) (lines s)
 

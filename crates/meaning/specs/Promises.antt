@@ -1,7 +1,7 @@
 -- Specification, "How tight the promises are": what each public function promises of its answer r and, where it is lent an
 -- output, of the output afterwards. That of the check is `Says` in `Trust`, that of the day of a number `DayOf` in `Days`, that of a
 -- mending `Mends` in `trust`'s `Mending`.
-use Rattle.std.specs.Prelude.{Bool, List, ◌≡◌, ℕ, ℤ}
+use Rattle.std.specs.Prelude.{Bool, List, ◌≡◌, ℕ, ℤ, Option, Result}
 use Rattle.meaning.specs.Answers.{Answer, split_answer, wrote_answer, read_answer, list_answer, offset_answer, day_number_answer, stamp_answer}
 use Rattle.meaning.specs.Days.{day_number}
 use Rattle.meaning.specs.Lists.{Rows, read_list, list_rows, read_line}
@@ -12,19 +12,15 @@ use Rattle.meaning.specs.Stamps.{read_stamp, write_stamp, stamp_output}
 use Rattle.meaning.specs.Whole.{split, write, output, read, parse_offset, unit_number, marked}
 use Rattle.meaning.specs.declared.Change.{Change}
 use Rattle.meaning.specs.declared.Choices.{Choices}
-use Rattle.meaning.specs.declared.DayNumber.{DayNumber}
+use Rattle.meaning.specs.Results.{DayNumber, Listed, Offset, Stamped, Undone, Wrote}
 use Rattle.meaning.specs.declared.Fields.{Fields}
 use Rattle.meaning.specs.declared.LineRead.{LineRead}
-use Rattle.meaning.specs.declared.Listed.{Listed}
-use Rattle.meaning.specs.declared.Offset.{Offset}
 use Rattle.meaning.specs.declared.Pair.{Pair}
 use Rattle.meaning.specs.declared.ParseUnit.{ParseUnit}
 use Rattle.meaning.specs.declared.Reading.{Reading}
+use Rattle.meaning.specs.declared.Refusal.{Refusal}
 use Rattle.meaning.specs.declared.Split.{Split}
-use Rattle.meaning.specs.declared.Undone.{Undone}
 use Rattle.meaning.specs.declared.Stamp.{Stamp}
-use Rattle.meaning.specs.declared.Stamped.{Stamped}
-use Rattle.meaning.specs.declared.Wrote.{Wrote}
 
 -- r is the answer d: by the specification's number and values, and in all that it holds. Where the answer is an enum either says the
 -- other.
@@ -32,13 +28,13 @@ pub record SameAnswer {A : Type 0} (answer : A → Answer) (r d : A) : Type 0 wh
   pub told : answer r ≡ answer d
   pub whole : r ≡ d
 
-abbrev pub Splits : List ℕ → Split → Type 0
+abbrev pub Splits : List ℕ → Result Split Refusal → Type 0
 Splits p r = SameAnswer split_answer r (split p)
 
 abbrev pub Writes : Pair → Book → List ℕ → Fields → List ℕ → Wrote → List ℕ → Type 0
 Writes pair book p f out r after = SameAnswer wrote_answer r (write pair book p f out) × (after ≡ output pair book p f out)
 
-abbrev pub Reads : Choices → Book → List ℕ → List ℕ → ℤ → Reading → Type 0
+abbrev pub Reads : Choices → Book → List ℕ → List ℕ → ℤ → Result Reading Refusal → Type 0
 Reads choices book p s current r = SameAnswer read_answer r (read choices book p s current)
 
 abbrev pub ParsesOffset : List ℕ → Offset → Type 0
@@ -62,7 +58,7 @@ abbrev pub ReadsList : Choices → Book → List ℕ → List ℕ → ℤ → Ro
 ReadsList choices book p s current rows r after =
     SameAnswer list_answer r (read_list choices book p s current rows) × (after ≡ list_rows choices book p s current rows)
 
-abbrev pub ReadsLine : Choices → Book → List ℕ → List ℕ → ℕ → ℤ → LineRead → Type 0
+abbrev pub ReadsLine : Choices → Book → List ℕ → List ℕ → ℕ → ℤ → Option LineRead → Type 0
 ReadsLine choices book p s at current r = r ≡ read_line choices book p s at current
 
 -- listed changes of a pattern undone

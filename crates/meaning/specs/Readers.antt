@@ -3,7 +3,7 @@
 -- is given. `do` runs one reader after the other.
 use Rattle.std.specs.Prelude.{Bool, true, false, List, [], ◌∷◌, ℕ, zero, suc, ◌+◌, eqb, ltb, ℤ, length, take, drop}
 use Rattle.std.proofs.Math.Option.{Option, none, some}
-use Prim.Native.Char.{Char, code}
+use Prim.Native.Char.{code}
 use Rattle.meaning.specs.Bytes.{when, both, digit_at, plus, minus}
 use Rattle.meaning.specs.Numerals.{Signed, plus_first, number_of, integer}
 use Rattle.meaning.specs.declared.Numeral.{Numeral}

@@ -1,7 +1,7 @@
 -- Specification, "What each symbol does": the table of rules. A symbol has a row for some counts and one for all others. What
 -- a rule writes is in Writing, what it reads in Reading.
 use Rattle.std.specs.Prelude.{Bool, true, false, List, [], ◌∷◌, ℕ, eqb, leb}
-use Prim.Native.Char.{Char, code}
+use Prim.Native.Char.{code}
 use Rattle.meaning.specs.Bytes.{when}
 use Rattle.meaning.specs.declared.Group.TheVariants.{Never, NotZero, Always}
 use Rattle.meaning.specs.declared.NameList.TheVariants.{EraAbbreviated, EraNarrow, EraWide, QuarterWide, MonthAbbreviated, MonthWide, MonthNarrow, WdayAbbreviated, WdayWide, WdayNarrow, WdayShort, PeriodUpper, PeriodLower, PeriodDotted, PeriodLetter, NoonUpper, NoonLower, NoonDotted, NoonLetter}

@@ -1,6 +1,6 @@
 -- Request [10], RFC 3339 stamps: what a date-time that was read may be, and the record that it stands for; and the text of a record. The
 -- grammar is in StampGrammar.
-use Rattle.std.specs.Prelude.{Bool, true, not, List, [], ◌∷◌, ◌++◌, ℕ, ◌+◌, ◌*◌, eqb, leb, ℤ, pos, nat_abs, length}
+use Rattle.std.specs.Prelude.{Bool, true, not, List, [], ◌∷◌, ◌++◌, ℕ, ◌+◌, ◌*◌, eqb, leb, ℤ, pos, nat_abs, length, Ok, Err}
 use Prim.Native.Char.{code}
 use Rattle.meaning.specs.Answers.{◌else◌, refuse_unless, within, text_check, fields_check, room_check}
 use Rattle.meaning.specs.Bytes.{when, both, bytes, num, minus, colon}
@@ -11,16 +11,12 @@ use Rattle.meaning.specs.StampGrammar.{Ruled, reads, halts, DateTime, PartialTim
 use Rattle.meaning.specs.UnitSizes.{nanos_per_second, seconds_per_hour, seconds_per_minute}
 use Rattle.meaning.specs.Whole.{wrote_by, output_by}
 use Rattle.meaning.specs.Writing.{is_negative, quantity_of, offset_text, zone_text}
-use Rattle.meaning.specs.declared.Checked.{Checked}
-use Rattle.meaning.specs.declared.Checked.TheVariants.{Fine, Refused}
+use Rattle.meaning.specs.Results.{Checked, Stamped, Wrote}
 use Rattle.meaning.specs.declared.Fields.{Fields}
 use Rattle.meaning.specs.declared.Group.TheVariants.{Never, Always}
 use Rattle.meaning.specs.declared.Quantity.TheVariants.{Hour0To23, Minute, Second, Fraction}
 use Rattle.meaning.specs.declared.Refusal.TheVariants.{NotStamp, StampRange, LeapSecond, StampYear, StampOffset}
 use Rattle.meaning.specs.declared.Stamp.{Stamp}
-use Rattle.meaning.specs.declared.Stamped.{Stamped}
-use Rattle.meaning.specs.declared.Stamped.TheVariants as stamped
-use Rattle.meaning.specs.declared.Wrote.{Wrote}
 
 -- reading: 6, 7, 25, then 26, 27, 28, 17
 
@@ -66,12 +62,12 @@ stamp_of t =
     }
 
 abbrev pub stamped_by : Checked → Stamped → Stamped
-stamped_by Fine r = r
-stamped_by (Refused why) r = stamped.Refused why
+stamped_by (Ok _) r = r
+stamped_by (Err why) r = Err why
 
 abbrev pub stamped_in : Ruled DateTime → Stamped
-stamped_in (reads t at) = stamped_by (date_time_check t) (stamped.Read (stamp_of t))
-stamped_in (halts place) = stamped.Refused (NotStamp place)
+stamped_in (reads t at) = stamped_by (date_time_check t) (Ok (stamp_of t))
+stamped_in (halts place) = Err (NotStamp place)
 
 unfoldable pub read_stamp : List ℕ → Stamped
 unfolding text_check date_time date_time_check stamp_of

@@ -2,7 +2,7 @@
 -- and of any. How it is decided is no matter of definition.
 use mathlib.Core.Bool.{Bool}
 use mathlib.Core.List.{List}
-use Rattle.std.specs.Prelude.{◌≡◌, ℕ, ◌<◌, ℤ, nat_abs, length, get_or, take, drop}
+use Rattle.std.specs.Prelude.{◌≡◌, ℕ, ◌<◌, ℤ, nat_abs, length, get_or, take, drop, Result, Ok, Err}
 use Rattle.meaning.specs.Answers.{◌else◌, pattern_check, fields_check, current_year_check}
 use Rattle.meaning.specs.Books.{Valid}
 use Rattle.meaning.specs.Days.{DayOf, day_number}
@@ -10,16 +10,15 @@ use Rattle.meaning.specs.Names.{Book}
 use Rattle.meaning.specs.Readers.{got}
 use Rattle.meaning.specs.Reading.{read_step, carried_step}
 use Rattle.meaning.specs.Writing.{Step, literal, steps, step_text, texts}
-use Rattle.meaning.specs.declared.Checked.{Checked}
-use Rattle.meaning.specs.declared.Checked.TheVariants.{Fine, Refused}
+use Rattle.meaning.specs.Results.{Checked}
 use Rattle.meaning.specs.declared.Choices.{Choices}
 use Rattle.meaning.specs.declared.Day.{Day}
-use Rattle.meaning.specs.declared.DayNumber.TheVariants.{Number}
 use Rattle.meaning.specs.declared.Edition.{Edition}
 use Rattle.meaning.specs.declared.Fields.{Fields}
 use Rattle.meaning.specs.declared.Pair.TheVariants.{Full}
+use Rattle.meaning.specs.declared.Refusal.{Refusal}
 use Rattle.meaning.specs.declared.Verdict.{Verdict}
-use Rattle.meaning.specs.declared.Verdict.TheVariants as verdict
+use Rattle.meaning.specs.declared.Verdict.TheVariants.{Yes, No}
 
 -- part i of these
 abbrev pub part_at : List Step → ℕ → Step
@@ -44,7 +43,7 @@ Records = Fields → Type 0
 
 -- every allowed one
 abbrev pub AnyAllowed : Records
-AnyAllowed f = fields_check f ≡ Fine
+AnyAllowed f = fields_check f ≡ Ok tt
 
 -- the day of a record
 abbrev pub day_of : Fields → Day
@@ -55,7 +54,7 @@ day_of f = record { year = f.year; month = f.month; day = f.day; doy = f.doy; we
 pub record RealDay (f : Fields) : Type 0 where
   pub allowed : AnyAllowed f
   pub number : ℤ
-  pub numbered : day_number f.year f.month f.day ≡ Number number
+  pub numbered : day_number f.year f.month f.day ≡ Ok number
   pub is : DayOf number (day_of f)
 
 -- each part below a number comes back for every record that counts
@@ -80,19 +79,19 @@ full_pair edition strict = record { pair = Full; strict = strict; edition = edit
 
 -- what an answer of the check says, of a reading with these choices: refusals 1, 2, 3, 14; yes when every part comes back for
 -- every record that counts; no with the first part that fails
-unfoldable pub SaysOf : Records → Choices → Book → List ℕ → ℤ → Verdict → Type 0
+unfoldable pub SaysOf : Records → Choices → Book → List ℕ → ℤ → Result Verdict Refusal → Type 0
 unfolding trust_check AllComeBack steps
-SaysOf Counts choices book p current verdict.Yes =
-    (trust_check choices.edition p current ≡ Fine) × AllComeBack Counts choices book (nat_abs current) (steps choices.pair p) (length (steps choices.pair p))
-SaysOf Counts choices book p current (verdict.No part f) =
-    (trust_check choices.edition p current ≡ Fine) × FailsFirst Counts choices book (nat_abs current) (steps choices.pair p) part f
-SaysOf Counts choices book p current (verdict.Refused why) = trust_check choices.edition p current ≡ Refused why
+SaysOf Counts choices book p current (Ok Yes) =
+    (trust_check choices.edition p current ≡ Ok tt) × AllComeBack Counts choices book (nat_abs current) (steps choices.pair p) (length (steps choices.pair p))
+SaysOf Counts choices book p current (Ok (No part f)) =
+    (trust_check choices.edition p current ≡ Ok tt) × FailsFirst Counts choices book (nat_abs current) (steps choices.pair p) part f
+SaysOf Counts choices book p current (Err why) = trust_check choices.edition p current ≡ Err why
 
 -- the answer of the check in an edition with a book, of real days: the same, whether a reading is strict or not
-abbrev pub SaysWith : Book → Edition → List ℕ → ℤ → Verdict → Type 0
+abbrev pub SaysWith : Book → Edition → List ℕ → ℤ → Result Verdict Refusal → Type 0
 SaysWith book edition p current answer = (strict : Bool) → SaysOf RealDay (full_pair edition strict) book p current answer
 
 -- What the check promises: it is the answer with every valid book. So the verdict is no matter of the names, and the record that a no
 -- shows fails with each of them.
-abbrev pub Says : Edition → List ℕ → ℤ → Verdict → Type 0
+abbrev pub Says : Edition → List ℕ → ℤ → Result Verdict Refusal → Type 0
 Says edition p current answer = (book : Book) → Valid book → SaysWith book edition p current answer

@@ -1,7 +1,7 @@
 -- Specification, "Answer numbers": the whole answer of each function, with its checks in their order. Splitting; writing for
 -- a pair; reading for a pair, strict or not, in an edition; parse_offset.
-use Rattle.std.specs.Prelude.{Bool, true, false, List, [], ◌∷◌, ◌++◌, map, ℕ, suc, ◌+◌, ◌*◌, ◌-◌, ◌/◌, ◌%◌, ◌^◌, eqb, leb, ℤ, pos, neg_ℤ, nat_abs, length, get_or, drop, replicate}
-use Prim.Native.Char.{Char, code}
+use Rattle.std.specs.Prelude.{Bool, true, false, List, [], ◌∷◌, ◌++◌, map, ℕ, suc, ◌+◌, ◌*◌, ◌-◌, ◌/◌, ◌%◌, ◌^◌, eqb, leb, ℤ, pos, neg_ℤ, nat_abs, length, get_or, drop, replicate, Result, Ok, Err}
+use Prim.Native.Char.{code}
 use Rattle.std.proofs.lemmas.List.Edits.{sets}
 use Rattle.meaning.specs.Answers.{◌else◌, refuse_unless, bytes_check, pattern_check, fields_check, room_check, text_check, current_year_check, rest_check}
 use Rattle.meaning.specs.Bytes.{when, plus}
@@ -14,36 +14,31 @@ use Rattle.meaning.specs.UnitSizes.{seconds_per_hour, seconds_per_minute}
 use Rattle.meaning.specs.Writing.{Step, steps, texts}
 use Rattle.meaning.specs.declared.Carried.{Carried}
 use Rattle.meaning.specs.declared.Carried.TheVariants.{Nothing, Value}
-use Rattle.meaning.specs.declared.Checked.{Checked}
-use Rattle.meaning.specs.declared.Checked.TheVariants.{Fine, Refused}
+use Rattle.meaning.specs.Results.{Checked, Offset, Wrote}
 use Rattle.meaning.specs.declared.Choices.{Choices}
 use Rattle.meaning.specs.declared.Edition.{Edition}
 use Rattle.meaning.specs.declared.Edition.TheVariants.{First}
 use Rattle.meaning.specs.declared.Fields.{Fields}
 use Rattle.meaning.specs.declared.Numeral.TheVariants.{Count}
-use Rattle.meaning.specs.declared.Offset.{Offset}
-use Rattle.meaning.specs.declared.Offset.TheVariants as offset
 use Rattle.meaning.specs.declared.Pair.{Pair}
 use Rattle.meaning.specs.declared.ParseUnit.{ParseUnit}
 use Rattle.meaning.specs.declared.ParseUnit.TheVariants as unit
 use Rattle.meaning.specs.declared.Part.{Part}
 use Rattle.meaning.specs.declared.Reading.{Reading}
+use Rattle.meaning.specs.declared.Refusal.{Refusal}
 use Rattle.meaning.specs.declared.Refusal.TheVariants.{InPart, OffsetLength, OffsetRange}
 use Rattle.meaning.specs.declared.Split.{Split}
-use Rattle.meaning.specs.declared.Wrote.{Wrote}
-use Rattle.meaning.specs.declared.Wrote.TheVariants as wrote
 
 -- Splitting checks 1, 2.
 
-abbrev pub split_into : Checked → List Part → Split
-split_into checked ps =
-    record { checked = checked; parts = ps ++ replicate (256 - length ps) no_part; used = length ps }
+abbrev pub split_into : List Part → Split
+split_into ps = record { parts = ps ++ replicate (256 - length ps) no_part; used = length ps }
 
-abbrev pub split_by : Checked → List ℕ → Split
-split_by Fine p = split_into Fine (parts p)
-split_by (Refused why) p = split_into (Refused why) []
+abbrev pub split_by : Checked → List ℕ → Result Split Refusal
+split_by (Ok _) p = Ok (split_into (parts p))
+split_by (Err why) p = Err why
 
-unfoldable pub split : List ℕ → Split
+unfoldable pub split : List ℕ → Result Split Refusal
 unfolding bytes_check parts
 split p = split_by (bytes_check p) p
 
@@ -59,12 +54,12 @@ unfolding pattern_check fields_check text
 write_check pair book p f room = pattern_check p else fields_check f else room_check room (length (text pair book p f))
 
 abbrev pub wrote_by : Checked → List ℕ → Wrote
-wrote_by Fine t = wrote.Length (length t)
-wrote_by (Refused why) t = wrote.Refused why
+wrote_by (Ok _) t = Ok (length t)
+wrote_by (Err why) t = Err why
 
 abbrev pub output_by : Checked → List ℕ → List ℕ → List ℕ
-output_by Fine t out = sets out 0 t
-output_by (Refused why) t out = out
+output_by (Ok _) t out = sets out 0 t
+output_by (Err why) t out = out
 
 -- the answer, and the lent output afterwards
 unfoldable pub write : Pair → Book → List ℕ → Fields → List ℕ → Wrote
@@ -90,11 +85,11 @@ pub record Gave : Type 0 where
 -- the bytes read and what the parts gave, the newest first; or the first refusal of a part
 pub data Walk : Type 0 where
   walked : ℕ → List Gave → Walk
-  refused_at : Checked → Walk
+  refused_at : Refusal → Walk
 
 abbrev pub walked_by : Checked → ℕ → List Gave → Walk
-walked_by Fine at gave = walked at gave
-walked_by (Refused why) at gave = refused_at (Refused why)
+walked_by (Ok _) at gave = walked at gave
+walked_by (Err why) at gave = refused_at why
 
 -- part i and those behind it, from the text that remains at a place
 unfoldable pub walk_with : NumberReader → Choices → Book → ℕ → ℕ → ℕ → List Step → List ℕ → List Gave → Walk
@@ -103,7 +98,7 @@ walk_with number choices book current i at [] s gave = walked_by (rest_check cho
 walk_with number choices book current i at (step ∷ steps) s gave =
     elim (read_step_with number choices book current step s) [
       | got n c ↦ walk_with number choices book current (suc i) (at + n) steps (drop n s) (record { carried = c; start = at; end = at + n } ∷ gave)
-      | stopped why place ↦ refused_at (Refused (InPart why i (at + place)))
+      | stopped why place ↦ refused_at (InPart why i (at + place))
     ]
 
 unfoldable pub walk : Choices → Book → ℕ → ℕ → ℕ → List Step → List ℕ → List Gave → Walk
@@ -170,10 +165,9 @@ how_many (mark ∷ marks) = when mark 1 0 + how_many marks
 unfoldable pub marked : ℕ → ℕ → Bool
 marked mask k = eqb (mask / 2 ^ k % 2) 1
 
-abbrev pub reading_of : Checked → ℕ → List Gave → Reading
-reading_of checked taken gave =
+abbrev pub reading_of : ℕ → List Gave → Reading
+reading_of taken gave =
     record {
-      checked = checked;
       taken = taken;
       values = map (value_of gave) fifteen;
       mask = bits (map (was_read gave) fifteen);
@@ -182,42 +176,47 @@ reading_of checked taken gave =
       ends = map (ended_at gave) fifteen;
     }
 
-abbrev pub walk_reading : Walk → Reading
-walk_reading (walked taken gave) = reading_of Fine taken gave
-walk_reading (refused_at checked) = reading_of checked 0 []
+-- what a caller's row has of an answer: of a refused reading "values, mask, counts and bytes read are all 0", and no part began or ended
+abbrev pub record_of : Result Reading Refusal → Reading
+record_of (Ok r) = r
+record_of (Err why) = reading_of 0 []
 
-abbrev pub read_by : Checked → Walk → Reading
-read_by Fine w = walk_reading w
-read_by (Refused why) w = reading_of (Refused why) 0 []
+abbrev pub walk_reading : Walk → Result Reading Refusal
+walk_reading (walked taken gave) = Ok (reading_of taken gave)
+walk_reading (refused_at why) = Err why
+
+abbrev pub read_by : Checked → Walk → Result Reading Refusal
+read_by (Ok _) w = walk_reading w
+read_by (Err why) w = Err why
 
 unfoldable pub read_check : Edition → List ℕ → List ℕ → ℤ → Checked
 unfolding pattern_check current_year_check text_check
 read_check edition p s current = pattern_check p else current_year_check edition current else text_check s
 
-unfoldable pub read_with : NumberReader → Choices → Book → List ℕ → List ℕ → ℤ → Reading
+unfoldable pub read_with : NumberReader → Choices → Book → List ℕ → List ℕ → ℤ → Result Reading Refusal
 unfolding read_check steps walk_with last_of bits how_many
 read_with number choices book p s current =
     read_by (read_check choices.edition p s current) (walk_with number choices book (nat_abs current) 0 0 (steps choices.pair p) s [])
 
-unfoldable pub read : Choices → Book → List ℕ → List ℕ → ℤ → Reading
+unfoldable pub read : Choices → Book → List ℕ → List ℕ → ℤ → Result Reading Refusal
 unfolding read_with walk
 read = read_with take_number
 
 -- parse_offset: 6, 7, then Z, 12, then 19 and 9 of the hour, 19 and 9 of the minute, 13.
 
 abbrev pub offset_by : Checked → Offset → Offset
-offset_by Fine o = o
-offset_by (Refused why) o = offset.Refused why
+offset_by (Ok _) o = o
+offset_by (Err why) o = Err why
 
 abbrev pub seconds : Bool → ℕ → ℕ → Offset
 seconds ahead hour minute =
     offset_by (refuse_unless (leb hour 23) (OffsetRange 1) else refuse_unless (leb minute 59) (OffsetRange 2))
-    (offset.Seconds (when ahead (pos (hour * seconds_per_hour + minute * seconds_per_minute)) (neg_ℤ (pos (hour * seconds_per_hour + minute * seconds_per_minute)))))
+    (Ok (when ahead (pos (hour * seconds_per_hour + minute * seconds_per_minute)) (neg_ℤ (pos (hour * seconds_per_hour + minute * seconds_per_minute)))))
 
 -- the hour stands at 1, the minute at 4
 abbrev pub hour_and_minute : Bool → Got Signed → Got Signed → Offset
-hour_and_minute ahead (stopped why i) minute = offset.Refused (InPart why 0 (1 + i))
-hour_and_minute ahead (got n hour) (stopped why i) = offset.Refused (InPart why 0 (4 + i))
+hour_and_minute ahead (stopped why i) minute = Err (InPart why 0 (1 + i))
+hour_and_minute ahead (got n hour) (stopped why i) = Err (InPart why 0 (4 + i))
 hour_and_minute ahead (got n hour) (got m minute) = seconds ahead hour.size minute.size
 
 -- two bytes at a place, as a number
@@ -228,7 +227,7 @@ unfoldable pub parse_offset_with : NumberReader → List ℕ → Offset
 unfolding text_check
 parse_offset_with number s =
     offset_by (text_check s)
-    (when (eqb (get_or s 0 0) (code "Z")) (offset.Seconds (pos 0))
+    (when (eqb (get_or s 0 0) (code "Z")) (Ok (pos 0))
     (offset_by (refuse_unless (eqb (length s) 6) (OffsetLength (length s)))
     (hour_and_minute (eqb (get_or s 0 0) plus) (two_at_with number 1 s) (two_at_with number 4 s))))
 

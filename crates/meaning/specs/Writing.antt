@@ -1,7 +1,7 @@
 -- Specification, "What each symbol does", column Writes, with "The field record and the numbers" and the paragraphs on yy and
 -- zones; and "Splitting", what literals write. A pattern's text is that of its parts, one after the other.
 use Rattle.std.specs.Prelude.{Bool, true, false, List, [], ◌∷◌, ◌++◌, map, ℕ, zero, suc, ◌+◌, ◌-◌, ◌/◌, ◌%◌, ◌^◌, eqb, ltb, ℤ, pos, negsuc, nat_abs, length, get_or, replicate, take}
-use Prim.Native.Char.{Char, code}
+use Prim.Native.Char.{code}
 use Rattle.meaning.specs.Bytes.{when, both, is_digit, num, minus, plus, colon, quote}
 use Rattle.meaning.specs.Names.{Book, names}
 use Rattle.meaning.specs.Rules.{role_of}

@@ -56,10 +56,9 @@ pub struct Part {
     pub length: usize,
 }
 
-// The answer of a split: the first `used` entries are the parts.
+// What a split gives: the first `used` entries are the parts.
 #[derive(Clone, Copy)]
 pub struct Split {
-    pub checked: Checked,
     pub parts: [Part; 256],
     pub used: usize,
 }
@@ -181,7 +180,7 @@ pub enum Rule {
     },
 }
 
-// What a run of equal bytes does: it stands for itself, or it is a symbol.
+// What a run of equal bytes does: it stands for itself, or it is a symbol. No Option: to stand for itself is no lack of a rule.
 #[derive(Clone, Copy)]
 pub enum Role {
     Literal,
@@ -254,25 +253,10 @@ pub enum Refusal {
     MendedTooLong,
 }
 
-// What checks find.
-#[derive(Clone, Copy)]
-pub enum Checked {
-    Fine,
-    Refused(Refusal),
-}
-
-// The answer of a writer: how many bytes it wrote.
-#[derive(Clone, Copy)]
-pub enum Wrote {
-    Length(usize),
-    Refused(Refusal),
-}
-
-// The answer of a reader: the bytes read, the values by unit, the mask of the units read and how many they are; and by unit where
-// in the text the part that gave it began, and where it ended.
+// What a reader gives: the bytes read, the values by unit, the mask of the units read and how many they are; and by unit where in the
+// text the part that gave it began, and where it ended.
 #[derive(Clone, Copy)]
 pub struct Reading {
-    pub checked: Checked,
     pub taken: usize,
     pub values: [i64; 15],
     pub mask: u16,
@@ -281,37 +265,20 @@ pub struct Reading {
     pub ends: [u16; 15],
 }
 
-// The answer of a list: how many lines it has.
-#[derive(Clone, Copy)]
-pub enum Listed {
-    Lines(usize),
-    Refused(Refusal),
-}
-
-// The answer of the line reader: whether there is a line, where it starts and ends and the next one starts, and its own reading,
-// with places within the line.
+// A line that is there: where it starts and ends and the next one starts, and its own answer, with places within the line.
 #[derive(Clone, Copy)]
 pub struct LineRead {
-    pub there: bool,
     pub start: usize,
     pub end: usize,
     pub next: usize,
-    pub reading: Reading,
+    pub reading: Result<Reading, Refusal>,
 }
 
-// The answer of parse_offset.
-#[derive(Clone, Copy)]
-pub enum Offset {
-    Seconds(i32),
-    Refused(Refusal),
-}
-
-// The answer of the pattern check: yes, or the first part that fails and a record for which it does.
+// What the pattern check says: yes, or the first part that fails and a record for which it does.
 #[derive(Clone, Copy)]
 pub enum Verdict {
     Yes,
     No { part: usize, record: Fields },
-    Refused(Refusal),
 }
 
 // A day of the calendar, in the order of the field record.
@@ -323,13 +290,6 @@ pub struct Day {
     pub doy: u32,
     pub week: u32,
     pub wday: u32,
-}
-
-// The answer of day_number.
-#[derive(Clone, Copy)]
-pub enum DayNumber {
-    Number(i32),
-    Refused(Refusal),
 }
 
 // A change of a mending: at a place of the mended pattern a byte stands so often, where it stood so often before.
@@ -348,18 +308,16 @@ pub struct Changes {
     pub used: usize,
 }
 
-// The answer of a mending: how many bytes the mended pattern has, and what was changed.
+// What a mending gives: how many bytes the mended pattern has, and what was changed.
 #[derive(Clone, Copy)]
 pub struct Mended {
-    pub checked: Checked,
     pub length: usize,
     pub changes: Changes,
 }
 
-// The answer of an undoing: how many bytes the pattern has again, or that a change does not fit the pattern.
+// Why changes are not undone: one does not fit the pattern, or a refusal.
 #[derive(Clone, Copy)]
-pub enum Undone {
-    Length(usize),
+pub enum NotUndone {
     Misfit,
     Refused(Refusal),
 }
@@ -373,11 +331,4 @@ pub struct Stamp {
     pub nanos: u64,
     pub offset: i32,
     pub unknown: bool,
-}
-
-// The answer of read_stamp.
-#[derive(Clone, Copy)]
-pub enum Stamped {
-    Read(Stamp),
-    Refused(Refusal),
 }

@@ -1,11 +1,12 @@
 // The list of the changes.
-ghost use Rattle.std.specs.Prelude.{[], ◌≡◌, ◌≤◌, length};
-ghost use Rattle.meaning.specs.Mending.{no_change, changes_of};
+ghost use Rattle.std.specs.Prelude.{[], ◌≡◌, ◌+◌, ◌≤◌, length};
+ghost use Rattle.meaning.specs.Mending.{no_change, changes_of, listed};
+ghost use Rattle.mending.specs.Listing.{with_change};
 ghost use Rattle.trust.specs.Mending.{mended, changes};
 
 use crate::parts::{own_change, spaces_behind};
 use meaning::{Change, Changes, Edition};
-use pattern::parts::next_part;
+use pattern::parts::parts_of;
 
 // What an entry of a list holds that no change uses.
 fn no_change() -> Change
@@ -23,10 +24,20 @@ fn no_change() -> Change
 pub fn no_changes() -> Changes
     ensures { result ≡ changes_of [] }
 {
-    let empty = no_change();
     Changes {
-        listed: [empty; 128],
+        listed: [no_change(); 128],
         used: 0,
+    }
+}
+
+// Lists a change, unless it changes nothing.
+fn list(changes: &mut Changes, change: Change)
+    requires { changes.old.used + length (listed change) ≤ 128 }
+    ensures { changes.new ≡ with_change changes.old change }
+{
+    if change.before != change.after {
+        changes.listed[changes.used] = change;
+        changes.used += 1;
     }
 }
 
@@ -36,31 +47,21 @@ pub fn list_changes(edition: Edition, pattern: &[u8]) -> Changes
     requires pattern_len_bound_2 { length (mended edition pattern.now) ≤ 256 }
     ensures { result ≡ changes_of (changes edition pattern.now) }
 {
-    let empty = no_change();
-    let mut listed = [empty; 128];
-    let mut used = 0;
+    let mut changes = no_changes();
     let mut at = 0;
-    let mut place = 0;
-    while place < pattern.len() {
-        let part = next_part(pattern, place);
+    for part in parts_of(pattern) {
         let own = own_change(edition, pattern, part, at);
         let spaces = spaces_behind(edition, pattern, part);
-        if own.before != own.after {
-            listed[used] = own;
-            used += 1;
-        }
+        list(&mut changes, own);
         at += part.length + (own.after - own.before);
-        if 0 < spaces {
-            listed[used] = Change {
-                place: at,
-                byte: b' ',
-                before: 0,
-                after: spaces,
-            };
-            used += 1;
-        }
+        let between = Change {
+            place: at,
+            byte: b' ',
+            before: 0,
+            after: spaces,
+        };
+        list(&mut changes, between);
         at += spaces;
-        place += part.length;
     }
-    Changes { listed, used }
+    changes
 }

@@ -9,7 +9,7 @@ ghost use Rattle.trust.specs.Mending as trust;
 
 use meaning::{Change, Edition, Kind, Part};
 use pattern::quoted::ends_in_quote;
-use trust::{Need, Unmet};
+use trust::Need;
 use verdict::first_unmet;
 
 // M, once in the first edition.
@@ -17,13 +17,8 @@ fn month_count(edition: Edition, n: usize) -> usize
     ensures { result ≡ mending.month_count edition n }
 {
     match edition {
-        Edition::First => {
-            if n == 1 {
-                return 2;
-            }
-            n
-        }
-        Edition::Second => n,
+        Edition::First if n == 1 => 2,
+        Edition::First | Edition::Second => n,
     }
 }
 
@@ -31,29 +26,23 @@ fn month_count(edition: Edition, n: usize) -> usize
 fn year_count(n: usize) -> usize
     ensures { result ≡ mending.year_count n }
 {
-    if n == 2 {
-        return 4;
+    match n {
+        2 => 4,
+        5 | 6 => 7,
+        _ => n,
     }
-    if n < 5 {
-        return n;
-    }
-    if 6 < n {
-        return n;
-    }
-    7
 }
 
 // How often a byte stands that stood n times.
+#[tactic(auto, unfolding(meaning::specs::Mending::mended_count))]
 fn mended_count(edition: Edition, b: u8, n: usize) -> usize
     ensures { result ≡ mending.mended_count edition b n }
 {
-    if b == b'M' {
-        return month_count(edition, n);
+    match b {
+        b'M' => month_count(edition, n),
+        b'y' => year_count(n),
+        _ => n,
     }
-    if b == b'y' {
-        return year_count(n);
-    }
-    n
 }
 
 // The change of the quotes at the end of a part that is no run.
@@ -74,10 +63,9 @@ pub fn own_change(edition: Edition, pattern: &[u8], part: Part, at: usize) -> Ch
     requires pattern_bound { at + length pattern.now ≤ 512 }
     ensures { result ≡ mending.own_change edition at (content_of pattern.now part) }
 {
-    let kind = part.kind;
     let start = part.start;
     let n = part.length;
-    match kind {
+    match part.kind {
         Kind::Run => {
             let b = pattern[start];
             Change {
@@ -87,13 +75,14 @@ pub fn own_change(edition: Edition, pattern: &[u8], part: Part, at: usize) -> Ch
                 after: mended_count(edition, b, n),
             }
         }
-        Kind::Quotes => closing(at + n, 0),
-        Kind::Quoted => closing(at + n, 0),
+        Kind::Quotes | Kind::Quoted => closing(at + n, 0),
         Kind::Open => {
-            if ends_in_quote(&pattern[start + 1..]) {
-                return closing(at + n, 1);
-            }
-            closing(at + n, 0)
+            let after = if ends_in_quote(&pattern[start + 1..]) {
+                1
+            } else {
+                0
+            };
+            closing(at + n, after)
         }
     }
 }
@@ -103,24 +92,16 @@ pub fn own_change(edition: Edition, pattern: &[u8], part: Part, at: usize) -> Ch
 fn passed_over(b: u8, n: usize) -> usize
     ensures { result ≡ passed_over b n }
 {
-    if b != b'y' {
-        return 0;
-    }
-    if n != 2 {
-        return 0;
-    }
-    1
+    if b == b'y' && n == 2 { 1 } else { 0 }
 }
 
 fn spaces_for(need: Need) -> usize
     ensures { result ≡ trust.spaces_for need }
 {
     match need {
-        Need::Nothing => 0,
         Need::NoDigit => 1,
         Need::NoSecondDigit => 2,
-        Need::Broken => 0,
-        Need::LosesYear => 0,
+        Need::Nothing | Need::Broken | Need::LosesYear => 0,
     }
 }
 
@@ -133,7 +114,7 @@ pub fn spaces_behind(edition: Edition, pattern: &[u8], part: Part) -> usize
     let start = part.start;
     let from = start + passed_over(pattern[start], part.length);
     match first_unmet(edition, pattern, from, start + part.length) {
-        Unmet::Nowhere => 0,
-        Unmet::At { part: _, need } => spaces_for(need),
+        None => 0,
+        Some(unmet) => spaces_for(unmet.need),
     }
 }

@@ -7,7 +7,7 @@ ghost use Rattle.trust.specs.Mending.{mended};
 use crate::parts::{own_change, spaces_behind};
 use digits::laying::{put_bytes, put_times};
 use meaning::{Change, Edition};
-use pattern::parts::next_part;
+use pattern::parts::parts_of;
 
 // How many bytes the mended pattern has.
 pub fn mended_length(edition: Edition, pattern: &[u8]) -> usize
@@ -15,18 +15,16 @@ pub fn mended_length(edition: Edition, pattern: &[u8]) -> usize
     ensures { result ≡ length (mended edition pattern.now) }
 {
     let mut n = 0;
-    let mut place = 0;
-    while place < pattern.len() {
-        let part = next_part(pattern, place);
+    for part in parts_of(pattern) {
         let own = own_change(edition, pattern, part, 0);
         let spaces = spaces_behind(edition, pattern, part);
         n += part.length + (own.after - own.before) + spaces;
-        place += part.length;
     }
     n
 }
 
 // A part as it stands in the pattern, what its own change adds, and the spaces behind it.
+#[inline(never)]
 fn put_part(src: &[u8], own: Change, spaces: usize, out: &mut [u8], at: usize) -> usize
     requires before_le_after { own.before ≤ own.after }
     requires spaces_in_bounds { at + (length src.now + (own.after - own.before) + spaces) ≤ length out.old }
@@ -45,14 +43,16 @@ pub fn put_mended(edition: Edition, pattern: &[u8], out: &mut [u8]) -> usize
     ensures { Laid out.old out.new 0 result (mended edition pattern.now) }
 {
     let mut at = 0;
-    let mut place = 0;
-    while place < pattern.len() {
-        let part = next_part(pattern, place);
+    for part in parts_of(pattern) {
         let own = own_change(edition, pattern, part, 0);
         let spaces = spaces_behind(edition, pattern, part);
-        let behind = place + part.length;
-        at = put_part(&pattern[place..behind], own, spaces, out, at);
-        place = behind;
+        at = put_part(
+            &pattern[part.start..part.start + part.length],
+            own,
+            spaces,
+            out,
+            at,
+        );
     }
     at
 }

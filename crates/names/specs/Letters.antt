@@ -1,5 +1,5 @@
 -- Request [11]: names by their letters, as numbers of eight bytes.
-use Rattle.std.specs.Prelude.{Bool, true, false, List, [], ◌∷◌, ◌++◌, ◌≡◌, ℕ, zero, suc, ◌+◌, ◌*◌, ◌/◌, ◌%◌, ◌≤◌, ◌<◌, ltb, length, get_or, take}
+use Rattle.std.specs.Prelude.{Bool, true, false, List, [], ◌∷◌, ◌++◌, ◌≡◌, ℕ, zero, suc, ◌+◌, ◌*◌, ◌/◌, ◌%◌, ◌<◌, ltb, length, get_or, take}
 use Rattle.meaning.specs.Bytes.{when}
 use Rattle.meaning.specs.Names.{names, english}
 use Rattle.meaning.specs.declared.NameList.{NameList}

@@ -1,23 +1,21 @@
 -- Names in rooms, and what a match among them finds.
-use Rattle.std.specs.Prelude.{List, ◌≡◌, ℕ, ◌*◌, ◌≤◌, ◌<◌, length, drop}
-use Rattle.meaning.specs.Names.{Book, names, english}
+use Rattle.std.specs.Prelude.{Option, Some, None, List, ◌≡◌, ℕ, ◌*◌, ◌≤◌, ◌<◌, length, drop}
+use Rattle.meaning.specs.Names.{Book, names}
 use Rattle.meaning.specs.OpenedBooks.{name_room, opened_size, name_at, names_at, opened_book}
 use Rattle.meaning.specs.Readers.{Got, got, stopped}
 use Rattle.meaning.specs.declared.NameList.{NameList}
-use Rattle.meaning.specs.declared.NameList.TheVariants.{MonthAbbreviated, MonthWide, MonthNarrow, WdayAbbreviated, WdayWide, WdayNarrow, WdayShort}
-use Rattle.names.specs.Lists.{list_at, most_at}
+use Rattle.names.specs.Lists.{list_at}
 use Rattle.names.specs.declared.rooms.Rooms.{Rooms}
 use Rattle.names.specs.declared.tables.Found.{Found}
-use Rattle.names.specs.declared.tables.Found.TheVariants.{Name, Nothing}
 
 -- the name of a room, cut to the most letters
 abbrev pub name_in : ℕ → List ℕ → ℕ → List ℕ
 name_in most rows i = name_at most (drop (i * name_room) rows)
 
 -- what a match gives, as the matcher answers it
-abbrev pub found_in : Got ℕ → Found
-found_in (got length' index) = Name index length'
-found_in (stopped why place) = Nothing
+abbrev pub found_in : Got ℕ → Option Found
+found_in (got length' index) = Some (record { index = index; length = length' })
+found_in (stopped why place) = None
 
 -- the number of a table that has a list's names
 pub record Numbered (n : ℕ) (list : NameList) : Type 0 where
@@ -30,28 +28,10 @@ pub record IsTable (most count : ℕ) (rows : List ℕ) (these : List (List ℕ)
   pub inside : count * name_room ≤ length rows
   pub held : names_at most count rows ≡ these
 
--- those of the English weekdays, and of the months: the names of each of their tables
-pub record Weekdays (rows : List ℕ) : Type 0 where
-  pub wide : IsTable 20 7 rows (names english WdayWide)
-  pub abbreviated : IsTable 3 7 rows (names english WdayAbbreviated)
-  pub short : IsTable 2 7 rows (names english WdayShort)
-  pub narrow : IsTable 1 7 rows (names english WdayNarrow)
-
-pub record Months (rows : List ℕ) : Type 0 where
-  pub wide : IsTable 20 12 rows (names english MonthWide)
-  pub abbreviated : IsTable 3 12 rows (names english MonthAbbreviated)
-  pub narrow : IsTable 1 12 rows (names english MonthNarrow)
-
 -- where a list is in every opened book
 pub record InBook (r : Rooms) (list : NameList) : Type 0 where
   pub inside : r.from ≤ opened_size
   pub holds : (row : List ℕ) → length row ≡ opened_size → IsTable r.most r.count (drop r.from row) (names (opened_book row) list)
-
--- a table of the English weekdays or months, and its most letters
-pub record IsEnglish (table most : ℕ) : Type 0 where
-  pub from : 10 ≤ table
-  pub below : table < 17
-  pub short : most ≡ most_at table
 
 -- a lent row that is an opened book, and the number of a list of it
 pub record IsOpened (row : List ℕ) (table : ℕ) : Type 0 where

@@ -1,6 +1,6 @@
 // The English months and weekdays by their letters, the first eight as one number: so they are laid and compared at once. The arms of a
 // match are a table of constants.
-ghost use Rattle.std.specs.Prelude.{true, false, ◌≡◌, ◌+◌, ◌-◌, ◌*◌, ◌≤◌, ◌<◌, min, length, take, drop};
+ghost use Rattle.std.specs.Prelude.{true, false, ◌≡◌, ◌+◌, ◌-◌, ◌*◌, ◌≤◌, ◌<◌, min, length, take, drop, IfSome};
 ghost use Rattle.laws.specs.Laid.{Laid};
 ghost use Rattle.names.specs.Letters.{bytes_of, number_of, spelled_by, name_numbered, Begun};
 
@@ -12,7 +12,7 @@ pub struct Spelling {
     pub ninth: u8,
 }
 
-// A name and how many of its letters begin a text; 0 where it does not.
+// A name, and how many of its letters begin a text.
 #[derive(Clone, Copy)]
 pub struct Spelled {
     pub name: usize,
@@ -96,13 +96,11 @@ fn put_bytes(number: u64, n: usize, out: &mut [u8], at: usize) -> usize
     ensures { Laid out.old out.new at result (bytes_of n number) }
 {
     let mut rest = number;
-    let mut j = 0;
-    while j < n {
+    for j in 0..n {
         out[at + j] = (rest % 256) as u8;
-        rest = rest / 256;
-        j += 1;
+        rest /= 256;
     }
-    at + j
+    at + n
 }
 
 // Writes a name, cut to the most letters, and gives the next place.
@@ -163,9 +161,7 @@ fn few_at(text: &[u8], at: usize) -> u64
     ensures { bytes_of (length text.now - at) result ≡ drop at text.now }
 {
     let mut number = 0;
-    let mut i = text.len();
-    while at < i {
-        i -= 1;
+    for i in (at..text.len()).rev() {
         number = 256 * number + wide(text[i]);
     }
     number
@@ -212,9 +208,9 @@ fn same_letters(first: u64, spelt: Spelling, text: &[u8], at: usize) -> bool
 
 // The name of a month, or of a weekday, that begins the text from a place on with so many letters at most. Of others than the one that is guessed
 // nothing is said.
-pub fn spelled_at(weekday: bool, most: usize, text: &[u8], at: usize) -> Spelled
+pub fn spelled_at(weekday: bool, most: usize, text: &[u8], at: usize) -> Option<Spelled>
     requires { at ≤ length text.now }
-    ensures { 0 < result.length → Begun weekday most (drop at text.now) result }
+    ensures { IfSome result (λ r. (0 < r.length) × Begun weekday most (drop at text.now) r) }
 {
     let first = bytes_at(text, at);
     let second = (first / 256 % 256) as usize;
@@ -225,11 +221,11 @@ pub fn spelled_at(weekday: bool, most: usize, text: &[u8], at: usize) -> Spelled
         month_guess(second, third)
     };
     let spelt = cut_letters(name, most);
-    if same_letters(first, spelt, text, at) {
-        return Spelled {
-            name,
-            length: spelt.length,
-        };
+    if spelt.length == 0 || !same_letters(first, spelt, text, at) {
+        return None;
     }
-    Spelled { name, length: 0 }
+    Some(Spelled {
+        name,
+        length: spelt.length,
+    })
 }

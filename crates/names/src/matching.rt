@@ -6,56 +6,35 @@ ghost use Rattle.meaning.specs.Readers.{match_name};
 ghost use Rattle.names.specs.Lists.{list_at};
 ghost use Rattle.names.specs.Table.{found_in};
 
-use crate::constants::{most_of, table_of};
+use crate::constants::{most_of, rows_of, table_of};
 use crate::rooms::{OPENED, rooms_of};
-use crate::tables::{Found, first_name};
+use crate::tables::{Found, ROOM, first_name};
 use meaning::NameList;
 
-// In a table that is the same in every book.
-fn match_fixed(table: usize, text: &[u8]) -> Found
-    requires { table < 10 }
+// In an English table.
+fn match_table(table: usize, text: &[u8]) -> Option<Found>
+    requires { table < 17 }
     ensures { result ≡ found_in (match_name (names english (list_at table)) text.now) }
 {
-    if table < 5 {
-        let rows = crate::constants::two(table);
-        return first_name(rows, 2, 20, false, text);
-    }
-    if table < 9 {
-        let rows = crate::constants::four(table);
-        return first_name(rows, 4, 20, false, text);
-    }
-    let rows = crate::constants::six();
-    first_name(rows, 6, 20, false, text)
+    let rows = rows_of(table);
+    first_name(rows, rows.len() / ROOM, most_of(table), false, text)
 }
 
-// In an English list. The wide weekdays and months, which texts have most, are each one table that is known here. Called at two
-// places, it stays a call of its own, so that it has no part in what a book takes.
-fn match_english(list: NameList, text: &[u8]) -> Found
+// In an English list. The lists that texts have most are each one table whose rows are known here, which reads them quicker. Called at
+// two places, it stays a call of its own, so that it has no part in what a book takes.
+fn match_english(list: NameList, text: &[u8]) -> Option<Found>
     ensures { result ≡ found_in (match_name (names english list) text.now) }
 {
-    let table = table_of(list);
-    if table < 10 {
-        return match_fixed(table, text);
+    match table_of(list) {
+        10 => match_table(10, text),
+        14 => match_table(14, text),
+        15 => match_table(15, text),
+        table => match_table(table, text),
     }
-    if table == 10 {
-        let rows = crate::constants::seven();
-        return first_name(rows, 7, 20, false, text);
-    }
-    if table == 14 {
-        let rows = crate::constants::twelve();
-        return first_name(rows, 12, 20, false, text);
-    }
-    let most = most_of(table);
-    if table < 14 {
-        let rows = crate::constants::seven();
-        return first_name(rows, 7, most, false, text);
-    }
-    let rows = crate::constants::twelve();
-    first_name(rows, 12, most, false, text)
 }
 
 // In a list of an opened book, or an English one that is no weekday and no month.
-fn match_opened(book: &[u8], list: NameList, text: &[u8]) -> Found
+fn match_opened(book: &[u8], list: NameList, text: &[u8]) -> Option<Found>
     requires { length book.now ≡ 1344 }
     ensures { result ≡ found_in (match_name (names (book_in book.now) list) text.now) }
 {
@@ -69,7 +48,7 @@ fn match_opened(book: &[u8], list: NameList, text: &[u8]) -> Found
 }
 
 // The first name of a list that begins the text.
-pub fn match_name(book: &[u8], list: NameList, text: &[u8]) -> Found
+pub fn match_name(book: &[u8], list: NameList, text: &[u8]) -> Option<Found>
     ensures { result ≡ found_in (match_name (names (book_in book.now) list) text.now) }
 {
     if book.len() == OPENED {

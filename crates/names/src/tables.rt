@@ -7,13 +7,13 @@ ghost use Rattle.meaning.specs.Readers.{begins, match_name};
 ghost use Rattle.names.specs.Table.{name_in, found_in};
 
 // The room of a name: a byte that is its length, and 20 for its letters.
-const ROOM: usize = 21;
+pub const ROOM: usize = 21;
 
-// The name that begins a text, or none.
+// The name that begins a text.
 #[derive(Clone, Copy)]
-pub enum Found {
-    Name { index: usize, length: usize },
-    Nothing,
+pub struct Found {
+    pub index: usize,
+    pub length: usize,
 }
 
 // How many bytes a name has.
@@ -38,7 +38,7 @@ fn letter_begins(rows: &[u8], index: usize, most: usize, text: &[u8]) -> bool
 
 // "takes the first name in the table order that begins the text". The letters of lent rows are not known to the compiler, so that
 // there the first one is looked at before all else.
-pub fn first_name(rows: &[u8], count: usize, most: usize, lent: bool, text: &[u8]) -> Found
+pub fn first_name(rows: &[u8], count: usize, most: usize, lent: bool, text: &[u8]) -> Option<Found>
     requires { (most ≤ 20) × (count * 21 ≤ length rows.now) }
     ensures { result ≡ found_in (match_name (names_at most count rows.now) text.now) }
 {
@@ -53,10 +53,10 @@ pub fn first_name(rows: &[u8], count: usize, most: usize, lent: bool, text: &[u8
                     continue 'names;
                 }
             }
-            return Found::Name { index, length };
+            return Some(Found { index, length });
         }
     }
-    Found::Nothing
+    None
 }
 
 // Writes a name at a place and gives the next place.
@@ -66,8 +66,7 @@ pub fn put_name(rows: &[u8], index: usize, most: usize, out: &mut [u8], at: usiz
     ensures { Laid out.old out.new at result (name_in most rows.now index) }
 {
     let size = length_at(rows, index, most);
-    for j in 0..size {
-        out[at + j] = rows[index * ROOM + 1 + j];
-    }
+    let from = index * ROOM + 1;
+    out[at..at + size].copy_from_slice(&rows[from..from + size]);
     at + size
 }

@@ -2,6 +2,7 @@
 use mathlib.Core.Bool.{Bool, true, false}
 use mathlib.Core.List.{List, [], ◌∷◌}
 use mathlib.Core.Option.{Option, none, some}
+use Rattle.std.specs.Prelude.{Result, Ok, Err}
 use mathlib.Core.Path.{◌≡◌, refl, ◌∙◌}
 use Prim.Native.Nat.{ℕ, zero, suc, ◌+◌, ◌-◌, ◌*◌, ◌≤◌, ◌<◌}
 use native.Mathlib.Numerals.{add-one}
@@ -17,26 +18,21 @@ use Rattle.meaning.specs.Readers.{taken_number, take_number}
 use Rattle.meaning.specs.declared.Numeral.{Numeral}
 use Rattle.meaning.specs.declared.Numeral.TheVariants.{Count, Year}
 use Rattle.meaning.specs.declared.Sign.TheVariants.{Bare}
+use Rattle.meaning.specs.declared.Trouble.{Trouble}
+use Rattle.meaning.specs.declared.Trouble.TheVariants.{TooFew, PlusSign, NoNumber}
 use Rattle.numerals.specs.Numbers.{number_in, got_number}
 use Rattle.numerals.specs.declared.Number.{Number}
-use Rattle.numerals.specs.declared.Number.TheVariants.{TooFew, PlusSign, NoNumber, Value}
-
--- the sign, for a kind that is not known
-pub no_sign : (kind : Numeral) (b : ℕ) → (b ≡ 45 → ⊥) → sign_of kind b ≡ Bare
-unfolding sign_of
-no_sign Count b h = refl
-no_sign Year b h = rw (ne_eqb b 45 h)
 
 -- the number of these digits behind those that gave n, held to the most that fits
-unfoldable pub sized_from : ℕ → Bool → ℕ → List ℕ → Number
-sized_from most negative n s = when (both (all_digits s) (leb (decimal n s) most)) (Value negative (decimal n s)) NoNumber
+unfoldable pub sized_from : ℕ → Bool → ℕ → List ℕ → Result Number Trouble
+sized_from most negative n s = when (both (all_digits s) (leb (decimal n s) most)) (Ok (record { negative = negative; size = decimal n s })) (Err NoNumber)
 
 pub largest-fits : (kind : Numeral) (negative : Bool) → largest kind negative ≤ 4294967295
 largest-fits Count negative = omega arith
 largest-fits Year false = omega arith
 largest-fits Year true = omega arith
 
-pub sized-none : (kind : Numeral) (negative : Bool) (s : List ℕ) → length s ≡ 0 → number_in (sized kind negative s) ≡ NoNumber
+pub sized-none : (kind : Numeral) (negative : Bool) (s : List ℕ) → length s ≡ 0 → number_in (sized kind negative s) ≡ Err NoNumber
 unfolding sized
 sized-none kind negative [] h = refl
 sized-none kind negative (b ∷ s) h = absurd (omega arith)
@@ -57,12 +53,12 @@ unfolding decimal
 grows n [] = omega arith
 grows n (b ∷ s) = omega (arith, grows (n * 10 + (b - 48)) s)
 
-too_large : (most : ℕ) (negative : Bool) (n : ℕ) (s : List ℕ) → most < n → sized_from most negative n s ≡ NoNumber
+too_large : (most : ℕ) (negative : Bool) (n : ℕ) (s : List ℕ) → most < n → sized_from most negative n s ≡ Err NoNumber
 unfolding sized_from
 too_large most negative n s h = rw (lt-leb (decimal n s) most (omega (arith, grows n s)), both_false)
 
 module _ (most : ℕ) (negative : Bool) (n : ℕ) (s : List ℕ) (i : ℕ) where
-  pub no_digit : i < length s → is_digit (get_or s i 0) ≡ false → sized_from most negative n (drop i s) ≡ NoNumber
+  pub no_digit : i < length s → is_digit (get_or s i 0) ≡ false → sized_from most negative n (drop i s) ≡ Err NoNumber
   unfolding sized_from all_digits
   no_digit h e = rw (drop-cons s i 0 h, e)
 
@@ -72,10 +68,10 @@ module _ (most : ℕ) (negative : Bool) (n : ℕ) (s : List ℕ) (i : ℕ) where
   digit-more h e = rw (drop-cons s i 0 h, add-one, e)
 
   pub digit-too-many : i < length s → is_digit (get_or s i 0) ≡ true → most < n * 10 + (get_or s i 0 - 48)
-      → sized_from most negative n (drop i s) ≡ NoNumber
+      → sized_from most negative n (drop i s) ≡ Err NoNumber
   digit-too-many h e k = digit-more h e ∙ too_large most negative (n * 10 + (get_or s i 0 - 48)) (drop (i + 1) s) k
 
-  pub digits-done : length s ≤ i → n ≤ most → sized_from most negative n (drop i s) ≡ Value negative n
+  pub digits-done : length s ≤ i → n ≤ most → sized_from most negative n (drop i s) ≡ Ok (record { negative = negative; size = n })
   unfolding sized_from all_digits decimal
   digits-done h k = rw (drop_of_length-le s h, le-leb n most k)
 
@@ -99,15 +95,15 @@ number-signed kind k s h g e =
     (taken_is k (sized_by kind (sign_of kind (get_or s 0 0)) (get_or s 0 0) (take (k - 1) (drop 1 s))))
 
 pub number-plus : (kind : Numeral) (k : ℕ) (s : List ℕ) → 0 < k → k ≤ length s → get_or s 0 0 ≡ 43
-    → got_number (take_number kind k s) ≡ PlusSign
+    → got_number (take_number kind k s) ≡ Err PlusSign
 unfolding take_number
 number-plus kind k s h g e = rw (le-ltb (length s) k g, front k s h (omega arith), eq-eqb (get_or s 0 0) 43 e)
 
-pub number_short : (kind : Numeral) (k : ℕ) (s : List ℕ) → length s < k → got_number (take_number kind k s) ≡ TooFew
+pub number_short : (kind : Numeral) (k : ℕ) (s : List ℕ) → length s < k → got_number (take_number kind k s) ≡ Err TooFew
 unfolding take_number
 number_short kind k s h = rw (lt-ltb (length s) k h)
 
-pub number-of-none : (kind : Numeral) (k : ℕ) (s : List ℕ) → k ≡ 0 → got_number (take_number kind k s) ≡ NoNumber
+pub number-of-none : (kind : Numeral) (k : ℕ) (s : List ℕ) → k ≡ 0 → got_number (take_number kind k s) ≡ Err NoNumber
 unfolding take_number number_of
 number-of-none kind k s h = rw (h, le-ltb (length s) 0 (omega arith))
 

@@ -1,29 +1,22 @@
 -- The answers of the number reader, from what the definitions' readers give.
-use Rattle.std.specs.Prelude.{List, ℕ, ◌+◌, ◌*◌, ◌-◌, get_or}
+use Rattle.std.specs.Prelude.{List, ℕ, ◌+◌, ◌*◌, ◌-◌, get_or, Result, Ok, Err}
 use Rattle.std.proofs.Math.Option.{Option, none, some}
 use Rattle.meaning.specs.Numerals.{Signed}
 use Rattle.meaning.specs.Readers.{Got, got, stopped}
 use Rattle.meaning.specs.declared.Trouble.{Trouble}
-use Rattle.meaning.specs.declared.Trouble.TheVariants.{TooFew, NoNumber, NoName, NoSign, LiteralDiffers, PlusSign}
+use Rattle.meaning.specs.declared.Trouble.TheVariants.{NoNumber}
 use Rattle.numerals.specs.declared.Number.{Number}
-use Rattle.numerals.specs.declared.Number.TheVariants as number
 
-abbrev pub number_in : Option Signed → Number
-number_in none = number.NoNumber
-number_in (some n) = number.Value n.negative n.size
+abbrev pub signed : Signed → Number
+signed n = record { negative = n.negative; size = n.size }
 
--- a number stops for want of bytes, at a plus or for want of a number, and for nothing else
-abbrev pub number_stopped : Trouble → Number
-number_stopped TooFew = number.TooFew
-number_stopped NoNumber = number.NoNumber
-number_stopped NoName = number.NoNumber
-number_stopped NoSign = number.NoNumber
-number_stopped LiteralDiffers = number.NoNumber
-number_stopped PlusSign = number.PlusSign
+abbrev pub number_in : Option Signed → Result Number Trouble
+number_in none = Err NoNumber
+number_in (some n) = Ok (signed n)
 
-abbrev pub got_number : Got Signed → Number
-got_number (got k n) = number.Value n.negative n.size
-got_number (stopped why i) = number_stopped why
+abbrev pub got_number : Got Signed → Result Number Trouble
+got_number (got k n) = Ok (signed n)
+got_number (stopped why i) = Err why
 
 -- two digits at a place, as a number
 abbrev pub pair_at : ℕ → List ℕ → ℕ

@@ -10,25 +10,19 @@ ghost use Rattle.meaning.specs.Numerals as numerals;
 ghost use Rattle.meaning.specs.Readers.{take_number};
 ghost use Rattle.numerals.specs.Numbers.{number_in, got_number};
 
-use meaning::{Numeral, Sign};
+use meaning::{Numeral, Sign, Trouble};
 
-// What a number of so many bytes at the front of a text is: too few bytes (8), a plus in front (19), no number (9), or its sign
-// and size.
+// A number's sign and size.
 #[derive(Clone, Copy)]
-pub enum Number {
-    TooFew,
-    PlusSign,
-    NoNumber,
-    Value { negative: bool, size: u32 },
+pub struct Number {
+    pub negative: bool,
+    pub size: u32,
 }
 
 pub fn is_digit(b: u8) -> bool
     ensures { result ≡ is_digit b }
 {
-    if b < b'0' {
-        return false;
-    }
-    b <= b'9'
+    b.is_ascii_digit()
 }
 
 fn largest(kind: Numeral, negative: bool) -> u64
@@ -36,65 +30,59 @@ fn largest(kind: Numeral, negative: bool) -> u64
 {
     match kind {
         Numeral::Count => 4294967295,
-        Numeral::Year => { if negative { 2147483648 } else { 2147483647 } }
+        Numeral::Year if negative => 2147483648,
+        Numeral::Year => 2147483647,
     }
 }
 
 // What the first byte says of the sign.
+#[tactic(auto, unfolding(meaning::specs::Numerals::sign_of))]
 fn sign_of(kind: Numeral, b: u8) -> Sign
     ensures { result ≡ numerals.sign_of kind b }
 {
-    if b == b'-' {
-        if let Numeral::Year = kind {
-            return Sign::Minus;
-        }
+    match kind {
+        Numeral::Year if b == b'-' => Sign::Minus,
+        _ => Sign::Bare,
     }
-    Sign::Bare
 }
 
 // All of these bytes are digits, there is one at least, and the size fits. A size that is too large already stays so.
-fn sized(kind: Numeral, negative: bool, digits: &[u8]) -> Number
+fn sized(kind: Numeral, negative: bool, digits: &[u8]) -> Result<Number, Trouble>
     ensures { result ≡ number_in (numerals.sized kind negative digits.now) }
 {
-    let most = largest(kind, negative);
-    if digits.len() == 0 {
-        return Number::NoNumber;
+    if digits.is_empty() {
+        return Err(Trouble::NoNumber);
     }
+    let most = largest(kind, negative);
     let mut size: u64 = 0;
-    let mut i = 0;
-    while i < digits.len() {
-        let d = digits[i];
-        if d < b'0' {
-            return Number::NoNumber;
-        }
-        if b'9' < d {
-            return Number::NoNumber;
+    for &d in digits {
+        if !is_digit(d) {
+            return Err(Trouble::NoNumber);
         }
         size = size * 10 + (d - b'0') as u64;
         if most < size {
-            return Number::NoNumber;
+            return Err(Trouble::NoNumber);
         }
-        i += 1;
     }
-    Number::Value {
+    Ok(Number {
         negative,
         size: size as u32,
-    }
+    })
 }
 
-// A number of k bytes at the front of a text.
-pub fn read_number(kind: Numeral, k: usize, text: &[u8]) -> Number
+// A number of k bytes at the front of a text; else there are too few bytes (8), a plus in front (19) or no number (9).
+pub fn read_number(kind: Numeral, k: usize, text: &[u8]) -> Result<Number, Trouble>
     ensures { result ≡ got_number (take_number kind k text.now) }
 {
     if text.len() < k {
-        return Number::TooFew;
+        return Err(Trouble::TooFew);
     }
     if k == 0 {
-        return Number::NoNumber;
+        return Err(Trouble::NoNumber);
     }
     let first = text[0];
     if first == b'+' {
-        return Number::PlusSign;
+        return Err(Trouble::PlusSign);
     }
     match sign_of(kind, first) {
         Sign::Minus => sized(kind, true, &text[1..k]),

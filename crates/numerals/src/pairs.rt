@@ -11,6 +11,7 @@ pub fn digit_value(b: u8) -> u32
 }
 
 // Two digits, as a number.
+#[tactic(auto, unfolding(meaning::specs::Bytes::digit_at))]
 pub fn pair_at(text: &[u8], at: usize) -> u32
     requires { (digit_at at text.now ≡ true) × (digit_at (at + 1) text.now ≡ true) }
     ensures { result ≡ pair_at at text.now }

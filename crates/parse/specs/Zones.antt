@@ -1,5 +1,5 @@
 -- What the steps of a zone give at a cursor: a sign, a group of two digits, and all behind the sign.
-use Rattle.std.specs.Prelude.{Bool, ℕ, ◌+◌, ◌*◌}
+use Rattle.std.specs.Prelude.{Bool, ℕ, ◌+◌, ◌*◌, Result, Ok, Err}
 use Rattle.meaning.specs.Numerals.{integer}
 use Rattle.meaning.specs.Readers.{Got, got, stopped, Reader, ◌>>=◌, done, take_count, ZoneSign, utc, ahead, behind_utc}
 use Rattle.meaning.specs.Reading.{zone_group}
@@ -8,20 +8,23 @@ use Rattle.meaning.specs.declared.Carried.{Carried}
 use Rattle.meaning.specs.declared.Carried.TheVariants.{Value}
 use Rattle.meaning.specs.declared.Group.{Group}
 use Rattle.meaning.specs.declared.ParseUnit.TheVariants as unit
-use Rattle.parse.specs.declared.zones.Counted.{Counted}
-use Rattle.parse.specs.declared.zones.Counted.TheVariants as counted
-use Rattle.parse.specs.declared.zones.SignRead.{SignRead}
-use Rattle.parse.specs.declared.zones.SignRead.TheVariants as sign
+use Rattle.parse.specs.Steps.{read_at, stopped_at}
+use Rattle.parse.specs.declared.cursor.Read.{Read}
+use Rattle.parse.specs.declared.cursor.Stop.{Stop}
+use Rattle.parse.specs.declared.zones.ZoneSign as sign
+use Rattle.parse.specs.declared.zones.ZoneSign.TheVariants as variants
 
-abbrev pub sign_at : ℕ → Got ZoneSign → SignRead
-sign_at at (got k utc) = sign.Utc (record { at = at + k })
-sign_at at (got k ahead) = sign.Ahead (record { at = at + k })
-sign_at at (got k behind_utc) = sign.BehindUtc (record { at = at + k })
-sign_at at (stopped why i) = sign.Stopped why (at + i)
+abbrev pub sign_of : ZoneSign → sign.ZoneSign
+sign_of utc = variants.Utc
+sign_of ahead = variants.Ahead
+sign_of behind_utc = variants.BehindUtc
 
-abbrev pub counted_at : ℕ → Got ℕ → Counted
-counted_at at (got k n) = counted.Number n (record { at = at + k })
-counted_at at (stopped why i) = counted.Stopped why (at + i)
+abbrev pub sign_at : ℕ → Got ZoneSign → Result (Read sign.ZoneSign) Stop
+sign_at at (got k s) = Ok (record { value = sign_of s; next = record { at = at + k } })
+sign_at at (stopped why i) = Err (stopped_at at why i)
+
+abbrev pub counted_at : ℕ → Got ℕ → Result (Read ℕ) Stop
+counted_at = read_at
 
 abbrev pub offset : Bool → ℕ → Carried
 offset negative n = Value unit.Offset (integer (record { negative = negative; size = n }))

@@ -6,8 +6,7 @@ ghost use Rattle.meaning.specs.OpenedBooks.{book_in};
 ghost use Rattle.meaning.specs.Readers as reads;
 ghost use Rattle.parse.specs.Steps as steps;
 
-use meaning::{Carried, NameList, Numeral, Trouble};
-use names::tables::Found;
+use meaning::{NameList, Numeral, Refusal, Trouble};
 use numerals::{Number, read_number};
 
 #[derive(Clone, Copy)]
@@ -15,121 +14,107 @@ pub struct Cursor {
     pub at: usize,
 }
 
+// Why a step stopped, and where.
 #[derive(Clone, Copy)]
-pub enum Taken {
-    Stopped {
-        trouble: Trouble,
-        place: usize,
-    },
-    Value {
-        negative: bool,
-        size: u32,
-        next: Cursor,
-    },
+pub struct Stop {
+    pub trouble: Trouble,
+    pub place: usize,
 }
 
-#[derive(Clone, Copy)]
-pub enum Skipped {
-    Stopped { trouble: Trouble, place: usize },
-    Past(Cursor),
+impl Stop {
+    // The refusal of a part that stopped so.
+    pub fn in_part(self, part: usize) -> Refusal
+        ensures { result ≡ Refusal.InPart self.trouble part self.place }
+    {
+        Refusal::InPart {
+            trouble: self.trouble,
+            part,
+            place: self.place,
+        }
+    }
 }
 
+// What a step read, and the cursor behind it.
 #[derive(Clone, Copy)]
-pub enum Matched {
-    Stopped { trouble: Trouble, place: usize },
-    Name { index: usize, next: Cursor },
-}
-
-// What a part gives: the value that it carries.
-#[derive(Clone, Copy)]
-pub enum PartRead {
-    Stopped { trouble: Trouble, place: usize },
-    Got { carried: Carried, next: Cursor },
+pub struct Read<T> {
+    pub value: T,
+    pub next: Cursor,
 }
 
 impl Cursor {
     // "take k": the remaining text is handed on as the part from the cursor.
-    pub fn take(self, kind: Numeral, k: usize, text: &[u8]) -> Taken
+    pub fn take(self, kind: Numeral, k: usize, text: &[u8]) -> Result<Read<Number>, Stop>
         requires { self.at ≤ length text.now }
         ensures { result ≡ steps.taken_at self.at (reads.take_number kind k (drop self.at text.now)) }
     {
-        let at = self.at;
-        match read_number(kind, k, &text[at..]) {
-            Number::TooFew => Taken::Stopped {
-                trouble: Trouble::TooFew,
-                place: at,
-            },
-            Number::PlusSign => Taken::Stopped {
-                trouble: Trouble::PlusSign,
-                place: at,
-            },
-            Number::NoNumber => Taken::Stopped {
-                trouble: Trouble::NoNumber,
-                place: at,
-            },
-            Number::Value { negative, size } => Taken::Value {
-                negative,
-                size,
-                next: Cursor { at: at + k },
-            },
+        match read_number(kind, k, &text[self.at..]) {
+            Ok(value) => Ok(Read {
+                value,
+                next: Cursor { at: self.at + k },
+            }),
+            Err(trouble) => Err(Stop {
+                trouble,
+                place: self.at,
+            }),
         }
     }
 
     // So many bytes, unseen.
-    pub fn skip(self, k: usize, text: &[u8]) -> Skipped
+    pub fn skip(self, k: usize, text: &[u8]) -> Result<Cursor, Stop>
         requires { self.at ≤ length text.now }
         ensures { result ≡ steps.skipped_at self.at (reads.skip k (drop self.at text.now)) }
     {
-        let at = self.at;
-        if text.len() - at < k {
-            return Skipped::Stopped {
+        if text.len() - self.at < k {
+            return Err(Stop {
                 trouble: Trouble::TooFew,
-                place: at,
-            };
+                place: self.at,
+            });
         }
-        Skipped::Past(Cursor { at: at + k })
+        Ok(Cursor { at: self.at + k })
     }
 
     // The first name of a list that begins the remaining text; `match` is a keyword.
-    pub fn match_name(self, book: &[u8], list: NameList, text: &[u8]) -> Matched
+    pub fn match_name(self, book: &[u8], list: NameList, text: &[u8]) -> Result<Read<usize>, Stop>
         requires { self.at ≤ length text.now }
         ensures { result ≡ steps.matched_at self.at (reads.match_name (names (book_in book.now) list) (drop self.at text.now)) }
     {
-        let at = self.at;
-        match names::matching::match_name(book, list, &text[at..]) {
-            Found::Name { index, length } => Matched::Name {
-                index,
-                next: Cursor { at: at + length },
-            },
-            Found::Nothing => Matched::Stopped {
+        match names::matching::match_name(book, list, &text[self.at..]) {
+            Some(found) => Ok(Read {
+                value: found.index,
+                next: Cursor {
+                    at: self.at + found.length,
+                },
+            }),
+            None => Err(Stop {
                 trouble: Trouble::NoName,
-                place: at,
-            },
+                place: self.at,
+            }),
         }
     }
 
     // So many bytes that are a name of a list.
-    pub fn match_letters(self, book: &[u8], list: NameList, k: usize, text: &[u8]) -> Matched
+    pub fn match_letters(
+        self,
+        book: &[u8],
+        list: NameList,
+        k: usize,
+        text: &[u8],
+    ) -> Result<Read<usize>, Stop>
         requires { self.at ≤ length text.now }
         ensures { result ≡ steps.matched_at self.at (reads.letters k (names (book_in book.now) list) (drop self.at text.now)) }
     {
-        let at = self.at;
-        if text.len() - at < k {
-            return Matched::Stopped {
-                trouble: Trouble::TooFew,
-                place: at,
-            };
-        }
-        let end = at + k;
-        match names::matching::match_name(book, list, &text[at..end]) {
-            Found::Name { index, length } => Matched::Name {
-                index,
-                next: Cursor { at: at + length },
-            },
-            Found::Nothing => Matched::Stopped {
+        let end = self.skip(k, text)?;
+        match names::matching::match_name(book, list, &text[self.at..end.at]) {
+            Some(found) => Ok(Read {
+                value: found.index,
+                next: Cursor {
+                    at: self.at + found.length,
+                },
+            }),
+            None => Err(Stop {
                 trouble: Trouble::NoName,
-                place: at,
-            },
+                place: self.at,
+            }),
         }
     }
 }

@@ -1,4 +1,5 @@
-// Literals compared, for a strict reading: what a part stands for with the bytes of the text that it passed over.
+// Literals compared, for a strict reading: what a part stands for with the bytes of the text that it passed over. Each answers the
+// place of the first byte of the text that is another one.
 ghost use Rattle.std.specs.Prelude.{◌≡◌, ◌-◌, ◌≤◌, length, replicate};
 ghost use Rattle.parse.specs.Literals.{Ended, compared_from, compared};
 ghost use Rattle.pattern.specs.First.{unescaped};
@@ -8,51 +9,43 @@ use meaning::Role;
 use pattern::quoted::{bytes_of, unescaped_length};
 use rules::step::Step;
 
-#[derive(Clone, Copy)]
-pub enum Compared {
-    Same,
-    // The place of the first byte of the text that is another one.
-    Differs(usize),
-}
-
 // A byte, so many times.
-fn compare_times(byte: u8, count: usize, text: &[u8], end: usize) -> Compared
+fn compare_times(byte: u8, count: usize, text: &[u8], end: usize) -> Option<usize>
     requires count_le_end { count ≤ end }
     requires end_in_bounds { end ≤ length text.now }
     ensures { result ≡ compared_from (end - count) (replicate count byte) text.now }
 {
-    let mut i = end - count;
-    while i < end {
+    for i in end - count..end {
         if text[i] != byte {
-            return Compared::Differs(i);
+            return Some(i);
         }
-        i += 1;
     }
-    Compared::Same
+    None
 }
 
 // The inside of quotes, where an escaped quote is one byte.
-fn compare_inside(inside: &[u8], text: &[u8], end: usize) -> Compared
+fn compare_inside(inside: &[u8], text: &[u8], end: usize) -> Option<usize>
     requires inside_len_bound { length (unescaped inside.now) ≤ end }
     requires end_in_bounds { end ≤ length text.now }
     ensures { result ≡ compared_from (end - length (unescaped inside.now)) (unescaped inside.now) text.now }
 {
     let mut next = end - unescaped_length(inside);
+    // A loop by hand: a doubled quote is two bytes, and no iterator of a slice steps by one or two.
     let mut i = 0;
     while i < inside.len() {
         let b = inside[i];
         if text[next] != b {
-            return Compared::Differs(next);
+            return Some(next);
         }
         next += 1;
         i += bytes_of(b);
     }
-    Compared::Same
+    None
 }
 
 // What a step stands for with the bytes before a place. It calls itself for a run that stands for itself, which keeps it a call of
 // its own: a reading that is not strict does not carry it along.
-pub fn compare(step: Step, pattern: &[u8], text: &[u8], end: usize) -> Compared
+pub fn compare(step: Step, pattern: &[u8], text: &[u8], end: usize) -> Option<usize>
     requires held { Held pattern.now step }
     requires ended { Ended (means pattern.now step) (length text.now) end }
     ensures { result ≡ compared (means pattern.now step) text.now end }
@@ -61,17 +54,10 @@ pub fn compare(step: Step, pattern: &[u8], text: &[u8], end: usize) -> Compared
         Step::Times { byte, count } => compare_times(byte, count, text, end),
         Step::Quoted { from, to } => compare_inside(&pattern[from..to], text, end),
         Step::Open { from } => compare_inside(&pattern[from..], text, end),
-        Step::Short {
-            number: _,
-            count: _,
-        } => Compared::Same,
-        Step::Year(_) => Compared::Same,
-        Step::MonthAbbreviated => Compared::Same,
-        Step::MonthWide => Compared::Same,
-        Step::WdayWide => Compared::Same,
         Step::Run { role, byte, count } => match role {
             Role::Literal => compare(Step::Times { byte, count }, pattern, text, end),
-            Role::Symbol(_) => Compared::Same,
+            Role::Symbol(_) => None,
         },
+        _ => None,
     }
 }

@@ -3,10 +3,10 @@ ghost use Rattle.std.specs.Prelude.{◌≡◌, ◌≤◌, ◌<◌, length, drop}
 ghost use Rattle.meaning.specs.Names.{names, english};
 ghost use Rattle.meaning.specs.OpenedBooks.{book_in};
 ghost use Rattle.meaning.specs.Reading as reading;
-ghost use Rattle.parse.specs.Matches.{named_by, IndexBelow};
+ghost use Rattle.parse.specs.Matches.{named_by};
 ghost use Rattle.parse.specs.Steps.{part_at};
 
-use crate::cursor::{Cursor, Matched, PartRead};
+use crate::cursor::{Cursor, Read, Stop};
 use meaning::{Carried, NameList, ParseUnit};
 
 fn month_at(i: usize) -> Carried
@@ -21,56 +21,46 @@ fn month_at(i: usize) -> Carried
 fn period_at(afternoon: usize, i: usize) -> Carried
     ensures { result ≡ reading.period_at afternoon i }
 {
-    if i < afternoon {
-        return Carried::Value(ParseUnit::Period, 0);
-    }
-    Carried::Value(ParseUnit::Period, 1)
+    Carried::Value(ParseUnit::Period, if i < afternoon { 0 } else { 1 })
 }
 
+#[tactic(auto, unfolding(meaning::specs::Reading::name_carries, meaning::specs::Names::names, meaning::specs::Names::english, meaning::specs::Bytes::bytes))]
 pub fn name_carries(list: NameList, i: usize) -> Carried
     requires { i < length (names english list) }
     ensures { result ≡ reading.name_carries list i }
 {
     match list {
-        NameList::EraAbbreviated => Carried::Nothing,
-        NameList::EraNarrow => Carried::Nothing,
-        NameList::EraWide => Carried::Nothing,
-        NameList::QuarterWide => Carried::Nothing,
-        NameList::MonthAbbreviated => month_at(i),
-        NameList::MonthWide => month_at(i),
-        NameList::MonthNarrow => Carried::Nothing,
-        NameList::WdayAbbreviated => Carried::Nothing,
-        NameList::WdayWide => Carried::Nothing,
-        NameList::WdayNarrow => Carried::Nothing,
-        NameList::WdayShort => Carried::Nothing,
-        NameList::PeriodUpper => period_at(2, i),
-        NameList::PeriodLower => period_at(2, i),
-        NameList::PeriodDotted => period_at(1, i),
-        NameList::PeriodLetter => period_at(1, i),
-        NameList::NoonUpper => period_at(3, i),
-        NameList::NoonLower => period_at(3, i),
-        NameList::NoonDotted => period_at(2, i),
-        NameList::NoonLetter => period_at(2, i),
+        NameList::MonthAbbreviated | NameList::MonthWide => month_at(i),
+        NameList::PeriodDotted | NameList::PeriodLetter => period_at(1, i),
+        NameList::PeriodUpper
+        | NameList::PeriodLower
+        | NameList::NoonDotted
+        | NameList::NoonLetter => period_at(2, i),
+        NameList::NoonUpper | NameList::NoonLower => period_at(3, i),
+        _ => Carried::Nothing,
     }
 }
 
 // What a match in a list gives.
-pub fn named(list: NameList, matched: Matched) -> PartRead
-    requires { IndexBelow (length (names english list)) matched }
-    ensures { result ≡ named_by list matched }
+pub fn named(list: NameList, name: Read<usize>) -> Read<Carried>
+    requires { name.value < length (names english list) }
+    ensures { result ≡ named_by list name }
 {
-    match matched {
-        Matched::Stopped { trouble, place } => PartRead::Stopped { trouble, place },
-        Matched::Name { index, next } => {
-            let carried = name_carries(list, index);
-            PartRead::Got { carried, next }
-        }
+    Read {
+        value: name_carries(list, name.value),
+        next: name.next,
     }
 }
 
-pub fn parse_name(book: &[u8], list: NameList, text: &[u8], cursor: Cursor) -> PartRead
+pub fn parse_name(
+    book: &[u8],
+    list: NameList,
+    text: &[u8],
+    cursor: Cursor,
+) -> Result<Read<Carried>, Stop>
     requires { cursor.at ≤ length text.now }
     ensures { result ≡ part_at cursor.at (reading.matched_name (book_in book.now) list (drop cursor.at text.now)) }
 {
-    named(list, cursor.match_name(book, list, text))
+    let name = cursor.match_name(book, list, text)?;
+    Ok(named(list, name))
 }

@@ -4,12 +4,12 @@ ghost use Rattle.meaning.specs.OpenedBooks.{book_in};
 ghost use Rattle.meaning.specs.Reading.{read_rule};
 ghost use Rattle.parse.specs.Steps.{part_at};
 
-use crate::cursor::{Cursor, PartRead};
+use crate::cursor::{Cursor, Read, Stop};
 use crate::named::{named, parse_name};
 use crate::steps::{pass, take_number};
 use crate::years::{parse_fixed_year, parse_two_digit_year, parse_years};
 use crate::zones::parse_zone;
-use meaning::{Edition, Rule};
+use meaning::{Carried, Edition, Rule};
 use numerals::extents::extent;
 use rules::numbers::most_read;
 
@@ -20,7 +20,7 @@ pub fn parse_rule(
     current_year: u32,
     text: &[u8],
     cursor: Cursor,
-) -> PartRead
+) -> Result<Read<Carried>, Stop>
     requires { cursor.at ≤ length text.now }
     ensures { result ≡ part_at cursor.at (read_rule edition (book_in book.now) current_year rule (drop cursor.at text.now)) }
 {
@@ -46,10 +46,10 @@ pub fn parse_rule(
         Rule::LetterQuarter => pass(2, text, cursor),
         Rule::SkippedName { names: _, length } => pass(length, text, cursor),
         Rule::MatchedName(names) => parse_name(book, names, text, cursor),
-        Rule::Letters { names, length } => named(
-            names,
-            cursor.match_letters(book, names, length, text),
-        ),
+        Rule::Letters { names, length } => {
+            let name = cursor.match_letters(book, names, length, text)?;
+            Ok(named(names, name))
+        }
         Rule::Years(_) => parse_years(text, cursor),
         Rule::FixedYear(count) => parse_fixed_year(count, text, cursor),
         Rule::TwoDigitYear => parse_two_digit_year(edition, current_year, text, cursor),

@@ -6,10 +6,10 @@ ghost use Rattle.parse.specs.Steps.{part_at, plain_read};
 ghost use Rattle.parse.specs.Years.{long_year_read};
 ghost use Rattle.rules.specs.Steps.{means, Held};
 
-use crate::cursor::{Cursor, PartRead};
+use crate::cursor::{Cursor, Read, Stop};
 use crate::named::parse_name;
 use crate::rule::parse_rule;
-use crate::short::{Digits, NONE, parse_short};
+use crate::short::{Digits, parse_short};
 use crate::steps::pass;
 use crate::years::{parse_fixed_year, parse_years};
 use meaning::{Carried, Edition, NameList, ParseUnit, Role};
@@ -18,7 +18,7 @@ use rules::short::{short_rule, short_unit};
 use rules::step::Step;
 
 // y, more than twice.
-fn parse_year(count: usize, text: &[u8], cursor: Cursor) -> PartRead
+fn parse_year(count: usize, text: &[u8], cursor: Cursor) -> Result<Read<Carried>, Stop>
     requires { cursor.at ≤ length text.now }
     ensures { result ≡ part_at cursor.at (long_year_read count (drop cursor.at text.now)) }
 {
@@ -37,7 +37,7 @@ fn parse_other(
     current_year: u32,
     text: &[u8],
     cursor: Cursor,
-) -> PartRead
+) -> Result<Read<Carried>, Stop>
     requires held { Held pattern.now step }
     requires at_in_bounds { cursor.at ≤ length text.now }
     ensures { result ≡ part_at cursor.at (plain_read edition (book_in book.now) current_year (means pattern.now step) (drop cursor.at text.now)) }
@@ -77,24 +77,14 @@ fn parse_other(
     }
 }
 
-// Given anew, so that an answer made by the caller itself does not go through memory.
-fn moved_on(read: PartRead) -> PartRead
-    ensures { result ≡ read }
-{
-    match read {
-        PartRead::Stopped { trouble, place } => PartRead::Stopped { trouble, place },
-        PartRead::Got { carried, next } => PartRead::Got { carried, next },
-    }
-}
-
 // The digits of a short number, if the step is one and they are there.
-fn quick_digits(edition: Edition, step: Step, text: &[u8], at: usize) -> Digits
+fn quick_digits(edition: Edition, step: Step, text: &[u8], at: usize) -> Option<Digits>
     ensures { result ≡ quick_digits edition step (drop at text.now) }
 {
     if let Step::Short { number, count } = step {
         return parse_short(edition, number, count, text, at);
     }
-    NONE
+    None
 }
 
 fn quick_unit(step: Step) -> ParseUnit
@@ -115,7 +105,7 @@ pub fn parse_step(
     current_year: u32,
     text: &[u8],
     cursor: Cursor,
-) -> PartRead
+) -> Result<Read<Carried>, Stop>
     requires held { Held pattern.now step }
     requires at_in_bounds { cursor.at ≤ length text.now }
     ensures { result ≡ part_at cursor.at (plain_read edition (book_in book.now) current_year (means pattern.now step) (drop cursor.at text.now)) }
@@ -123,15 +113,15 @@ pub fn parse_step(
     if let Step::Times { byte: _, count } = step {
         return pass(count, text, cursor);
     }
-    let read = quick_digits(edition, step, text, cursor.at);
-    if read.size < 100 {
-        let unit = quick_unit(step);
-        return PartRead::Got {
-            carried: Carried::Value(unit, read.size as i64),
+    if let Some(read) = quick_digits(edition, step, text, cursor.at) {
+        return Ok(Read {
+            value: Carried::Value(quick_unit(step), read.size as i64),
             next: Cursor {
                 at: cursor.at + read.taken,
             },
-        };
+        });
     }
-    moved_on(parse_other(edition, book, step, pattern, current_year, text, cursor))
+    // Given anew, so that an answer made here does not go through memory.
+    let read = parse_other(edition, book, step, pattern, current_year, text, cursor)?;
+    Ok(read)
 }

@@ -3,21 +3,19 @@ ghost use Rattle.std.specs.Prelude.{◌≡◌, ◌≤◌, length, drop};
 ghost use Rattle.meaning.specs.Reading as reading;
 ghost use Rattle.parse.specs.Steps.{part_at};
 
-use crate::cursor::{Cursor, PartRead, Skipped, Taken};
+use crate::cursor::{Cursor, Read, Stop};
 use meaning::{Carried, Numeral, ParseUnit};
 
 // So many bytes that carry nothing.
-pub fn pass(k: usize, text: &[u8], cursor: Cursor) -> PartRead
+pub fn pass(k: usize, text: &[u8], cursor: Cursor) -> Result<Read<Carried>, Stop>
     requires { cursor.at ≤ length text.now }
     ensures { result ≡ part_at cursor.at (reading.passed k (drop cursor.at text.now)) }
 {
-    match cursor.skip(k, text) {
-        Skipped::Stopped { trouble, place } => PartRead::Stopped { trouble, place },
-        Skipped::Past(next) => PartRead::Got {
-            carried: Carried::Nothing,
-            next,
-        },
-    }
+    let next = cursor.skip(k, text)?;
+    Ok(Read {
+        value: Carried::Nothing,
+        next,
+    })
 }
 
 fn zero_for(zero: u32, n: u32) -> u32
@@ -27,22 +25,20 @@ fn zero_for(zero: u32, n: u32) -> u32
 }
 
 // A number of k bytes, where one value stands for 0.
-pub fn take_number(unit: ParseUnit, zero: u32, k: usize, text: &[u8], cursor: Cursor) -> PartRead
+pub fn take_number(
+    unit: ParseUnit,
+    zero: u32,
+    k: usize,
+    text: &[u8],
+    cursor: Cursor,
+) -> Result<Read<Carried>, Stop>
     requires { cursor.at ≤ length text.now }
     ensures { result ≡ part_at cursor.at (reading.taken_unit unit zero k (drop cursor.at text.now)) }
 {
-    match cursor.take(Numeral::Count, k, text) {
-        Taken::Stopped { trouble, place } => PartRead::Stopped { trouble, place },
-        Taken::Value {
-            negative: _,
-            size,
-            next,
-        } => {
-            let value = zero_for(zero, size) as i64;
-            PartRead::Got {
-                carried: Carried::Value(unit, value),
-                next,
-            }
-        }
-    }
+    let number = cursor.take(Numeral::Count, k, text)?;
+    let value = zero_for(zero, number.value.size) as i64;
+    Ok(Read {
+        value: Carried::Value(unit, value),
+        next: number.next,
+    })
 }

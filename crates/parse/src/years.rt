@@ -5,9 +5,9 @@ ghost use Rattle.meaning.specs.Reading as reading;
 ghost use Rattle.parse.specs.Steps.{part_at};
 ghost use Rattle.parse.specs.Years as years;
 
-use crate::cursor::{Cursor, PartRead, Taken};
+use crate::cursor::{Cursor, Read, Stop};
 use meaning::{Carried, Edition, Numeral, ParseUnit, Trouble};
-use numerals::integer_of;
+use numerals::{integer_of, is_digit};
 
 // A number as a year, counted from one: so many years on, or the first from it on that ends so.
 fn counted(edition: Edition, since: u32, negative: bool, size: u32) -> i64
@@ -23,34 +23,33 @@ fn counted(edition: Edition, since: u32, negative: bool, size: u32) -> i64
 }
 
 // So many bytes of a year, counted from one.
-fn take_year(edition: Edition, since: u32, k: usize, text: &[u8], cursor: Cursor) -> PartRead
+fn take_year(
+    edition: Edition,
+    since: u32,
+    k: usize,
+    text: &[u8],
+    cursor: Cursor,
+) -> Result<Read<Carried>, Stop>
     requires { cursor.at ≤ length text.now }
     ensures { result ≡ part_at cursor.at (years.year_since edition «since» k (drop cursor.at text.now)) }
 {
-    match cursor.take(Numeral::Year, k, text) {
-        Taken::Stopped { trouble, place } => PartRead::Stopped { trouble, place },
-        Taken::Value {
-            negative,
-            size,
-            next,
-        } => {
-            let value = counted(edition, since, negative, size);
-            PartRead::Got {
-                carried: Carried::Value(ParseUnit::Year, value),
-                next,
-            }
-        }
-    }
+    let number = cursor.take(Numeral::Year, k, text)?;
+    let value = counted(edition, since, number.value.negative, number.value.size);
+    Ok(Read {
+        value: Carried::Value(ParseUnit::Year, value),
+        next: number.next,
+    })
 }
 
 // 1 where a minus stands first in the remaining text, else 0.
 fn minus_first(text: &[u8], at: usize) -> usize
     ensures { result ≡ reading.minus_first (drop at text.now) }
 {
-    if text.len() <= at {
-        return 0;
+    if at < text.len() && text[at] == b'-' {
+        1
+    } else {
+        0
     }
-    if text[at] == b'-' { 1 } else { 0 }
 }
 
 // How many digits stand at a place.
@@ -58,22 +57,16 @@ fn digit_run(text: &[u8], at: usize) -> usize
     requires { at ≤ length text.now }
     ensures { result ≡ reading.digit_run (drop at text.now) }
 {
-    let mut i = at;
-    while i < text.len() {
-        let b = text[i];
-        if b < b'0' {
+    for i in at..text.len() {
+        if !is_digit(text[i]) {
             return i - at;
         }
-        if b'9' < b {
-            return i - at;
-        }
-        i += 1;
     }
-    i - at
+    text.len() - at
 }
 
 // y at 1, 3, 4: an optional minus and all digits that follow.
-pub fn parse_years(text: &[u8], cursor: Cursor) -> PartRead
+pub fn parse_years(text: &[u8], cursor: Cursor) -> Result<Read<Carried>, Stop>
     requires { cursor.at ≤ length text.now }
     ensures { result ≡ part_at cursor.at (reading.taken_year (reading.year_length (drop cursor.at text.now)) (drop cursor.at text.now)) }
 {
@@ -84,17 +77,17 @@ pub fn parse_years(text: &[u8], cursor: Cursor) -> PartRead
 }
 
 // y from 5 up: so many bytes, and one more at a minus.
-pub fn parse_fixed_year(count: usize, text: &[u8], cursor: Cursor) -> PartRead
+pub fn parse_fixed_year(count: usize, text: &[u8], cursor: Cursor) -> Result<Read<Carried>, Stop>
     requires { cursor.at ≤ length text.now }
     ensures { result ≡ part_at cursor.at (reading.taken_year (reading.minus_first (drop cursor.at text.now) + count) (drop cursor.at text.now)) }
 {
     let at = cursor.at;
     let minus = minus_first(text, at);
     if text.len() - at - minus < count {
-        return PartRead::Stopped {
+        return Err(Stop {
             trouble: Trouble::TooFew,
             place: at,
-        };
+        });
     }
     take_year(Edition::First, 0, minus + count, text, cursor)
 }
@@ -107,9 +100,10 @@ fn short_since(edition: Edition, current_year: u32) -> u32
         Edition::First => current_year / 1000 * 1000,
         Edition::Second => {
             if current_year < 80 {
-                return 0;
+                0
+            } else {
+                current_year - 80
             }
-            current_year - 80
         }
     }
 }
@@ -120,7 +114,7 @@ pub fn parse_two_digit_year(
     current_year: u32,
     text: &[u8],
     cursor: Cursor,
-) -> PartRead
+) -> Result<Read<Carried>, Stop>
     requires { cursor.at ≤ length text.now }
     ensures { result ≡ part_at cursor.at (reading.two_digit_year edition current_year (drop cursor.at text.now)) }
 {

@@ -1,76 +1,58 @@
 // Zones: the sign, two digits of hours, and the groups of two digits that the rule has or that are there.
-ghost use Rattle.std.specs.Prelude.{◌≡◌, ◌≤◌, eqb, length, get_or, drop};
-ghost use Rattle.meaning.specs.Bytes.{both, is_digit};
+ghost use Rattle.std.specs.Prelude.{◌≡◌, ◌≤◌, length, drop};
 ghost use Rattle.meaning.specs.Readers as reads;
 ghost use Rattle.meaning.specs.Reading as reading;
 ghost use Rattle.parse.specs.Steps.{part_at};
 ghost use Rattle.parse.specs.Zones.{sign_at, counted_at, zone_from};
 
-use crate::cursor::{Cursor, PartRead, Skipped, Taken};
+use crate::cursor::{Cursor, Read, Stop};
 use meaning::unit_sizes::{SECS_PER_HOUR_U64, SECS_PER_MINUTE_U64};
 use meaning::{Carried, Group, Numeral, ParseUnit, Trouble};
-use numerals::{integer_of, is_digit};
+use numerals::extents::is_digit_at;
+use numerals::integer_of;
 
 #[derive(Clone, Copy)]
-pub enum SignRead {
-    Stopped { trouble: Trouble, place: usize },
-    Utc(Cursor),
-    Ahead(Cursor),
-    BehindUtc(Cursor),
-}
-
-#[derive(Clone, Copy)]
-pub enum Counted {
-    Stopped { trouble: Trouble, place: usize },
-    Number { size: u32, next: Cursor },
-}
-
-fn is_z(utc: bool, b: u8) -> bool
-    ensures { result ≡ both utc (eqb b 90) }
-{
-    if utc { b == b'Z' } else { false }
+pub enum ZoneSign {
+    Utc,
+    Ahead,
+    BehindUtc,
 }
 
 // "take one byte (8), Z gives 0 for X alone, else it must be a sign (11)"
-fn zone_sign(utc: bool, text: &[u8], cursor: Cursor) -> SignRead
+fn zone_sign(utc: bool, text: &[u8], cursor: Cursor) -> Result<Read<ZoneSign>, Stop>
     requires { cursor.at ≤ length text.now }
     ensures { result ≡ sign_at cursor.at (reads.zone_sign utc (drop cursor.at text.now)) }
 {
-    let at = cursor.at;
-    if text.len() <= at {
-        return SignRead::Stopped {
-            trouble: Trouble::TooFew,
-            place: at,
-        };
-    }
-    let b = text[at];
-    if is_z(utc, b) {
-        return SignRead::Utc(Cursor { at: at + 1 });
-    }
-    if b == b'+' {
-        return SignRead::Ahead(Cursor { at: at + 1 });
-    }
-    if b == b'-' {
-        return SignRead::BehindUtc(Cursor { at: at + 1 });
-    }
-    SignRead::Stopped {
-        trouble: Trouble::NoSign,
-        place: at,
+    let next = cursor.skip(1, text)?;
+    match text[cursor.at] {
+        b'Z' if utc => Ok(Read {
+            value: ZoneSign::Utc,
+            next,
+        }),
+        b'+' => Ok(Read {
+            value: ZoneSign::Ahead,
+            next,
+        }),
+        b'-' => Ok(Read {
+            value: ZoneSign::BehindUtc,
+            next,
+        }),
+        _ => Err(Stop {
+            trouble: Trouble::NoSign,
+            place: cursor.at,
+        }),
     }
 }
 
-fn take_count(k: usize, text: &[u8], cursor: Cursor) -> Counted
+fn take_count(k: usize, text: &[u8], cursor: Cursor) -> Result<Read<u32>, Stop>
     requires { cursor.at ≤ length text.now }
     ensures { result ≡ counted_at cursor.at (reads.take_count k (drop cursor.at text.now)) }
 {
-    match cursor.take(Numeral::Count, k, text) {
-        Taken::Stopped { trouble, place } => Counted::Stopped { trouble, place },
-        Taken::Value {
-            negative: _,
-            size,
-            next,
-        } => Counted::Number { size, next },
-    }
+    let number = cursor.take(Numeral::Count, k, text)?;
+    Ok(Read {
+        value: number.value.size,
+        next: number.next,
+    })
 }
 
 fn colon_length(colon: bool) -> usize
@@ -79,47 +61,28 @@ fn colon_length(colon: bool) -> usize
     if colon { 1 } else { 0 }
 }
 
-fn take_group(colon: bool, text: &[u8], cursor: Cursor) -> Counted
+fn take_group(colon: bool, text: &[u8], cursor: Cursor) -> Result<Read<u32>, Stop>
     requires { cursor.at ≤ length text.now }
     ensures { result ≡ counted_at cursor.at (reading.take_group colon (drop cursor.at text.now)) }
 {
-    match cursor.skip(colon_length(colon), text) {
-        Skipped::Stopped { trouble, place } => Counted::Stopped { trouble, place },
-        Skipped::Past(next) => take_count(2, text, next),
-    }
-}
-
-fn is_digit_at(text: &[u8], place: usize) -> bool
-    ensures { result ≡ is_digit (get_or text.now place 0) }
-{
-    if text.len() <= place {
-        return false;
-    }
-    is_digit(text[place])
+    let next = cursor.skip(colon_length(colon), text)?;
+    take_count(2, text, next)
 }
 
 // A group that may be missing is there if its first digit is.
-fn zone_group(colon: bool, group: Group, text: &[u8], cursor: Cursor) -> Counted
+fn zone_group(colon: bool, group: Group, text: &[u8], cursor: Cursor) -> Result<Read<u32>, Stop>
     requires { cursor.at ≤ length text.now }
     ensures { result ≡ counted_at cursor.at (reading.zone_group colon group (drop cursor.at text.now)) }
 {
-    let at = cursor.at;
     match group {
-        Group::Never => Counted::Number {
-            size: 0,
-            next: cursor,
-        },
-        Group::NotZero => {
-            let place = at + colon_length(colon);
-            if is_digit_at(text, place) {
-                return take_group(colon, text, cursor);
-            }
-            Counted::Number {
-                size: 0,
-                next: cursor,
-            }
-        }
         Group::Always => take_group(colon, text, cursor),
+        Group::NotZero if is_digit_at(text, cursor.at + colon_length(colon)) => {
+            take_group(colon, text, cursor)
+        }
+        _ => Ok(Read {
+            value: 0,
+            next: cursor,
+        }),
     }
 }
 
@@ -131,39 +94,20 @@ fn zone_from(
     seconds: Group,
     text: &[u8],
     cursor: Cursor,
-) -> PartRead
+) -> Result<Read<Carried>, Stop>
     requires { cursor.at ≤ length text.now }
     ensures { result ≡ part_at cursor.at (zone_from negative colon minutes seconds (drop cursor.at text.now)) }
 {
-    match take_count(2, text, cursor) {
-        Counted::Stopped { trouble, place } => PartRead::Stopped { trouble, place },
-        Counted::Number {
-            size: hh,
-            next: behind_hh,
-        } => {
-            match zone_group(colon, minutes, text, behind_hh) {
-                Counted::Stopped { trouble, place } => PartRead::Stopped { trouble, place },
-                Counted::Number {
-                    size: mm,
-                    next: behind_mm,
-                } => {
-                    match zone_group(colon, seconds, text, behind_mm) {
-                        Counted::Stopped { trouble, place } => PartRead::Stopped { trouble, place },
-                        Counted::Number { size: ss, next } => {
-                            let n = hh as u64 * SECS_PER_HOUR_U64
-                                + mm as u64 * SECS_PER_MINUTE_U64
-                                + ss as u64;
-                            let value = integer_of(negative, n);
-                            PartRead::Got {
-                                carried: Carried::Value(ParseUnit::Offset, value),
-                                next,
-                            }
-                        }
-                    }
-                }
-            }
-        }
-    }
+    let hours = take_count(2, text, cursor)?;
+    let minutes = zone_group(colon, minutes, text, hours.next)?;
+    let seconds = zone_group(colon, seconds, text, minutes.next)?;
+    let size = hours.value as u64 * SECS_PER_HOUR_U64
+        + minutes.value as u64 * SECS_PER_MINUTE_U64
+        + seconds.value as u64;
+    Ok(Read {
+        value: Carried::Value(ParseUnit::Offset, integer_of(negative, size)),
+        next: seconds.next,
+    })
 }
 
 pub fn parse_zone(
@@ -173,17 +117,17 @@ pub fn parse_zone(
     seconds: Group,
     text: &[u8],
     cursor: Cursor,
-) -> PartRead
+) -> Result<Read<Carried>, Stop>
     requires { cursor.at ≤ length text.now }
     ensures { result ≡ part_at cursor.at (reading.taken_zone utc colon minutes seconds (drop cursor.at text.now)) }
 {
-    match zone_sign(utc, text, cursor) {
-        SignRead::Stopped { trouble, place } => PartRead::Stopped { trouble, place },
-        SignRead::Utc(next) => PartRead::Got {
-            carried: Carried::Value(ParseUnit::Offset, 0),
-            next,
-        },
-        SignRead::Ahead(next) => zone_from(false, colon, minutes, seconds, text, next),
-        SignRead::BehindUtc(next) => zone_from(true, colon, minutes, seconds, text, next),
+    let sign = zone_sign(utc, text, cursor)?;
+    match sign.value {
+        ZoneSign::Utc => Ok(Read {
+            value: Carried::Value(ParseUnit::Offset, 0),
+            next: sign.next,
+        }),
+        ZoneSign::Ahead => zone_from(false, colon, minutes, seconds, text, sign.next),
+        ZoneSign::BehindUtc => zone_from(true, colon, minutes, seconds, text, sign.next),
     }
 }

@@ -6,12 +6,9 @@ use native.Mathlib.Numerals.{add-one}
 use native.Mathlib.Omega.{arith}
 use lib.ListN.{length, take, drop, set, replicate, length-set, drop_of_length-le, take-append-drop}
 use lib.Seq.{drop-drop, drop-set-lt, take-suc-set, append_snoc, length-take-le}
-use Rattle.meaning.specs.Answers.{bytes_check}
 use Rattle.meaning.specs.Splitting.{contents, parts_from, parts, no_part}
-use Rattle.meaning.specs.Whole.{split_into, split}
-use Rattle.meaning.specs.declared.Checked.TheVariants.{Fine, Refused}
+use Rattle.meaning.specs.Whole.{split_into}
 use Rattle.meaning.specs.declared.Part.{Part}
-use Rattle.meaning.specs.declared.Refusal.{Refusal}
 use Rattle.meaning.specs.declared.Split.{Split}
 use Rattle.pattern.specs.Next.{Next}
 
@@ -44,20 +41,10 @@ filled-turn {p} {entries} {used} {at} {part} h k f n =
     }
 
 pub filled-split : {p : List ℕ} {entries : List Part} {used at : ℕ} → length p ≤ 256 → length p ≤ at → Filled p entries used at
-    → ◌≡◌ {A = Split} (record { checked = Fine; parts = entries; used = used }) (split_into Fine (parts p))
+    → ◌≡◌ {A = Split} (record { parts = entries; used = used }) (split_into (parts p))
 unfolding parts_from contents
 filled-split {p} {entries} {used} {at} h k f =
     let a : parts p ≡ take used entries = f.front ∙ rw (drop_of_length-le p k, append-nil) in
     let b : length (parts p) ≡ used = ap length a ∙ length-take-le used entries (omega arith) in
     rw (b, a)
-    (ap (λ (l : List Part). record { checked = Fine; parts = l; used = used }) (sym (take-append-drop used entries) ∙ rw f.rest))
-
--- a pattern that the checks refuse has no part
-pub split-refused : (p : List ℕ) (why : Refusal) (empty : Part) → empty ≡ no_part → bytes_check p ≡ Refused why
-    → ◌≡◌ {A = Split} (record { checked = Refused why; parts = replicate 256 empty; used = 0 }) (split p)
-unfolding split
-split-refused p why empty e h = rw (e, h)
-
-pub split-fine : (p : List ℕ) → bytes_check p ≡ Fine → split_into Fine (parts p) ≡ split p
-unfolding split
-split-fine p h = rw h
+    (ap (λ (l : List Part). record { parts = l; used = used }) (sym (take-append-drop used entries) ∙ rw f.rest))

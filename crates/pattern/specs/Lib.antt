@@ -1,2 +1,3 @@
 pub mod First
 pub mod Next
+pub mod Walk

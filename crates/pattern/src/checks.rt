@@ -1,29 +1,32 @@
 // The refusals 1 to 3 of a whole pattern.
-ghost use Rattle.std.specs.Prelude.{◌≡◌};
+ghost use Rattle.std.specs.Prelude.{◌≡◌, ◌||◌, nat_eq, nat_lt};
+ghost use Rattle.std.specs.List.{position};
 ghost use Rattle.meaning.specs.Answers.{bytes_check, ends_in_lone_quote, pattern_check};
 ghost use Rattle.meaning.specs.Splitting.{contents};
 
 use crate::parts::next_part;
 use crate::quoted::ends_in_quote;
-use meaning::{Checked, Refusal};
+use meaning::Refusal;
+
+// The place of the first byte that is not from 1 to 127.
+fn first_refused(pattern: &[u8]) -> Option<usize>
+    ensures { result ≡ position (λ b. nat_eq b 0 || nat_lt 127 b) pattern.now }
+{
+    pattern.iter().position(|b| *b == 0 || 127 < *b)
+}
 
 // Refusals 1 and 2.
-pub fn bytes_check(pattern: &[u8]) -> Checked
+pub fn bytes_check(pattern: &[u8]) -> Result<(), Refusal>
     ensures { result ≡ bytes_check pattern.now }
 {
     let n = pattern.len();
     if 256 < n {
-        return Checked::Refused(Refusal::PatternTooLong(n));
+        return Err(Refusal::PatternTooLong(n));
     }
-    let mut i = 0;
-    while i < n {
-        let b = pattern[i];
-        if b == 0 || 127 < b {
-            return Checked::Refused(Refusal::PatternByte(i));
-        }
-        i += 1;
+    match first_refused(pattern) {
+        Some(i) => Err(Refusal::PatternByte(i)),
+        None => Ok(()),
     }
-    Checked::Fine
 }
 
 // Whether the last part is a quote that opens and has nothing behind it: the part that starts at a quote in the last place.
@@ -43,24 +46,20 @@ fn ends_in_lone_quote(pattern: &[u8]) -> bool
 }
 
 // Refusals 1, 2 and 3, in this order, of a pattern that may end in a quote.
-pub fn quoted_check(pattern: &[u8]) -> Checked
+#[tactic(auto, unfolding(meaning::specs::Answers::pattern_check))]
+pub fn quoted_check(pattern: &[u8]) -> Result<(), Refusal>
     ensures { result ≡ pattern_check pattern.now }
 {
-    let checked = bytes_check(pattern);
-    match checked {
-        Checked::Refused(why) => Checked::Refused(why),
-        Checked::Fine => {
-            if ends_in_lone_quote(pattern) {
-                return Checked::Refused(Refusal::LoneQuote(pattern.len() - 1));
-            }
-            Checked::Fine
-        }
+    bytes_check(pattern)?;
+    if ends_in_lone_quote(pattern) {
+        return Err(Refusal::LoneQuote(pattern.len() - 1));
     }
+    Ok(())
 }
 
 // The same of any pattern: by the bytes alone where the last one is no quote. It is small enough that writer and reader have it
 // in place.
-pub fn pattern_check(pattern: &[u8]) -> Checked
+pub fn pattern_check(pattern: &[u8]) -> Result<(), Refusal>
     ensures { result ≡ pattern_check pattern.now }
 {
     if ends_in_quote(pattern) {

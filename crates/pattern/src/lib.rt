@@ -9,11 +9,10 @@ ghost use Rattle.std.specs.Prelude.{◌≡◌, ◌≤◌, length};
 ghost use Rattle.meaning.specs.Promises.{Splits};
 ghost use Rattle.meaning.specs.Splitting.{parts, no_part};
 ghost use Rattle.meaning.specs.Whole.{split_into};
-ghost use Rattle.meaning.specs.declared.Checked.TheVariants.{Fine};
 
 use crate::checks::bytes_check;
-use crate::parts::next_part;
-use meaning::{Checked, Kind, Part, Split};
+use crate::parts::parts_of;
+use meaning::{Kind, Part, Refusal, Split};
 
 // What an entry of a split holds that no part uses.
 fn no_part() -> Part
@@ -29,39 +28,23 @@ fn no_part() -> Part
 // The split of a pattern that passed the checks.
 fn split_parts(pattern: &[u8]) -> Split
     requires { length pattern.now ≤ 256 }
-    ensures { result ≡ split_into Fine (parts pattern.now) }
+    ensures { result ≡ split_into (parts pattern.now) }
 {
     let empty = no_part();
     let mut parts = [empty; 256];
     let mut used = 0;
-    let mut at = 0;
-    while at < pattern.len() {
-        let part = next_part(pattern, at);
+    for part in parts_of(pattern) {
         parts[used] = part;
         used += 1;
-        at += part.length;
     }
-    Split {
-        checked: Checked::Fine,
-        parts: parts,
-        used: used,
-    }
+    Split { parts, used }
 }
 
 // "A split answers up to 256 parts held by value": all parts of a pattern, or refusal 1 or 2 and no part.
-pub fn parse_format_string(pattern: &[u8]) -> Split
+#[tactic(auto, unfolding(meaning::specs::Whole::split))]
+pub fn parse_format_string(pattern: &[u8]) -> Result<Split, Refusal>
     ensures { Splits pattern.now result }
 {
-    let checked = bytes_check(pattern);
-    match checked {
-        Checked::Fine => split_parts(pattern),
-        Checked::Refused(why) => {
-            let empty = no_part();
-            Split {
-                checked: Checked::Refused(why),
-                parts: [empty; 256],
-                used: 0,
-            }
-        }
-    }
+    bytes_check(pattern)?;
+    Ok(split_parts(pattern))
 }

@@ -15,6 +15,7 @@ pub fn unescaped_length(src: &[u8]) -> usize
     ensures { result ≡ length (unescaped src.now) }
 {
     let mut n = 0;
+    // A loop by hand: a doubled quote is two bytes, and no iterator of a slice steps by one or two.
     let mut i = 0;
     while i < src.len() {
         n += 1;
@@ -27,9 +28,5 @@ pub fn unescaped_length(src: &[u8]) -> usize
 pub fn ends_in_quote(src: &[u8]) -> bool
     ensures { result ≡ eqb (get_or src.now (length src.now - 1) 0) quote }
 {
-    let n = src.len();
-    if n == 0 {
-        return false;
-    }
-    src[n - 1] == b'\''
+    src.last() == Some(&b'\'')
 }

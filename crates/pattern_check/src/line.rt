@@ -1,5 +1,5 @@
 // The line for a pattern: what the check says of it, in words.
-ghost use Rattle.std.specs.Prelude.{◌++◌, ◌+◌, ◌≤◌, length};
+ghost use Rattle.std.specs.Prelude.{◌++◌, ◌+◌, ◌≤◌, length, Ok};
 ghost use Rattle.laws.specs.Laid.{Laid};
 ghost use Rattle.meaning.specs.Bytes.{num};
 ghost use Rattle.pattern_check.specs.Input.{IsPrefixLen};
@@ -7,7 +7,7 @@ ghost use Rattle.pattern_check.specs.Line.{PartFits, verdict_text, Printed};
 
 use digits::laying::{put_byte, put_bytes};
 use digits::numbers::zero_padded;
-use meaning::{Edition, Verdict};
+use meaning::{Edition, Refusal, Verdict};
 use refusals::tell;
 use verdict::verdict_on;
 
@@ -21,14 +21,24 @@ fn put_counted(word: &[u8], n: u32, out: &mut [u8]) -> usize
 }
 
 fn put_verdict(verdict: Verdict, out: &mut [u8]) -> usize
-    requires part_fits { PartFits verdict }
-    requires verdict_in_bounds { length (verdict_text verdict) ≤ length out.old }
-    ensures { Laid out.old out.new 0 result (verdict_text verdict) }
+    requires part_fits { PartFits (Ok verdict) }
+    requires verdict_in_bounds { length (verdict_text (Ok verdict)) ≤ length out.old }
+    ensures { Laid out.old out.new 0 result (verdict_text (Ok verdict)) }
 {
     match verdict {
         Verdict::Yes => put_bytes(b"yes", out, 0),
         Verdict::No { part, record: _ } => put_counted(b"no ", part as u32, out),
-        Verdict::Refused(why) => put_counted(b"refused ", tell(why).number, out),
+    }
+}
+
+fn put_answer(answer: Result<Verdict, Refusal>, out: &mut [u8]) -> usize
+    requires part_fits { PartFits answer }
+    requires verdict_in_bounds { length (verdict_text answer) ≤ length out.old }
+    ensures { Laid out.old out.new 0 result (verdict_text answer) }
+{
+    match answer {
+        Ok(verdict) => put_verdict(verdict, out),
+        Err(why) => put_counted(b"refused ", tell(why).number, out),
     }
 }
 
@@ -38,7 +48,7 @@ pub fn put_line(pattern: &[u8], out: &mut [u8]) -> usize
     ensures prefix_len { IsPrefixLen result out.new }
     ensures printed { Printed pattern.now out.old out.new result }
 {
-    let verdict = verdict_on(Edition::First, pattern, 2025);
-    let end = put_verdict(verdict, out);
+    let answer = verdict_on(Edition::First, pattern, 2025);
+    let end = put_answer(answer, out);
     put_byte(b'\n', out, end)
 }

@@ -8,7 +8,7 @@ mod line;
 
 ghost use Rattle.std.specs.Prelude.{◌≤◌, length};
 
-use input::{Input, first_line};
+use input::first_line;
 use line::put_line;
 use std::env::{Env, FillError};
 use std::io;
@@ -39,7 +39,7 @@ fn main(rt: HostRuntime) -> io::Result<()> {
     }
     let mut row = [0u8; 65536];
     match first_line(&mut rt.reader(), &mut row) {
-        Input::Held(n) => print_line(&rt, &row[..n]),
-        Input::Unreadable(error) => eprintln!(rt; "pattern_check: standard input: {error}"),
+        Ok(n) => print_line(&rt, &row[..n]),
+        Err(error) => eprintln!(rt; "pattern_check: standard input: {error}"),
     }
 }

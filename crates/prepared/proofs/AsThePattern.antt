@@ -1,20 +1,18 @@
 -- A row that stands for a pattern answers as the pattern, in every use: what it writes, reads and finds, for every choice that is made then.
+use Rattle.std.specs.Prelude.{Result, Ok, Err}
 use mathlib.Core.List.{List, [], ◌∷◌, map}
 use mathlib.Core.Path.{◌≡◌, refl, ap, ◌∙◌}
 use Prim.Native.Nat.{ℕ, ◌<◌}
 use native.Mathlib.Omega.{arith}
-use lib.IntN.{ℤ, nat_abs}
-use lib.ListN.{length}
+use lib.IntN.{ℤ}
 use Rattle.laws.proofs.Values.{value-short, few-months}
-use Rattle.meaning.specs.Answers.{◌else◌, pattern_check, current_year_check, text_check}
+use Rattle.meaning.specs.Answers.{◌else◌, pattern_check, current_year_check}
 use Rattle.meaning.specs.Lists.{Rows, lines, cell, code_of, laid, read_lines, list_check, read_list, list_rows, rows_by}
 use Rattle.meaning.specs.Names.{Book}
 use Rattle.meaning.specs.OpenedBooks.{book_in}
 use Rattle.meaning.specs.Trust.{Says, trust_check}
-use Rattle.meaning.specs.Whole.{unit_number, text, write_check, write, output, walk, read_by, read_check, read_with, read}
-use Rattle.meaning.specs.Writing.{Step, steps}
-use Rattle.meaning.specs.declared.Checked.{Checked}
-use Rattle.meaning.specs.declared.Checked.TheVariants.{Fine, Refused}
+use Rattle.meaning.specs.Whole.{unit_number, text, write_check, write, output, walk, read_check, read_with, read}
+use Rattle.meaning.specs.Results.{Checked}
 use Rattle.meaning.specs.declared.Choices.{Choices}
 use Rattle.meaning.specs.declared.Edition.{Edition}
 use Rattle.meaning.specs.declared.Fields.{Fields}
@@ -25,17 +23,17 @@ use Rattle.meaning.specs.declared.Reading.{Reading}
 use Rattle.meaning.specs.declared.Refusal.{Refusal}
 use Rattle.trust.proofs.Turns.{shown-failing}
 use Rattle.trust.proofs.Verdicts.{verdict-says}
-use Rattle.trust.specs.Check.{first_failing, shown, verdict_by, verdict_of}
+use Rattle.trust.specs.Check.{shown, verdict_by, verdict_of}
 use Rattle.meaning.specs.Prepared.{write_steps_check, write_steps, output_steps, read_steps, list_steps_check, read_lines_steps, read_list_steps, list_rows_steps, narrowed}
 use Rattle.words.specs.Rows.{checked_in, steps_held}
-use Rattle.prepared.proofs.NarrowCells.{narrow-same, cell-narrowed, code-narrowed}
-use Rattle.prepared.specs.PreparedRows.{unmet_of}
+use Rattle.lists.proofs.cells.Line.{narrow-same}
+use Rattle.prepared.proofs.NarrowCells.{cell-narrowed, code-narrowed}
 use Rattle.prepared.specs.Stands.{Stands}
 use Rattle.prepared.specs.Verdicts.{unmet_held}
 
-by-checked : {P : Type 0} (checked : Checked) → (checked ≡ Fine → P) → ((why : Refusal) → checked ≡ Refused why → P) → P
-by-checked Fine fine refused = fine refl
-by-checked (Refused why) fine refused = refused why refl
+by-checked : {P : Type 0} (checked : Checked) → (checked ≡ Ok tt → P) → ((why : Refusal) → checked ≡ Err why → P) → P
+by-checked (Ok _) fine refused = fine refl
+by-checked (Err why) fine refused = refused why refl
 
 module _ (pair : Pair) (p row : List ℕ) (stands : Stands pair p row) where
   pub writes-so : (book : Book) (f : Fields) (out : List ℕ) → write_steps (checked_in row) book (steps_held row) f out ≡ write pair book p f out
@@ -81,7 +79,7 @@ module _ (choices : Choices) (p row : List ℕ) (stands : Stands choices.pair p 
 -- the rows of a list: no value of a pattern is too wide for them, with the names of any lent book
 
 module _ (choices : Choices) (p row : List ℕ) (stands : Stands choices.pair p row) (book : List ℕ) (current : ℤ) where
-  wide : List ℕ → Reading
+  wide : List ℕ → Result Reading Refusal
   wide line = read choices (book_in book) p line current
 
   narrow-cell : (unit : ParseUnit) → unit_number unit < 14 → (line : List ℕ) → cell unit (narrowed (wide line)) ≡ cell unit (wide line)
@@ -90,7 +88,7 @@ module _ (choices : Choices) (p row : List ℕ) (stands : Stands choices.pair p 
       cell-narrowed unit (wide line)
       ∙ narrow-same (cell unit (wide line)) (value-short choices (book_in book) (few-months book) p line current (unit_number unit) h)
 
-  cells-so : {B : Type 0} (f : Reading → B) → ((line : List ℕ) → f (narrowed (wide line)) ≡ f (wide line)) → (ls : List (List ℕ))
+  cells-so : {B : Type 0} (f : Result Reading Refusal → B) → ((line : List ℕ) → f (narrowed (wide line)) ≡ f (wide line)) → (ls : List (List ℕ))
       → map f (map (λ line. narrowed (read_steps (checked_in row) choices (book_in book) (steps_held row) line current)) ls)
       ≡ map f (map (λ line. read choices (book_in book) p line current) ls)
   unfolding wide
@@ -110,8 +108,8 @@ module _ (choices : Choices) (p row : List ℕ) (stands : Stands choices.pair p 
   rows-by-so : (checked : Checked) (s : List ℕ) (rows : Rows)
       → rows_by checked (read_lines_steps (checked_in row) choices (book_in book) (steps_held row) s current) rows
       ≡ rows_by checked (read_lines choices (book_in book) p s current) rows
-  rows-by-so Fine s rows = laid_so s rows
-  rows-by-so (Refused why) s rows = refl
+  rows-by-so (Ok _) s rows = laid_so s rows
+  rows-by-so (Err why) s rows = refl
 
   pub list-rows-so : (s : List ℕ) (rows : Rows)
       → list_rows_steps (checked_in row) choices (book_in book) (steps_held row) s current rows ≡ list_rows choices (book_in book) p s current rows

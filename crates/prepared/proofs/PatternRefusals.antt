@@ -1,8 +1,9 @@
 -- A pattern is refused for 1, 2 or 3 alone, and each comes back from its number and its detail.
+use Rattle.std.specs.Prelude.{Ok, Err}
 use mathlib.Core.Bool.{Bool, true, false}
 use mathlib.Core.List.{List, [], ◌∷◌}
 use mathlib.Core.Path.{◌≡◌, refl}
-use Prim.Native.Nat.{ℕ, suc, ◌+◌, ◌-◌, ◌≤◌, ◌<◌}
+use Prim.Native.Nat.{ℕ, suc, ◌+◌, ◌-◌, ◌≤◌}
 use native.Mathlib.Omega.{arith}
 use lib.Dec.{leb}
 use lib.ListN.{length}
@@ -10,8 +11,7 @@ use Rattle.laws.proofs.Tests.{by-test}
 use Rattle.meaning.specs.Answers.{◌else◌, refuse_unless, within, byte_check, bytes_check, ends_in_lone_quote, pattern_check, number, details}
 use Rattle.meaning.specs.Bytes.{when}
 use Rattle.meaning.specs.Splitting.{contents}
-use Rattle.meaning.specs.declared.Checked.{Checked}
-use Rattle.meaning.specs.declared.Checked.TheVariants.{Fine, Refused}
+use Rattle.meaning.specs.Results.{Checked}
 use Rattle.meaning.specs.declared.Refusal.{Refusal}
 use Rattle.meaning.specs.declared.Refusal.TheVariants.{PatternTooLong, PatternByte, LoneQuote}
 use Rattle.words.specs.Rows.{refusal_of}
@@ -24,12 +24,12 @@ pub record OfPattern (most : ℕ) (why : Refusal) : Type 0 where
   pub small : detail why ≤ most
 
 abbrev CheckOf : ℕ → Checked → Type 0
-CheckOf most Fine = Unit
-CheckOf most (Refused why) = OfPattern most why
+CheckOf most (Ok _) = Unit
+CheckOf most (Err why) = OfPattern most why
 
 else-of : (most : ℕ) (a b : Checked) → CheckOf most a → CheckOf most b → CheckOf most (a else b)
-else-of most Fine b h k = k
-else-of most (Refused why) b h k = h
+else-of most (Ok _) b h k = k
+else-of most (Err why) b h k = h
 
 too_long : (n most : ℕ) → n ≤ most → OfPattern most (PatternTooLong n)
 unfolding number details
@@ -54,7 +54,7 @@ byte_of most i (b ∷ s) h =
     by-test (within 1 127 b) (λ e. rw (e, byte_check) (byte_of most (suc i) s (omega arith)))
     (λ e. rw (e, byte_check) (bad-byte i most (omega arith)))
 
-quote-of : (most : ℕ) (t : Bool) (n : ℕ) → n ≤ most → CheckOf most (when t (Refused (LoneQuote n)) Fine)
+quote-of : (most : ℕ) (t : Bool) (n : ℕ) → n ≤ most → CheckOf most (when t (Err (LoneQuote n)) (Ok tt))
 quote-of most true n h = lone-quote n most h
 quote-of most false n h = tt
 
@@ -67,5 +67,5 @@ check-of p =
     (byte_of (length p) 0 p (omega arith)))
     (quote-of (length p) (ends_in_lone_quote (contents p)) (length p - 1) (omega arith))
 
-pub of-pattern : (p : List ℕ) (why : Refusal) → pattern_check p ≡ Refused why → OfPattern (length p) why
+pub of-pattern : (p : List ℕ) (why : Refusal) → pattern_check p ≡ Err why → OfPattern (length p) why
 of-pattern p why e = rw e at (check-of p)

@@ -1,16 +1,14 @@
 -- The row that a pattern is prepared into stands for it.
-use mathlib.Core.Bool.{true, false}
+use Rattle.std.specs.Prelude.{Ok, Err}
 use mathlib.Core.List.{List}
 use mathlib.Core.Path.{◌≡◌, refl, sym, ap, ◌∙◌}
-use Prim.Native.Nat.{ℕ, ◌+◌, ◌-◌, ◌%◌, ◌≤◌, ◌<◌}
+use Prim.Native.Nat.{ℕ, ◌+◌, ◌%◌, ◌≤◌, ◌<◌}
 use native.Mathlib.Omega.{arith}
 use lib.ListN.{length, take, drop}
 use Rattle.laws.proofs.Checks.{pattern-fine}
 use Rattle.meaning.specs.Answers.{pattern_check, number}
-use Rattle.meaning.specs.declared.Checked.{Checked}
-use Rattle.meaning.specs.declared.Checked.TheVariants.{Fine, Refused}
+use Rattle.meaning.specs.Results.{Checked}
 use Rattle.meaning.specs.declared.Edition.{Edition}
-use Rattle.meaning.specs.declared.Edition.TheVariants.{First, Second}
 use Rattle.meaning.specs.declared.Pair.{Pair}
 use Rattle.meaning.specs.declared.Refusal.{Refusal}
 use Rattle.words.proofs.PackedRoom.{packed-short}
@@ -22,16 +20,16 @@ use Rattle.prepared.proofs.PatternRefusals.{of-pattern}
 use Rattle.prepared.proofs.RowKinds.{step_words_lem, row-accepted, row-not-accepted, row-refused, row-refusal}
 use Rattle.prepared.proofs.RowParts.{words-lie, held-lie, worded-length, headed-length, headed-so}
 use Rattle.prepared.proofs.verdicts.Numbers.{unmet-back, unmet-small, answer_back}
-use Rattle.prepared.specs.PreparedRows.{headed, worded, held_start, accepted_row, refused_row, detail, unmet_of, found_of, row_by, prepared_row}
+use Rattle.prepared.specs.PreparedRows.{worded, held_start, accepted_row, refused_row, detail, unmet_of, found_of, row_by, prepared_row}
 use Rattle.prepared.specs.Stands.{Stands}
-use Rattle.prepared.specs.Verdicts.{unmet_in, unmet_number, found_with, answer_number, unmet_held}
+use Rattle.prepared.specs.Verdicts.{unmet_in, unmet_number, answer_number, unmet_held}
 
-refused-not-fine : {A : Type 0} {why : Refusal} → Refused why ≡ Fine → A
+refused-not-fine : {A : Type 0} {why : Refusal} → ◌≡◌ {A = Checked} (Err why) (Ok tt) → A
 refused-not-fine h = absurd (let z : ◌≡◌ {A = ℕ} 0 1 = cc in omega arith)
 
 module _ (pair : Pair) (p old : List ℕ) (long : 259 ≤ length old) where
   -- accepted
-  module _ (fine : pattern_check p ≡ Fine) where
+  module _ (fine : pattern_check p ≡ Ok tt) where
     start : (found_of p % 512 ≡ held_start (held_by p)) × (length (packed pair p) + length (held_by p) ≤ 256)
     unfolding found_of
     start = (omega arith, omega (arith, packed-short pair p fine, (pattern-fine p fine).short))
@@ -71,7 +69,7 @@ module _ (pair : Pair) (p old : List ℕ) (long : 259 ≤ length old) where
         accepted-row (accepted_row ws hs (found_of p) old) (omega (arith, headed-length w (tag + length ws) check (found_of p))) h.marked h.finds h.checked words held
 
   -- refused
-  refused-row : (row : List ℕ) (why : Refusal) → pattern_check p ≡ Refused why → length p < 9223372036854775808 → 259 ≤ length row
+  refused-row : (row : List ℕ) (why : Refusal) → pattern_check p ≡ Err why → length p < 9223372036854775808 → 259 ≤ length row
       → mark row ≡ tag + (1024 + number why) → found row ≡ detail why → check_word row ≡ detail why → Stands pair p row
   refused-row row why e small long-row marked finds checked =
       let o = of-pattern p why e in
@@ -86,14 +84,14 @@ module _ (pair : Pair) (p old : List ℕ) (long : 259 ≤ length old) where
         finds = λ fine. refused-not-fine (sym e ∙ fine);
       }
 
-  refused-stands : (why : Refusal) → pattern_check p ≡ Refused why → length p < 9223372036854775808 → Stands pair p (refused_row why old)
+  refused-stands : (why : Refusal) → pattern_check p ≡ Err why → length p < 9223372036854775808 → Stands pair p (refused_row why old)
   refused-stands why e small =
       let h = headed-so old (tag + (1024 + number why)) (detail why) (detail why) (omega arith) in
       refused-row (refused_row why old) why e small (omega (arith, headed-length old (tag + (1024 + number why)) (detail why) (detail why))) h.marked h.finds h.checked
 
   stands_by : (checked : Checked) → pattern_check p ≡ checked → length p < 9223372036854775808 → Stands pair p (row_by checked pair p old)
-  stands_by Fine e small = accepted-stands e
-  stands_by (Refused why) e small = refused-stands why e small
+  stands_by (Ok _) e small = accepted-stands e
+  stands_by (Err why) e small = refused-stands why e small
 
 -- a pattern that is lent is shorter than 2 ^ 63 bytes
 pub prepared-stands : (pair : Pair) (p old : List ℕ) → 259 ≤ length old → length p < 9223372036854775808 → Stands pair p (prepared_row pair p old)
@@ -101,7 +99,7 @@ unfolding prepared_row
 prepared-stands pair p old long small = stands_by pair p old long (pattern_check p) refl small
 
 -- what the mark of an accepted pattern's row adds
-pub prepared-mark : (pair : Pair) (p old : List ℕ) {row : List ℕ} → 259 ≤ length old → pattern_check p ≡ Fine → row ≡ prepared_row pair p old
+pub prepared-mark : (pair : Pair) (p old : List ℕ) {row : List ℕ} → 259 ≤ length old → pattern_check p ≡ Ok tt → row ≡ prepared_row pair p old
     → mark row ≡ tag + length (packed pair p)
 unfolding prepared_row
 prepared-mark pair p old long fine e =

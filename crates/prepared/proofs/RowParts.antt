@@ -1,11 +1,11 @@
 -- The parts of a row that is laid: its head, its words of steps and its held bytes lie where they are looked for.
 use mathlib.Core.List.{List, [], ◌∷◌, ◌++◌, append-nil}
-use mathlib.Core.Path.{◌≡◌, refl, ap, ◌∙◌, sym}
-use Prim.Native.Nat.{ℕ, zero, suc, ◌+◌, ◌-◌, ◌≤◌}
+use mathlib.Core.Path.{◌≡◌, refl, ap, ◌∙◌}
+use Prim.Native.Nat.{ℕ, suc, ◌+◌, ◌-◌, ◌≤◌}
 use native.Mathlib.Omega.{arith}
-use lib.ListN.{length, take, drop, get_or, length-append, length-take}
+use lib.ListN.{length, take, drop, length-append}
 use lib.Seq.{sets, sets-eq, length-sets, take-length, drop-length, take-take, take-append_seam, take-set-le, take_at, drop_at, length-take-le}
-use Rattle.words.specs.Rows.{tail, used, tag, mark, found, check_word}
+use Rattle.words.specs.Rows.{tail, mark, found, check_word}
 use Rattle.prepared.specs.PreparedRows.{headed, worded, held_start}
 
 sets-past : (z : ℕ) (row : List ℕ) (i : ℕ) (ns : List ℕ) → sets (z ∷ row) (suc i) ns ≡ z ∷ sets row i ns

@@ -1,10 +1,9 @@
 -- Request [11]: the row that a pattern is prepared into. What stood in it before is left where nothing of the pattern lies.
-use Rattle.std.specs.Prelude.{List, [], ◌∷◌, ℕ, ◌+◌, ◌-◌, pos, nat_abs, length, get_or}
+use Rattle.std.specs.Prelude.{List, [], ◌∷◌, ℕ, ◌+◌, ◌-◌, pos, nat_abs, length, get_or, Option, Ok, Err}
 use Rattle.std.proofs.lemmas.List.Edits.{sets}
 use Rattle.meaning.specs.Answers.{number, details, pattern_check}
 use Rattle.meaning.specs.Splitting.{contents}
-use Rattle.meaning.specs.declared.Checked.{Checked}
-use Rattle.meaning.specs.declared.Checked.TheVariants.{Fine, Refused}
+use Rattle.meaning.specs.Results.{Checked}
 use Rattle.meaning.specs.declared.Edition.{Edition}
 use Rattle.meaning.specs.declared.Edition.TheVariants.{First, Second}
 use Rattle.meaning.specs.declared.Pair.{Pair}
@@ -40,7 +39,7 @@ accepted_row words held found old =
     headed (worded old words held) (tag + length words) (xor_from (xor_from found words) held) found
 
 -- the first need of a pattern that is not met
-abbrev pub unmet_of : Edition → List ℕ → Unmet
+abbrev pub unmet_of : Edition → List ℕ → Option Unmet
 unmet_of edition p = first_unmet edition (length p) 0 (contents p)
 
 unfoldable pub found_of : List ℕ → ℕ
@@ -48,8 +47,8 @@ unfolding held_by
 found_of p = found_with (held_start (held_by p)) (unmet_of First p) (unmet_of Second p)
 
 abbrev pub row_by : Checked → Pair → List ℕ → List ℕ → List ℕ
-row_by Fine pair p old = accepted_row (packed pair p) (held_by p) (found_of p) old
-row_by (Refused why) pair p old = refused_row why old
+row_by (Ok _) pair p old = accepted_row (packed pair p) (held_by p) (found_of p) old
+row_by (Err why) pair p old = refused_row why old
 
 unfoldable pub prepared_row : Pair → List ℕ → List ℕ → List ℕ
 unfolding pattern_check packed held_by found_of xor_from

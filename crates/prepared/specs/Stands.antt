@@ -1,9 +1,8 @@
 -- Request [11]: when a row stands for a pattern: then every use of it answers as the pattern does (`AsThePattern` of proofs/).
-use Rattle.std.specs.Prelude.{Bool, true, List, ◌≡◌, ℕ}
+use Rattle.std.specs.Prelude.{Bool, true, List, ◌≡◌, ℕ, Ok}
 use Rattle.meaning.specs.Answers.{pattern_check}
 use Rattle.meaning.specs.Bytes.{when}
 use Rattle.meaning.specs.Writing.{steps}
-use Rattle.meaning.specs.declared.Checked.TheVariants.{Fine}
 use Rattle.meaning.specs.declared.Edition.{Edition}
 use Rattle.meaning.specs.declared.Pair.{Pair}
 use Rattle.words.specs.Rows.{is_accepted, is_refused, checked_in, steps_held}
@@ -18,5 +17,5 @@ is_prepared row = when (is_accepted row) true (is_refused row)
 pub record Stands (pair : Pair) (p row : List ℕ) : Type 0 where
   pub prepared : is_prepared row ≡ true
   pub checks : checked_in row ≡ pattern_check p
-  pub holds : pattern_check p ≡ Fine → steps_held row ≡ steps pair p
-  pub finds : pattern_check p ≡ Fine → (edition : Edition) → unmet_held edition row ≡ unmet_of edition p
+  pub holds : pattern_check p ≡ Ok tt → steps_held row ≡ steps pair p
+  pub finds : pattern_check p ≡ Ok tt → (edition : Edition) → unmet_held edition row ≡ unmet_of edition p

@@ -1,6 +1,6 @@
 -- Request [11]: what the uses of a row answer, whatever it holds: what its words stand for where it is that of a prepared pattern, and
 -- 105 where it is not, with nothing altered.
-use Rattle.std.specs.Prelude.{List, [], ◌∷◌, ℕ, Bool, ℤ, pos, length}
+use Rattle.std.specs.Prelude.{List, [], ◌∷◌, ℕ, Bool, ℤ, pos, length, Result}
 use Rattle.meaning.specs.Answers.{Answer, answer_by, ◌else◌, pattern_check, current_year_check, wrote_answer, read_answer, list_answer, verdict_answer}
 use Rattle.meaning.specs.Bytes.{when}
 use Rattle.meaning.specs.Lists.{Rows}
@@ -9,6 +9,7 @@ use Rattle.meaning.specs.declared.Choices.{Choices}
 use Rattle.meaning.specs.declared.Edition.{Edition}
 use Rattle.meaning.specs.declared.Fields.{Fields}
 use Rattle.meaning.specs.declared.Pair.{Pair}
+use Rattle.meaning.specs.declared.Refusal.{Refusal}
 use Rattle.meaning.specs.declared.Verdict.{Verdict}
 use Rattle.rows.specs.Rows.{in_row}
 use Rattle.trust.specs.Check.{shown, verdict_by}
@@ -36,7 +37,7 @@ prepared_read choices book row s current =
     if_prepared (is_prepared row) (in_row 48 (read_answer (read_steps (checked_in row) choices (book_in book) (steps_held row) s current)))
 
 -- what the check finds
-abbrev pub verdict_in : Edition → List ℕ → ℤ → Verdict
+abbrev pub verdict_in : Edition → List ℕ → ℤ → Result Verdict Refusal
 verdict_in edition row current = verdict_by (checked_in row else current_year_check edition current) (shown (unmet_held edition row))
 
 abbrev pub prepared_verdict : Edition → List ℕ → ℤ → Answer

@@ -6,10 +6,10 @@ ghost use Rattle.prepared.specs.Verdicts.{unmet_held};
 ghost use Rattle.rows.specs.Rows.{in_row, Given};
 ghost use Rattle.trust.specs.Check as trust;
 
-use crate::opening::{Opened, open};
+use crate::opening::open;
 use crate::verdicts::verdict_in;
 use fields::checks::current_year_check;
-use meaning::{Checked, Edition};
+use meaning::Edition;
 use rows::answers::give_refusal;
 use rows::verdicts::give_verdict;
 use verdict::shown;
@@ -20,8 +20,8 @@ fn check_in_year(edition: Edition, row: &[u64], year: i32, answer: &mut [i64]) -
     ensures { Given (in_row 10 (verdict_answer (trust.verdict_by (current_year_check edition year) (trust.shown (unmet_held edition row.now))))) answer.old answer.new result }
 {
     match current_year_check(edition, year) {
-        Checked::Fine => give_verdict(shown(verdict_in(edition, row)), answer),
-        Checked::Refused(why) => give_refusal(why, 10, answer),
+        Ok(()) => give_verdict(Ok(shown(verdict_in(edition, row))), answer),
+        Err(why) => give_refusal(why, 10, answer),
     }
 }
 
@@ -30,9 +30,11 @@ pub fn check(edition: Edition, row: &[u64], year: i32, answer: &mut [i64]) -> u3
     requires { 10 ≤ length answer.old }
     ensures { Given (prepared_verdict edition row.now year) answer.old answer.new result }
 {
-    match open(row) {
-        Opened::Nothing => 105,
-        Opened::Refused(why) => give_refusal(why, 10, answer),
-        Opened::Words { used: _ } => check_in_year(edition, row, year, answer),
+    let Some(opened) = open(row) else {
+        return 105;
+    };
+    match opened {
+        Err(why) => give_refusal(why, 10, answer),
+        Ok(_) => check_in_year(edition, row, year, answer),
     }
 }

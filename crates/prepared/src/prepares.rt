@@ -6,7 +6,7 @@ ghost use Rattle.rows.specs.Rows.{in_row, Given};
 
 use crate::opening::TAG;
 use crate::preparing::prepare;
-use meaning::{Checked, Pair};
+use meaning::Pair;
 use rows::answers::{give_count, give_refusal};
 
 // The answer: how many words its steps have and 0, or the refusal's details; the row is prepared in either case.
@@ -15,7 +15,7 @@ pub fn prepare_row(pair: Pair, pattern: &[u8], row: &mut [u64], answer: &mut [i6
     ensures { Given (in_row 2 (prepared_answer pair pattern.now)) answer.old answer.new result × (row.new ≡ prepared_row pair pattern.now row.old) }
 {
     match prepare(pair, pattern, row) {
-        Checked::Fine => give_count(row[0] - TAG, answer),
-        Checked::Refused(why) => give_refusal(why, 2, answer),
+        Ok(()) => give_count(row[0] - TAG, answer),
+        Err(why) => give_refusal(why, 2, answer),
     }
 }

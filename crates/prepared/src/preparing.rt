@@ -1,5 +1,5 @@
 // A pattern prepared: its words and the bytes that they hold, the verdicts on it, and the head of its row.
-ghost use Rattle.std.specs.Prelude.{◌≡◌, ◌≤◌, length, take, drop, replicate};
+ghost use Rattle.std.specs.Prelude.{◌≡◌, ◌≤◌, length, take, drop, replicate, Ok};
 ghost use Rattle.meaning.specs.Answers.{pattern_check};
 ghost use Rattle.prepared.specs.PreparedRows.{accepted_row, found_of, headed, prepared_row, refused_row, unmet_of};
 ghost use Rattle.prepared.specs.Verdicts.{found_with};
@@ -8,7 +8,7 @@ ghost use Rattle.words.specs.Rows.{tail, xor_from};
 
 use crate::opening::TAG;
 use crate::verdicts::unmet_number;
-use meaning::{Checked, Edition, Pair, Refusal};
+use meaning::{Edition, Pair, Refusal};
 use pattern::checks::pattern_check;
 use refusals::tell;
 use verdict::first_unmet;
@@ -46,7 +46,7 @@ fn check_of(found: u64, used: usize, held: usize, row: &[u64]) -> u64
 }
 
 fn accept(pair: Pair, pattern: &[u8], row: &mut [u64])
-    requires { (259 ≤ length row.old) × (pattern_check pattern.now ≡ Checked.Fine) }
+    requires { (259 ≤ length row.old) × (pattern_check pattern.now ≡ Ok tt) }
     ensures { row.new ≡ accepted_row (packed pair pattern.now) (held_by pattern.now) (found_of pattern.now) row.old }
 {
     let laid = pack(pair, pattern, &mut row[3..]);
@@ -72,23 +72,23 @@ fn refuse(why: Refusal, row: &mut [u64])
 }
 
 // Prepares a pattern into a lent row: the answer is that of its checks 1, 2 and 3, and the row is prepared also where these refuse it.
-pub fn prepare(pair: Pair, pattern: &[u8], row: &mut [u64]) -> Checked
+pub fn prepare(pair: Pair, pattern: &[u8], row: &mut [u64]) -> Result<(), Refusal>
     requires { 259 ≤ length row.old }
     ensures { (result ≡ pattern_check pattern.now) × (row.new ≡ prepared_row pair pattern.now row.old) }
 {
     match pattern_check(pattern) {
-        Checked::Fine => {
+        Ok(()) => {
             accept(pair, pattern, row);
-            Checked::Fine
+            Ok(())
         }
-        Checked::Refused(why) => {
+        Err(why) => {
             refuse(why, row);
-            Checked::Refused(why)
+            Err(why)
         }
     }
 }
 
-// The same by value.
+// The same by value; the row says itself whether the pattern was refused.
 #[derive(Clone, Copy)]
 pub struct Prepared {
     pub row: [u64; 259],
@@ -98,6 +98,6 @@ pub fn prepare_by_value(pair: Pair, pattern: &[u8]) -> Prepared
     ensures { result.row ≡ prepared_row pair pattern.now (replicate 259 0) }
 {
     let mut row = [0u64; 259];
-    prepare(pair, pattern, &mut row);
+    let _ = prepare(pair, pattern, &mut row);
     Prepared { row }
 }

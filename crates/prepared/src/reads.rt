@@ -1,5 +1,5 @@
 // A text read by a row.
-ghost use Rattle.std.specs.Prelude.{◌≤◌, length, take};
+ghost use Rattle.std.specs.Prelude.{◌≤◌, length, take, Ok};
 ghost use Rattle.meaning.specs.Answers.{read_answer};
 ghost use Rattle.meaning.specs.OpenedBooks.{book_in};
 ghost use Rattle.prepared.specs.Uses.{prepared_read};
@@ -7,9 +7,9 @@ ghost use Rattle.rows.specs.Rows.{in_row, Given};
 ghost use Rattle.words.specs.Pieces.{steps_of};
 ghost use Rattle.meaning.specs.Prepared.{read_steps};
 
-use crate::opening::{Opened, open};
+use crate::opening::open;
 use fields::checks::current_year_check;
-use meaning::{Checked, Choices};
+use meaning::Choices;
 use rows::answers::give_refusal;
 use word_reader::reading::read_words;
 
@@ -24,12 +24,12 @@ fn read_in_year(
     answer: &mut [i64],
 ) -> u32
     requires { (used ≤ length tail.now) × (48 ≤ length answer.old) }
-    ensures { Given (in_row 48 (read_answer (read_steps Checked.Fine choices (book_in book.now) (steps_of tail.now (take used tail.now)) text.now year))) answer.old answer.new result }
+    ensures { Given (in_row 48 (read_answer (read_steps (Ok tt) choices (book_in book.now) (steps_of tail.now (take used tail.now)) text.now year))) answer.old answer.new result }
 {
     let edition = choices.edition;
     match current_year_check(edition, year) {
-        Checked::Fine => read_words(choices, book, tail, used, text, year, answer),
-        Checked::Refused(why) => give_refusal(why, 48, answer),
+        Ok(()) => read_words(choices, book, tail, used, text, year, answer),
+        Err(why) => give_refusal(why, 48, answer),
     }
 }
 
@@ -45,17 +45,11 @@ pub fn read(
     requires { 48 ≤ length answer.old }
     ensures { Given (prepared_read choices book.now row.now text.now year) answer.old answer.new result }
 {
-    match open(row) {
-        Opened::Nothing => 105,
-        Opened::Refused(why) => give_refusal(why, 48, answer),
-        Opened::Words { used } => read_in_year(
-            choices,
-            book,
-            &row[3..259],
-            used,
-            text,
-            year,
-            answer,
-        ),
+    let Some(opened) = open(row) else {
+        return 105;
+    };
+    match opened {
+        Err(why) => give_refusal(why, 48, answer),
+        Ok(used) => read_in_year(choices, book, &row[3..259], used, text, year, answer),
     }
 }

@@ -17,45 +17,36 @@ fn need_number(need: Need) -> u64
     }
 }
 
-pub fn unmet_number(unmet: Unmet) -> u64
+pub fn unmet_number(unmet: Option<Unmet>) -> u64
     requires { unmet_number unmet < 2048 }
     ensures { result ≡ unmet_number unmet }
 {
     match unmet {
-        Unmet::Nowhere => 0,
-        Unmet::At { part, need } => 8 * (part as u64) + 1 + need_number(need),
+        None => 0,
+        Some(Unmet { part, need }) => 8 * (part as u64) + 1 + need_number(need),
     }
 }
 
 fn need_in(n: u64) -> Need
     ensures { result ≡ need_in n }
 {
-    if n == 0 {
-        return Need::Nothing;
+    match n {
+        0 => Need::Nothing,
+        1 => Need::NoDigit,
+        2 => Need::NoSecondDigit,
+        3 => Need::Broken,
+        _ => Need::LosesYear,
     }
-    if n == 1 {
-        return Need::NoDigit;
-    }
-    if n == 2 {
-        return Need::NoSecondDigit;
-    }
-    if n == 3 {
-        return Need::Broken;
-    }
-    Need::LosesYear
 }
 
-fn unmet_in(n: u64) -> Unmet
+fn unmet_in(n: u64) -> Option<Unmet>
     ensures { result ≡ unmet_in n }
 {
-    if n == 0 {
-        return Unmet::Nowhere;
-    }
-    let at = n - 1;
-    Unmet::At {
+    let at = n.checked_sub(1)?;
+    Some(Unmet {
         part: (at / 8) as usize,
         need: need_in(at % 8),
-    }
+    })
 }
 
 fn answer_number(edition: Edition, found: u64) -> u64
@@ -68,7 +59,7 @@ fn answer_number(edition: Edition, found: u64) -> u64
 }
 
 // The answer for an edition that a row holds.
-pub fn verdict_in(edition: Edition, row: &[u64]) -> Unmet
+pub fn verdict_in(edition: Edition, row: &[u64]) -> Option<Unmet>
     requires { 259 ≤ length row.now }
     ensures { result ≡ unmet_held edition row.now }
 {

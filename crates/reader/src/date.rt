@@ -4,9 +4,9 @@ ghost use Rattle.meaning.specs.Promises.{Reads};
 ghost use Rattle.meaning.specs.Whole.{plain};
 
 use crate::{parse_with, plain};
-use meaning::{Pair, Reading};
+use meaning::{Pair, Reading, Refusal};
 
-pub fn parse(pattern: &[u8], text: &[u8], year: i32) -> Reading
+pub fn parse(pattern: &[u8], text: &[u8], year: i32) -> Result<Reading, Refusal>
     ensures { Reads (plain Pair.Date) english pattern.now text.now year result }
 {
     let none: [u8; 0] = [];

@@ -1,10 +1,10 @@
 // Specification, "Answer numbers": the record of a reading, with the values by unit, the mask of the units read and how many
 // they are, and by unit where its part began and ended. proofs/record/Units has the laws by which a reader fills it.
-ghost use Rattle.std.specs.Prelude.{[], ◌≡◌};
+ghost use Rattle.std.specs.Prelude.{◌≡◌};
 ghost use Rattle.meaning.specs.Promises.{TellsRead};
-ghost use Rattle.meaning.specs.Whole.{unit_number, reading_of};
+ghost use Rattle.meaning.specs.Whole.{unit_number};
 
-use meaning::{Checked, ParseUnit, Reading};
+use meaning::ParseUnit;
 
 // The place of a unit among the values and its bit in the mask: "units in the order of ParseUnit".
 pub fn unit_number(unit: ParseUnit) -> usize
@@ -35,19 +35,4 @@ pub fn was_read(mask: u16, unit: ParseUnit) -> bool
 {
     let k = unit_number(unit);
     (mask >> k) & 1 == 1
-}
-
-// A refused reading: "values, mask, counts and bytes read are all 0", and no part began or ended anywhere.
-pub fn no_reading(checked: Checked) -> Reading
-    ensures { result ≡ reading_of checked 0 [] }
-{
-    Reading {
-        checked,
-        taken: 0,
-        values: [0i64; 15],
-        mask: 0,
-        units: 0,
-        starts: [0u16; 15],
-        ends: [0u16; 15],
-    }
 }

@@ -2,31 +2,21 @@
 // their parts began and ended.
 ghost use Rattle.std.specs.Prelude.{[], ◌≡◌, ◌≤◌, ◌<◌, length};
 ghost use Rattle.meaning.specs.OpenedBooks.{book_in};
-ghost use Rattle.meaning.specs.Whole.{reading_of, walk, walk_reading};
+ghost use Rattle.meaning.specs.Whole.{walk, walk_reading};
 ghost use Rattle.meaning.specs.Writing.{steps};
 ghost use Rattle.parse.specs.Literals.{Ended, compared};
 ghost use Rattle.reader.specs.Steps.{step_at};
 
-use crate::record::{no_reading, unit_number};
-use meaning::{Carried, Checked, Choices, Pair, Reading, Refusal, Trouble};
-use parse::cursor::{Cursor, PartRead};
-use parse::literals::{Compared, compare};
+use crate::record::unit_number;
+use meaning::{Carried, Choices, Pair, Reading, Refusal, Trouble};
+use parse::cursor::Cursor;
+use parse::literals::compare;
 use parse::step::parse_step;
-use pattern::parts::next_part;
+use pattern::parts::{next_part, parts_of};
 use rules::step::step_of;
 
-fn refused_in(part: usize, trouble: Trouble, place: usize) -> Reading
-    ensures { result ≡ reading_of (Checked.Refused (Refusal.InPart trouble part place)) 0 [] }
-{
-    no_reading(Checked::Refused(Refusal::InPart {
-        trouble,
-        part,
-        place,
-    }))
-}
-
 // The part at a place of the pattern, found again, with the text before the place where it ended.
-fn compare_part(pair: Pair, pattern: &[u8], place: usize, text: &[u8], end: usize) -> Compared
+fn compare_part(pair: Pair, pattern: &[u8], place: usize, text: &[u8], end: usize) -> Option<usize>
     requires place_in_bounds { place < length pattern.now }
     requires ended { Ended (step_at pair pattern.now place) (length text.now) end }
     ensures { result ≡ compared (step_at pair pattern.now place) text.now end }
@@ -43,7 +33,7 @@ pub fn parse_parts(
     pattern: &[u8],
     text: &[u8],
     current_year: u32,
-) -> Reading
+) -> Result<Reading, Refusal>
     requires { length text.now ≤ 2048 }
     ensures { result ≡ walk_reading (walk choices (book_in book.now) current_year 0 0 (steps choices.pair pattern.now) text.now []) }
 {
@@ -54,43 +44,43 @@ pub fn parse_parts(
     let mut ends = [0u16; 15];
     let mut mask: u16 = 0;
     let mut at = 0;
-    let mut place = 0;
     let mut i = 0;
-    while place < pattern.len() {
-        let part = next_part(pattern, place);
+    for part in parts_of(pattern) {
         let step = step_of(pair, pattern, part);
         let cursor = Cursor { at };
         match parse_step(edition, book, step, pattern, current_year, text, cursor) {
-            PartRead::Stopped { trouble, place: to } => return refused_in(i, trouble, to),
-            PartRead::Got { carried, next } => {
+            Err(stop) => return Err(stop.in_part(i)),
+            Ok(read) => {
                 let start = at;
-                at = next.at;
-                if let Carried::Value(unit, value) = carried {
+                at = read.next.at;
+                if let Carried::Value(unit, value) = read.value {
                     let k = unit_number(unit);
                     values[k] = value;
                     starts[k] = start as u16;
                     ends[k] = at as u16;
                     mask = mask | (1u16 << k);
                 } else if choices.strict {
-                    if let Compared::Differs(found) = compare_part(pair, pattern, place, text, at) {
-                        return refused_in(i, Trouble::LiteralDiffers, found);
+                    if let Some(found) = compare_part(pair, pattern, part.start, text, at) {
+                        return Err(Refusal::InPart {
+                            trouble: Trouble::LiteralDiffers,
+                            part: i,
+                            place: found,
+                        });
                     }
                 }
             }
         }
-        place += part.length;
         i += 1;
     }
     if choices.strict && at < text.len() {
-        return no_reading(Checked::Refused(Refusal::TextLeft(at)));
+        return Err(Refusal::TextLeft(at));
     }
-    Reading {
-        checked: Checked::Fine,
+    Ok(Reading {
         taken: at,
         values,
         mask,
         units: u16::count_ones(mask),
         starts,
         ends,
-    }
+    })
 }

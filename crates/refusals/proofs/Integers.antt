@@ -3,12 +3,11 @@ use mathlib.Core.List.{List, [], ◌∷◌}
 use mathlib.Core.Path.{◌≡◌, refl, ap, ◌∙◌}
 use lib.IntN.{ℤ, pos, negsuc, nat_abs}
 use Rattle.meaning.specs.Answers.{details}
-use Rattle.meaning.specs.Bytes.{when}
 use Rattle.meaning.specs.Numerals.{integer}
 use Rattle.meaning.specs.Writing.{is_negative}
 use Rattle.meaning.specs.declared.Refusal.{Refusal}
 use Rattle.meaning.specs.declared.Refusal.TheVariants.{PatternTooLong, PatternByte, LoneQuote, FieldRange, NoRoom, TextTooLong, TextByte, InPart, OffsetLength, OffsetRange, CurrentYear, TextLeft, NoSuchDay, NoDayNumber, BookMark, BookVersion, BookCut, BookName, ShortRow, NotStamp, StampRange, LeapSecond, StampYear, StampOffset, MendedTooLong}
-use Rattle.refusals.specs.Told.{told, detail_of}
+use Rattle.refusals.specs.Told.{told, detail_of, second_details}
 use Rattle.refusals.specs.declared.Told.{Told}
 
 sign-and-size : (z : ℤ) → integer (record { negative = is_negative z; size = nat_abs z }) ≡ z
@@ -17,7 +16,7 @@ sign-and-size (negsuc n) = refl
 
 -- one detail or two, as the table lists them
 abbrev pub details_of : Told → List ℤ
-details_of t = detail_of t.first ∷ when t.two (detail_of t.second ∷ []) []
+details_of t = detail_of t.first ∷ second_details t.second
 
 told-details : (why : Refusal) → details_of (told why) ≡ details why
 unfolding details

@@ -19,8 +19,7 @@ pub struct Detail {
 pub struct Told {
     pub number: u32,
     pub first: Detail,
-    pub second: Detail,
-    pub two: bool,
+    pub second: Option<Detail>,
 }
 
 fn number_of(trouble: Trouble) -> u32
@@ -49,10 +48,9 @@ fn with_one(number: u32, n: usize) -> Told
     ensures { result ≡ one_detail number n }
 {
     Told {
-        number: number,
+        number,
         first: detail_of(n),
-        second: detail_of(0),
-        two: false,
+        second: None,
     }
 }
 
@@ -75,8 +73,7 @@ pub fn tell(why: Refusal) -> Told
         } => Told {
             number: number_of(trouble),
             first: detail_of(part),
-            second: detail_of(place),
-            two: true,
+            second: Some(detail_of(place)),
         },
         Refusal::OffsetLength(n) => with_one(12, n),
         Refusal::OffsetRange(which) => with_one(13, which as usize),
@@ -86,8 +83,7 @@ pub fn tell(why: Refusal) -> Told
                 negative: is_negative(year),
                 size: size(year) as u64,
             },
-            second: detail_of(0),
-            two: false,
+            second: None,
         },
         Refusal::TextLeft(place) => with_one(16, place),
         Refusal::NoSuchDay => with_one(17, 0),

@@ -1,4 +1,5 @@
 -- The answers to a reading fit a row: each slice has fewer than 2 ^ 63 bytes, and the current year has 32 bits.
+use Rattle.std.specs.Prelude.{Ok, Err}
 use mathlib.Core.Bool.{Bool}
 use mathlib.Core.List.{List, [], ◌∷◌}
 use Prim.Native.Nat.{ℕ, suc, ◌+◌, ◌≤◌}
@@ -21,13 +22,12 @@ use Rattle.meaning.specs.Trust.{trust_check}
 use Rattle.meaning.specs.Whole.{Gave, Walk, walked, refused_at, walked_by, walk, read_by, read_check, read}
 use Rattle.meaning.specs.Writing.{Step, steps, is_negative}
 use Rattle.meaning.specs.declared.Carried.{Carried}
-use Rattle.meaning.specs.declared.Checked.{Checked}
-use Rattle.meaning.specs.declared.Checked.TheVariants.{Fine, Refused}
+use Rattle.meaning.specs.Results.{Checked}
 use Rattle.meaning.specs.declared.Choices.{Choices}
 use Rattle.meaning.specs.declared.Edition.{Edition}
 use Rattle.meaning.specs.declared.Refusal.TheVariants.{LoneQuote, TextTooLong, TextByte, CurrentYear}
 use Rattle.rows.proofs.entries.Fits.{else-fits, unless-fits, byte_fits, bytes_fit}
-use Rattle.rows.specs.Fits.{NumberFits, CheckedFits, ReadFits}
+use Rattle.rows.specs.Fits.{NumberFits, WhyFits, CheckedFits, ReadFits}
 use Rattle.parse.proofs.steps.Within.{Within}
 use Rattle.parse.proofs.rule.Within.{within_step}
 
@@ -36,7 +36,7 @@ use Rattle.parse.proofs.rule.Within.{within_step}
 pub pattern-fits : (p : List ℕ) → NumberFits (length p) → CheckedFits (pattern_check p)
 unfolding pattern_check details
 pattern-fits p h =
-    else-fits (bytes_check p) (when (ends_in_lone_quote (contents p)) (Refused (LoneQuote _)) Fine) (bytes_fit p h)
+    else-fits (bytes_check p) (when (ends_in_lone_quote (contents p)) (Err (LoneQuote _)) (Ok tt)) (bytes_fit p h)
     (λ _. when-is CheckedFits (ends_in_lone_quote (contents p)) (λ _. (omega arith, tt)) (λ _. tt))
 
 year-small : (current : ℤ) → SFits w32 current → NumberFits (nat_abs current)
@@ -64,7 +64,7 @@ text-fits s h =
 
 abbrev pub WalkFits : Walk → Type 0
 WalkFits (walked taken gave) = NumberFits taken
-WalkFits (refused_at checked) = CheckedFits checked
+WalkFits (refused_at why) = WhyFits why
 
 rest-fits : (strict : Bool) (at : ℕ) (s : List ℕ) (gave : List Gave) → NumberFits at → WalkFits (walked_by (rest_check strict at s) at gave)
 unfolding details
@@ -89,9 +89,9 @@ module _ (choices : Choices) (book : Book) (current : ℕ) where
       (λ n c l. walk-fits (suc i) (at + n) ss (drop n s) _ (omega arith) (omega (arith, length-drop n s)))
 
 read-by-fits : (checked : Checked) (w : Walk) → CheckedFits checked → WalkFits w → ReadFits (read_by checked w)
-read-by-fits Fine (walked taken gave) h k = (k, tt)
-read-by-fits Fine (refused_at checked) h k = (omega arith, k)
-read-by-fits (Refused why) w h k = (omega arith, h)
+read-by-fits (Ok _) (walked taken gave) h k = k
+read-by-fits (Ok _) (refused_at why) h k = k
+read-by-fits (Err why) w h k = h
 
 pub read_fits : (choices : Choices) (book : Book) (p s : List ℕ) (current : ℤ) → NumberFits (length p) → NumberFits (length s) → SFits w32 current
     → ReadFits (read choices book p s current)

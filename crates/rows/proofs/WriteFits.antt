@@ -1,4 +1,5 @@
 -- The answers to a write fit a row: the refusals of a record, and a length that does.
+use Rattle.std.specs.Prelude.{Ok, Err}
 use mathlib.Core.Bool.{Bool}
 use mathlib.Core.List.{List}
 use mathlib.Core.Path.{◌≡◌, refl}
@@ -8,12 +9,11 @@ use lib.IntN.{nat_abs}
 use lib.ListN.{length}
 use Rattle.meaning.specs.Answers.{◌else◌, refuse_unless, within, fields_check, details}
 use Rattle.meaning.specs.Whole.{wrote_by}
-use Rattle.meaning.specs.declared.Checked.{Checked}
-use Rattle.meaning.specs.declared.Checked.TheVariants.{Fine, Refused}
+use Rattle.meaning.specs.Results.{Checked}
 use Rattle.meaning.specs.declared.Fields.{Fields}
 use Rattle.meaning.specs.declared.Refusal.TheVariants.{FieldRange}
 use Rattle.rows.proofs.entries.Fits.{else-fits, unless-fits}
-use Rattle.rows.specs.Fits.{NumberFits, CheckedFits, WroteFits}
+use Rattle.rows.specs.Fits.{NumberFits, CheckedFits, CountFits}
 
 -- a check whose refusal fits, as a type that shows the check
 record Fitting (checked : Checked) : Type 0 where
@@ -42,6 +42,6 @@ fitting-fields f =
 pub fields_fit : (f : Fields) → CheckedFits (fields_check f)
 fields_fit f = (fitting-fields f).fits
 
-pub wrote-fits : (checked : Checked) (t : List ℕ) → CheckedFits checked → (checked ≡ Fine → NumberFits (length t)) → WroteFits (wrote_by checked t)
-wrote-fits Fine t h k = k refl
-wrote-fits (Refused why) t h k = h
+pub wrote-fits : (checked : Checked) (t : List ℕ) → CheckedFits checked → (checked ≡ Ok tt → NumberFits (length t)) → CountFits (wrote_by checked t)
+wrote-fits (Ok _) t h k = k refl
+wrote-fits (Err why) t h k = h

@@ -1,28 +1,24 @@
 -- A mending as numbers, four for each of its changes; whether a row's numbers are changes, and which.
-use Rattle.std.specs.Prelude.{Bool, true, false, List, [], ◌∷◌, ℕ, ◌+◌, leb, ℤ, pos, negsuc, nat_abs, length, get_or}
-use Rattle.meaning.specs.Answers.{Answer, accepted, refused, answer_by}
+use Rattle.std.specs.Prelude.{Bool, true, false, List, [], ◌∷◌, ℕ, ◌+◌, leb, ℤ, pos, negsuc, nat_abs, length, get_or, Result, Ok, Err}
+use Rattle.meaning.specs.Answers.{Answer, accepted, refused}
 use Rattle.meaning.specs.Bytes.{when, both}
 use Rattle.meaning.specs.Mending.{change, change_numbers, undo}
 use Rattle.meaning.specs.declared.Change.{Change}
-use Rattle.meaning.specs.declared.Changes.{Changes}
-use Rattle.meaning.specs.declared.Checked.{Checked}
-use Rattle.meaning.specs.declared.Checked.TheVariants.{Fine, Refused}
+use Rattle.meaning.specs.Results.{Undone}
 use Rattle.meaning.specs.declared.Mended.{Mended}
-use Rattle.meaning.specs.declared.Undone.{Undone}
-use Rattle.meaning.specs.declared.Undone.TheVariants as undone
+use Rattle.meaning.specs.declared.NotUndone.TheVariants.{Misfit, Refused}
+use Rattle.meaning.specs.declared.Refusal.{Refusal}
 use Rattle.rows.specs.Rows.{in_row}
 
 -- a mending in a row of two numbers: the length of the mended pattern, and how many changes
-abbrev pub mended_counts : Mended → Answer
-mended_counts r = answer_by r.checked (pos r.length ∷ pos r.changes.used ∷ [])
-
-abbrev pub changes_by : Checked → Changes → List ℤ
-changes_by Fine cs = change_numbers cs.listed
-changes_by (Refused why) cs = []
+abbrev pub mended_counts : Result Mended Refusal → Answer
+mended_counts (Ok r) = accepted (pos r.length ∷ pos r.changes.used ∷ [])
+mended_counts (Err why) = refused why
 
 -- its changes in a row of 512: four numbers for each of 128 entries, zeros where there is no change; or none
-abbrev pub mend_numbers : Mended → List ℤ
-mend_numbers r = changes_by r.checked r.changes
+abbrev pub mend_numbers : Result Mended Refusal → List ℤ
+mend_numbers (Ok r) = change_numbers r.changes.listed
+mend_numbers (Err why) = []
 
 -- whether four numbers are a change: none is negative, and the byte is one
 abbrev pub is_count : ℤ → Bool
@@ -68,9 +64,9 @@ change_at zs at =
 
 -- an undoing of the changes of a row; and in a row of two numbers, where a misfit is 104 and no number
 abbrev pub undone_by : List ℕ → List ℤ → List ℕ → Undone
-undone_by p zs out = when (holds_changes zs) (undo p (changes_held zs) out) undone.Misfit
+undone_by p zs out = when (holds_changes zs) (undo p (changes_held zs) out) (Err Misfit)
 
 abbrev pub in_undone : Undone → Answer
-in_undone (undone.Length n) = in_row 2 (accepted (pos n ∷ []))
-in_undone undone.Misfit = record { number = 104; values = [] }
-in_undone (undone.Refused why) = in_row 2 (refused why)
+in_undone (Ok n) = in_row 2 (accepted (pos n ∷ []))
+in_undone (Err Misfit) = record { number = 104; values = [] }
+in_undone (Err (Refused why)) = in_row 2 (refused why)

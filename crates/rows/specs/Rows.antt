@@ -1,20 +1,20 @@
 -- The specification's answers as numbers: what a function returns, and the numbers that it lays over the start of a lent row.
-use Rattle.std.specs.Prelude.{List, [], ◌∷◌, ◌++◌, map, ◌≡◌, ℕ, ◌-◌, ℤ, pos, negsuc, length, replicate}
-use Rattle.std.proofs.Math.Option.{Option, none, some}
+use Rattle.std.specs.Prelude.{List, [], ◌∷◌, ◌++◌, map, ◌≡◌, ℕ, ◌-◌, ℤ, pos, negsuc, length, replicate, Option, Some, None, Result, Ok, Err}
+use Rattle.std.proofs.Math.Option as maybe
+use Rattle.std.proofs.Math.Option.{none, some}
 use Rattle.std.proofs.lemmas.List.Edits.{sets}
 use Rattle.meaning.specs.Answers.{Answer, read_answer, bytes_check}
-use Rattle.meaning.specs.Bytes.{when}
 use Rattle.meaning.specs.Reading.{StepUnit, itself, symbol, step_unit}
 use Rattle.meaning.specs.Whole.{unit_number}
 use Rattle.meaning.specs.Writing.{Step, steps}
-use Rattle.meaning.specs.declared.Checked.{Checked}
-use Rattle.meaning.specs.declared.Checked.TheVariants.{Fine, Refused}
+use Rattle.meaning.specs.Results.{Checked}
 use Rattle.meaning.specs.declared.Kind.{Kind}
 use Rattle.meaning.specs.declared.Kind.TheVariants.{Run, Quotes, Quoted, Open}
 use Rattle.meaning.specs.declared.LineRead.{LineRead}
 use Rattle.meaning.specs.declared.Pair.TheVariants.{Full}
 use Rattle.meaning.specs.declared.ParseUnit.{ParseUnit}
 use Rattle.meaning.specs.declared.Part.{Part}
+use Rattle.meaning.specs.declared.Refusal.{Refusal}
 use Rattle.meaning.specs.declared.Split.{Split}
 
 -- numbers lie over the start of the old row, and the rest is as it was
@@ -32,11 +32,10 @@ in_row n a = record { number = a.number; values = a.values ++ replicate (n - len
 
 -- a line in a row of 51 numbers: where it starts and ends and the next one starts, then its reading; where there is none, 103 and no
 -- number
-abbrev pub in_line : LineRead → Answer
-in_line l =
-    when l.there
-    (record { number = (read_answer l.reading).number; values = pos l.start ∷ pos l.end ∷ pos l.next ∷ (in_row 48 (read_answer l.reading)).values })
-    (record { number = 103; values = [] })
+abbrev pub in_line : Option LineRead → Answer
+in_line (Some l) =
+    record { number = (read_answer l.reading).number; values = pos l.start ∷ pos l.end ∷ pos l.next ∷ (in_row 48 (read_answer l.reading)).values }
+in_line None = record { number = 103; values = [] }
 
 -- kind, start and length of each of these parts
 abbrev pub kind_number : Kind → ℕ
@@ -49,16 +48,13 @@ unfoldable pub part_numbers : List Part → List ℤ
 part_numbers [] = []
 part_numbers (p ∷ ps) = pos (kind_number p.kind) ∷ pos p.start ∷ pos p.length ∷ part_numbers ps
 
-abbrev pub numbers_by : Checked → List Part → List ℤ
-numbers_by Fine ps = part_numbers ps
-numbers_by (Refused why) ps = []
-
 -- those of all 256 entries, or none
-abbrev pub split_numbers : Split → List ℤ
-split_numbers s = numbers_by s.checked s.parts
+abbrev pub split_numbers : Result Split Refusal → List ℤ
+split_numbers (Ok s) = part_numbers s.parts
+split_numbers (Err why) = []
 
 -- what a part is: -1 where it stands for itself, 15 for a symbol that carries nothing, else the number of the unit
-abbrev pub carried_entry : Option ParseUnit → ℤ
+abbrev pub carried_entry : maybe.Option ParseUnit → ℤ
 carried_entry none = pos 15
 carried_entry (some u) = pos (unit_number u)
 
@@ -70,8 +66,8 @@ abbrev pub step_entry : Step → ℤ
 step_entry step = unit_entry (step_unit step)
 
 abbrev pub entries_by : Checked → List ℤ → List ℤ
-entries_by Fine es = es ++ replicate (256 - length es) (negsuc 0)
-entries_by (Refused why) es = []
+entries_by (Ok _) es = es ++ replicate (256 - length es) (negsuc 0)
+entries_by (Err why) es = []
 
 -- that of each part of a pattern, then -1, 256 entries in all; or none
 unfoldable pub unit_entries : List ℕ → List ℤ

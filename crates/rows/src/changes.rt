@@ -1,5 +1,5 @@
 // The changes of a mending as rows of numbers, four for each, and the changes that a row holds.
-ghost use Rattle.std.specs.Prelude.{true, ◌∷◌, [], ◌≡◌, ◌+◌, ◌≤◌, length};
+ghost use Rattle.std.specs.Prelude.{true, ◌∷◌, [], ◌≡◌, ◌+◌, ◌*◌, ◌≤◌, length};
 ghost use Rattle.std.proofs.lemmas.List.Edits.{sets};
 ghost use Rattle.meaning.specs.Mending.{change_numbers, changes_in};
 ghost use Rattle.rows.specs.Changes.{mended_counts, mend_numbers, is_count, is_byte, are_changes, changes_held, is_change_at, change_at, in_undone};
@@ -8,7 +8,7 @@ ghost use Rattle.rows.specs.Rows.{in_row, Given, laid};
 
 use crate::answers::{give_count, give_refusal};
 use crate::entries::{entry, lay};
-use meaning::{Change, Changes, Checked, Mended, Undone};
+use meaning::{Change, Changes, Mended, NotUndone, Refusal};
 use mending::listing::no_changes;
 
 #[tactic(auto, unfolding(meaning::specs::Mending::change_numbers))]
@@ -24,69 +24,48 @@ fn lay_change(change: Change, row: &mut [i64], at: usize)
 }
 
 // Those that are none are zeros.
-fn lay_changes(changes: Changes, row: &mut [i64])
-    requires { (512 ≤ length row.old) × AllChangesFit changes.listed }
-    ensures { row.new ≡ laid (change_numbers changes.listed) row.old }
+fn lay_changes(changes: &[Change], row: &mut [i64])
+    requires { (4 * length changes.now ≤ length row.old) × AllChangesFit changes.now }
+    ensures { row.new ≡ laid (change_numbers changes.now) row.old }
 {
-    let mut i = 0;
-    while i < 128 {
-        lay_change(changes.listed[i], row, 4 * i);
-        i += 1;
+    for (i, change) in changes.iter().enumerate() {
+        lay_change(*change, row, 4 * i);
     }
 }
 
-pub fn give_mended(mended: Mended, changes: &mut [i64], answer: &mut [i64]) -> u32
+pub fn give_mended(mended: Result<Mended, Refusal>, changes: &mut [i64], answer: &mut [i64]) -> u32
     requires { (512 ≤ length changes.old) × (2 ≤ length answer.old) × MendedFits mended }
     ensures { Given (in_row 2 (mended_counts mended)) answer.old answer.new result × (changes.new ≡ laid (mend_numbers mended) changes.old) }
 {
-    let checked = mended.checked;
-    match checked {
-        Checked::Fine => {
+    match mended {
+        Ok(mended) => {
             let length = entry(mended.length as u64);
             let used = entry(mended.changes.used as u64);
-            lay_changes(mended.changes, changes);
+            lay_changes(&mended.changes.listed, changes);
             lay(&[length, used], answer, 0);
             0
         }
-        Checked::Refused(why) => give_refusal(why, 2, answer),
+        Err(why) => give_refusal(why, 2, answer),
     }
 }
 
 fn is_count(number: i64) -> bool
     ensures { result ≡ is_count number }
 {
-    if number < 0 {
-        return false;
-    }
-    true
+    0 <= number
 }
 
 fn is_byte(number: i64) -> bool
     ensures { result ≡ is_byte number }
 {
-    if number < 0 {
-        return false;
-    }
-    if 255 < number {
-        return false;
-    }
-    true
+    0 <= number && number <= 255
 }
 
 fn is_change(row: &[i64], at: usize) -> bool
     requires { at + 4 ≤ length row.now }
     ensures { result ≡ is_change_at row.now at }
 {
-    if !is_count(row[at]) {
-        return false;
-    }
-    if !is_byte(row[at + 1]) {
-        return false;
-    }
-    if !is_count(row[at + 2]) {
-        return false;
-    }
-    is_count(row[at + 3])
+    is_count(row[at]) && is_byte(row[at + 1]) && is_count(row[at + 2]) && is_count(row[at + 3])
 }
 
 fn change_at(row: &[i64], at: usize) -> Change
@@ -108,12 +87,10 @@ pub fn are_changes(row: &[i64]) -> bool
     if row.len() % 4 != 0 {
         return false;
     }
-    let mut at = 0;
-    while at < row.len() {
-        if !is_change(row, at) {
+    for i in 0..row.len() / 4 {
+        if !is_change(row, 4 * i) {
             return false;
         }
-        at += 4;
     }
     true
 }
@@ -123,24 +100,21 @@ pub fn changes_held(row: &[i64]) -> Changes
     requires { (length row.now ≤ 512) × (are_changes row.now ≡ true) }
     ensures { changes_in result ≡ changes_held row.now }
 {
-    let empty = no_changes();
-    let mut listed = empty.listed;
-    let mut used = 0;
-    while 4 * used < row.len() {
-        let change = change_at(row, 4 * used);
-        listed[used] = change;
-        used += 1;
+    let mut listed = no_changes().listed;
+    let used = row.len() / 4;
+    for i in 0..used {
+        listed[i] = change_at(row, 4 * i);
     }
     Changes { listed, used }
 }
 
-pub fn give_undone(undone: Undone, answer: &mut [i64]) -> u32
+pub fn give_undone(undone: Result<usize, NotUndone>, answer: &mut [i64]) -> u32
     requires { (2 ≤ length answer.old) × UndoneFits undone }
     ensures { Given (in_undone undone) answer.old answer.new result }
 {
     match undone {
-        Undone::Length(n) => give_count(n as u64, answer),
-        Undone::Misfit => 104,
-        Undone::Refused(why) => give_refusal(why, 2, answer),
+        Ok(n) => give_count(n as u64, answer),
+        Err(NotUndone::Misfit) => 104,
+        Err(NotUndone::Refused(why)) => give_refusal(why, 2, answer),
     }
 }

@@ -7,11 +7,7 @@ pub fn lay(numbers: &[i64], row: &mut [i64], at: usize)
     requires { at + length numbers.now ≤ length row.old }
     ensures { row.new ≡ sets row.old at numbers.now }
 {
-    let mut j = 0;
-    while j < numbers.len() {
-        row[at + j] = numbers[j];
-        j += 1;
-    }
+    row[at..at + numbers.len()].copy_from_slice(numbers);
 }
 
 // Places in a text, as numbers.
@@ -19,10 +15,8 @@ pub fn lay_places(places: &[u16], row: &mut [i64], at: usize)
     requires { at + length places.now ≤ length row.old }
     ensures { row.new ≡ sets row.old at (map pos places.now) }
 {
-    let mut j = 0;
-    while j < places.len() {
-        row[at + j] = places[j] as i64;
-        j += 1;
+    for (j, place) in places.iter().enumerate() {
+        row[at + j] = i64::from(*place);
     }
 }
 
@@ -30,11 +24,7 @@ pub fn lay_times(number: i64, times: usize, row: &mut [i64], at: usize)
     requires { at + times ≤ length row.old }
     ensures { row.new ≡ sets row.old at (replicate times number) }
 {
-    let mut j = 0;
-    while j < times {
-        row[at + j] = number;
-        j += 1;
-    }
+    row[at..at + times].fill(number);
 }
 
 pub fn lay_zeros(times: usize, row: &mut [i64], at: usize)
@@ -49,10 +39,4 @@ pub fn entry(n: u64) -> i64
     ensures { result ≡ pos n }
 {
     n as i64
-}
-
-pub fn signed_entry(z: i32) -> i64
-    ensures { result ≡ z }
-{
-    z as i64
 }

@@ -1,5 +1,5 @@
 // Readings as rows of numbers.
-ghost use Rattle.std.specs.Prelude.{◌∷◌, ◌++◌, map, ◌≡◌, ◌≤◌, pos, length};
+ghost use Rattle.std.specs.Prelude.{◌∷◌, ◌++◌, map, ◌≡◌, ◌≤◌, pos, length, Ok};
 ghost use Rattle.meaning.specs.Answers.{accepted, read_answer};
 ghost use Rattle.meaning.specs.OpenedBooks.{book_in};
 ghost use Rattle.meaning.specs.Trust.{trust_check};
@@ -10,7 +10,7 @@ ghost use Rattle.rows.specs.Rows.{in_row, Given};
 use crate::answers::give_refusal;
 use crate::entries::{entry, lay, lay_places};
 use fields::signed::size;
-use meaning::{Checked, Choices, Reading};
+use meaning::{Choices, Reading, Refusal};
 use reader::checks::text_check;
 use reader::walk::parse_parts;
 
@@ -19,26 +19,22 @@ fn give_values(reading: Reading, row: &mut [i64]) -> u32
     ensures { Given (accepted (pos reading.taken ∷ pos reading.mask ∷ pos reading.units ∷ reading.values ++ map pos reading.starts ++ map pos reading.ends)) row.old row.new result }
 {
     let taken = entry(reading.taken as u64);
-    let mask = entry(reading.mask as u64);
-    let units = entry(reading.units as u64);
-    let values = reading.values;
-    let starts = reading.starts;
-    let ends = reading.ends;
+    let mask = i64::from(reading.mask);
+    let units = i64::from(reading.units);
     lay(&[taken, mask, units], row, 0);
-    lay(&values, row, 3);
-    lay_places(&starts, row, 18);
-    lay_places(&ends, row, 33);
+    lay(&reading.values, row, 3);
+    lay_places(&reading.starts, row, 18);
+    lay_places(&reading.ends, row, 33);
     0
 }
 
-fn give_reading(reading: Reading, row: &mut [i64]) -> u32
+fn give_reading(reading: Result<Reading, Refusal>, row: &mut [i64]) -> u32
     requires { (48 ≤ length row.old) × ReadFits reading }
     ensures { Given (in_row 48 (read_answer reading)) row.old row.new result }
 {
-    let checked = reading.checked;
-    match checked {
-        Checked::Fine => give_values(reading, row),
-        Checked::Refused(why) => give_refusal(why, 48, row),
+    match reading {
+        Ok(reading) => give_values(reading, row),
+        Err(why) => give_refusal(why, 48, row),
     }
 }
 
@@ -53,14 +49,11 @@ pub fn read_row(
     year: i32,
     row: &mut [i64],
 ) -> u32
-    requires { (48 ≤ length row.old) × (trust_check choices.edition pattern.now year ≡ Checked.Fine) }
+    requires { (48 ≤ length row.old) × (trust_check choices.edition pattern.now year ≡ Ok tt) }
     ensures { Given (in_row 48 (read_answer (whole.read choices (book_in book.now) pattern.now text.now year))) row.old row.new result }
 {
-    let checked = text_check(text);
-    match checked {
-        Checked::Fine => {
-            give_reading(parse_parts(choices, book, pattern, text, size(year)), row)
-        }
-        Checked::Refused(why) => give_refusal(why, 48, row),
+    match text_check(text) {
+        Ok(()) => { give_reading(parse_parts(choices, book, pattern, text, size(year)), row) }
+        Err(why) => give_refusal(why, 48, row),
     }
 }

@@ -9,9 +9,9 @@ ghost use Rattle.rows.specs.Rows.{in_row, Given, laid, kind_number, part_numbers
 
 use crate::answers::{give_count, give_refusal};
 use crate::entries::{entry, lay, lay_zeros};
-use meaning::{Checked, Kind, Part};
+use meaning::{Kind, Part};
 use pattern::checks::bytes_check;
-use pattern::parts::next_part;
+use pattern::parts::parts_of;
 
 fn kind_number(kind: Kind) -> u64
     ensures { result ≡ kind_number kind }
@@ -29,8 +29,7 @@ fn lay_part(part: Part, row: &mut [i64], at: usize)
     requires { (at + 3 ≤ length row.old) × NumberFits part.start × NumberFits part.length }
     ensures { row.new ≡ sets row.old at (part_numbers (part ∷ [])) }
 {
-    let kind = part.kind;
-    let number = entry(kind_number(kind));
+    let number = entry(kind_number(part.kind));
     let start = entry(part.start as u64);
     let length = entry(part.length as u64);
     lay(&[number, start, length], row, at);
@@ -42,12 +41,9 @@ fn lay_parts(pattern: &[u8], row: &mut [i64]) -> usize
     ensures { (result ≤ 256) × (result ≡ length (splitting.parts pattern.now)) × (row.new ≡ laid (part_numbers (splitting.parts pattern.now ++ replicate (256 - result) splitting.no_part)) row.old) }
 {
     let mut used = 0;
-    let mut at = 0;
-    while at < pattern.len() {
-        let part = next_part(pattern, at);
+    for part in parts_of(pattern) {
         lay_part(part, row, 3 * used);
         used += 1;
-        at += part.length;
     }
     lay_zeros(768 - 3 * used, row, 3 * used);
     used
@@ -58,7 +54,7 @@ pub fn give_split(pattern: &[u8], answer: &mut [i64], parts: &mut [i64]) -> u32
     ensures { Given (in_row 2 (split_answer (split pattern.now))) answer.old answer.new result × (parts.new ≡ laid (split_numbers (split pattern.now)) parts.old) }
 {
     match bytes_check(pattern) {
-        Checked::Fine => give_count(lay_parts(pattern, parts) as u64, answer),
-        Checked::Refused(why) => give_refusal(why, 2, answer),
+        Ok(()) => give_count(lay_parts(pattern, parts) as u64, answer),
+        Err(why) => give_refusal(why, 2, answer),
     }
 }

@@ -12,10 +12,10 @@ ghost use Rattle.rows.specs.Rows.{in_row, Given, laid, carried_entry, step_entry
 
 use crate::answers::{give_count, give_refusal};
 use crate::entries::{entry, lay, lay_times};
-use meaning::{Carried, Checked, Kind, NameList, Pair, ParseUnit, Part, Role, Rule};
+use meaning::{Carried, Kind, NameList, Pair, ParseUnit, Part, Role, Rule};
 use parse::named::name_carries;
 use pattern::checks::bytes_check;
-use pattern::parts::next_part;
+use pattern::parts::parts_of;
 use reader::record::unit_number;
 use rules::role_of;
 
@@ -43,34 +43,11 @@ fn rule_entry(rule: Rule) -> i64
     ensures { result ≡ carried_entry (rule_unit rule) }
 {
     match rule {
-        Rule::Number {
-            quantity: _,
-            least: _,
-            most: _,
-            unit,
-            zero: _,
-        } => unit_entry(unit),
-        Rule::SkippedNumber {
-            quantity: _,
-            least: _,
-            most: _,
-        } => NOTHING,
-        Rule::LetterQuarter => NOTHING,
-        Rule::SkippedName {
-            names: _,
-            length: _,
-        } => NOTHING,
-        Rule::MatchedName(names) => names_entry(names),
-        Rule::Letters { names, length: _ } => names_entry(names),
-        Rule::Years(_) => unit_entry(ParseUnit::Year),
-        Rule::FixedYear(_) => unit_entry(ParseUnit::Year),
-        Rule::TwoDigitYear => unit_entry(ParseUnit::Year),
-        Rule::Zone {
-            utc: _,
-            colon: _,
-            minutes: _,
-            seconds: _,
-        } => unit_entry(ParseUnit::Offset),
+        Rule::Number { unit, .. } => unit_entry(unit),
+        Rule::SkippedNumber { .. } | Rule::LetterQuarter | Rule::SkippedName { .. } => NOTHING,
+        Rule::MatchedName(names) | Rule::Letters { names, .. } => names_entry(names),
+        Rule::Years(_) | Rule::FixedYear(_) | Rule::TwoDigitYear => unit_entry(ParseUnit::Year),
+        Rule::Zone { .. } => unit_entry(ParseUnit::Offset),
     }
 }
 
@@ -89,14 +66,9 @@ fn part_entry(pattern: &[u8], part: Part) -> i64
     requires { Next pattern.now part.start part }
     ensures { result ≡ step_entry (step_of Pair.Full (content_of pattern.now part)) }
 {
-    let kind = part.kind;
-    let start = part.start;
-    let count = part.length;
-    match kind {
-        Kind::Run => run_entry(pattern[start], count),
-        Kind::Quotes => -1,
-        Kind::Quoted => -1,
-        Kind::Open => -1,
+    match part.kind {
+        Kind::Run => run_entry(pattern[part.start], part.length),
+        Kind::Quotes | Kind::Quoted | Kind::Open => -1,
     }
 }
 
@@ -106,12 +78,9 @@ fn lay_entries(pattern: &[u8], row: &mut [i64]) -> usize
     ensures { (result ≤ 256) × (result ≡ length (splitting.parts pattern.now)) × (row.new ≡ laid (map step_entry (steps Pair.Full pattern.now) ++ replicate (256 - result) (negsuc 0)) row.old) }
 {
     let mut used = 0;
-    let mut at = 0;
-    while at < pattern.len() {
-        let part = next_part(pattern, at);
+    for part in parts_of(pattern) {
         lay(&[part_entry(pattern, part)], row, used);
         used += 1;
-        at += part.length;
     }
     lay_times(-1, 256 - used, row, used);
     used
@@ -122,7 +91,7 @@ pub fn give_units(pattern: &[u8], answer: &mut [i64], units: &mut [i64]) -> u32
     ensures { Given (in_row 2 (split_answer (split pattern.now))) answer.old answer.new result × (units.new ≡ laid (unit_entries pattern.now) units.old) }
 {
     match bytes_check(pattern) {
-        Checked::Fine => give_count(lay_entries(pattern, units) as u64, answer),
-        Checked::Refused(why) => give_refusal(why, 2, answer),
+        Ok(()) => give_count(lay_entries(pattern, units) as u64, answer),
+        Err(why) => give_refusal(why, 2, answer),
     }
 }

@@ -1,6 +1,6 @@
 -- The steps of the code, each with everything decided: which step of the definitions it stands for, and what it has to do with the
 -- pattern that it was chosen from.
-use Rattle.std.specs.Prelude.{true, false, List, ◌≡◌, ℕ, ◌-◌, ◌≤◌, ◌<◌, leb, length, take, drop, replicate}
+use Rattle.std.specs.Prelude.{false, List, ◌≡◌, ℕ, ◌-◌, ◌≤◌, ◌<◌, leb, length, take, drop, replicate}
 use Rattle.meaning.specs.Bytes.{when}
 use Rattle.meaning.specs.Rules.{role_of}
 use Rattle.meaning.specs.Writing as meaning
@@ -11,7 +11,7 @@ use Rattle.meaning.specs.declared.Rule.{Rule}
 use Rattle.meaning.specs.declared.Rule.TheVariants.{Years, FixedYear, MatchedName}
 use Rattle.pattern.specs.First.{unescaped, content_of}
 use Rattle.pattern.specs.Next.{Lost}
-use Rattle.rules.specs.ShortRules.{is_short, short_rule}
+use Rattle.rules.specs.ShortRules.{short_rule}
 use Rattle.rules.specs.declared.step.Step.{Step}
 use Rattle.rules.specs.declared.step.Step.TheVariants.{Times, Quoted, Open, Short, Year, MonthAbbreviated, MonthWide, WdayWide, Run}
 
@@ -36,7 +36,7 @@ abbrev pub Held : List ℕ → Step → Type 0
 Held p (Times b n) = 0 < n
 Held p (Quoted from to) = (from ≤ to) × (to ≤ length p)
 Held p (Open from) = (from ≤ length p) × Lost (drop from p)
-Held p (Short number c) = (is_short number ≡ true) × (0 < c) × (c ≤ 2)
+Held p (Short number c) = (0 < c) × (c ≤ 2)
 Held p (Year c) = Unit
 Held p MonthAbbreviated = Unit
 Held p MonthWide = Unit

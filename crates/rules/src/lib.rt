@@ -15,20 +15,11 @@ use crate::date::date_role;
 use crate::time::time_role;
 use meaning::{Pair, Role};
 
+#[tactic(auto, unfolding(crate::specs::Letters::is_among))]
 fn is_date_symbol(b: u8) -> bool
     ensures { result ≡ is_among table.date_symbols b }
 {
-    match b {
-        b'G' => true,
-        b'y' => true,
-        b'q' => true,
-        b'M' => true,
-        b'w' => true,
-        b'd' => true,
-        b'D' => true,
-        b'e' => true,
-        _ => false,
-    }
+    matches!(b, b'G' | b'y' | b'q' | b'M' | b'w' | b'd' | b'D' | b'e')
 }
 
 // What a run of `count` equal bytes does: below the letters there are only literals; in the Date pair, time symbols are

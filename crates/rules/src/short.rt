@@ -1,11 +1,11 @@
 // The numbers that patterns have most, which at a count of one or two need no rule looked up.
 ghost use Rattle.std.specs.Prelude.{◌≡◌};
-ghost use Rattle.rules.specs.ShortRules.{short_time, short_of_pair, short_of, is_short, short_quantity, short_unit, short_most, short_rule};
+ghost use Rattle.rules.specs.ShortRules.{short_time, short_of_pair, short_of, short_quantity, short_unit, short_most, short_rule};
 
 use crate::numbers::number;
 use meaning::{Pair, ParseUnit, Quantity, Rule};
 
-// M, d, H, m and s, or any other symbol.
+// M, d, H, m and s.
 #[derive(Clone, Copy)]
 pub enum Short {
     Month,
@@ -13,50 +13,37 @@ pub enum Short {
     Hour,
     Minute,
     Second,
-    Other,
 }
 
-fn short_time(symbol: u8) -> Short
+fn short_time(symbol: u8) -> Option<Short>
     ensures { result ≡ short_time symbol }
 {
     match symbol {
-        b'H' => Short::Hour,
-        b'm' => Short::Minute,
-        b's' => Short::Second,
-        _ => Short::Other,
+        b'H' => Some(Short::Hour),
+        b'm' => Some(Short::Minute),
+        b's' => Some(Short::Second),
+        _ => None,
     }
 }
 
-fn short_of_pair(pair: Pair, symbol: u8) -> Short
+fn short_of_pair(pair: Pair, symbol: u8) -> Option<Short>
     ensures { result ≡ short_of_pair pair symbol }
 {
     match pair {
         Pair::Full => short_time(symbol),
-        Pair::Date => Short::Other,
+        Pair::Date => None,
     }
 }
 
-// Which of them a symbol is.
-pub fn short_of(pair: Pair, symbol: u8) -> Short
+// Which of them a symbol is, if it is one.
+#[tactic(auto, unfolding(crate::specs::ShortRules::short_of))]
+pub fn short_of(pair: Pair, symbol: u8) -> Option<Short>
     ensures { result ≡ short_of pair symbol }
 {
     match symbol {
-        b'M' => Short::Month,
-        b'd' => Short::Day,
+        b'M' => Some(Short::Month),
+        b'd' => Some(Short::Day),
         _ => short_of_pair(pair, symbol),
-    }
-}
-
-pub fn is_short(short: Short) -> bool
-    ensures { result ≡ is_short short }
-{
-    match short {
-        Short::Month => true,
-        Short::Day => true,
-        Short::Hour => true,
-        Short::Minute => true,
-        Short::Second => true,
-        Short::Other => false,
     }
 }
 
@@ -70,7 +57,6 @@ pub fn short_quantity(short: Short) -> Quantity
         Short::Hour => Quantity::Hour0To23,
         Short::Minute => Quantity::Minute,
         Short::Second => Quantity::Second,
-        Short::Other => Quantity::Day,
     }
 }
 
@@ -84,7 +70,6 @@ pub fn short_unit(short: Short) -> ParseUnit
         Short::Hour => ParseUnit::Hour,
         Short::Minute => ParseUnit::Minute,
         Short::Second => ParseUnit::Second,
-        Short::Other => ParseUnit::DayOfMonth,
     }
 }
 
@@ -94,11 +79,7 @@ pub fn short_most(short: Short, count: u8) -> u8
 {
     match short {
         Short::Month => count,
-        Short::Day => 2,
-        Short::Hour => 2,
-        Short::Minute => 2,
-        Short::Second => 2,
-        Short::Other => 2,
+        Short::Day | Short::Hour | Short::Minute | Short::Second => 2,
     }
 }
 

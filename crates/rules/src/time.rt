@@ -1,4 +1,6 @@
 // The time symbols of "What each symbol does": from a byte and its count to the rule.
+#![tactic(auto, unfolding(meaning::specs::Rules::rule_of, meaning::specs::Rules::pick, meaning::specs::Rules::otherwise_rule))]
+
 ghost use Rattle.std.specs.Prelude.{◌≡◌};
 ghost use Rattle.meaning.specs.Rules as table;
 
@@ -15,103 +17,53 @@ fn fraction(digits: u8, unit: ParseUnit) -> Rule
 fn period(count: usize) -> Rule
     ensures { result ≡ table.rule_of table.period count }
 {
-    if count <= 2 {
-        return Rule::Letters {
-            names: NameList::PeriodUpper,
-            length: 2,
-        };
-    }
-    if count == 4 {
-        return Rule::Letters {
-            names: NameList::PeriodDotted,
-            length: 4,
-        };
-    }
-    if count == 5 {
-        return Rule::Letters {
-            names: NameList::PeriodLetter,
-            length: 1,
-        };
-    }
-    Rule::Letters {
-        names: NameList::PeriodLower,
-        length: 2,
-    }
+    let (names, length) = match count {
+        0..=2 => (NameList::PeriodUpper, 2),
+        4 => (NameList::PeriodDotted, 4),
+        5 => (NameList::PeriodLetter, 1),
+        _ => (NameList::PeriodLower, 2),
+    };
+    Rule::Letters { names, length }
 }
 
 fn noon(count: usize) -> Rule
     ensures { result ≡ table.rule_of table.noon count }
 {
-    if count <= 2 {
-        return Rule::MatchedName(NameList::NoonUpper);
-    }
-    if count == 4 {
-        return Rule::MatchedName(NameList::NoonDotted);
-    }
-    if count == 5 {
-        return Rule::MatchedName(NameList::NoonLetter);
-    }
-    Rule::MatchedName(NameList::NoonLower)
+    Rule::MatchedName(match count {
+        0..=2 => NameList::NoonUpper,
+        4 => NameList::NoonDotted,
+        5 => NameList::NoonLetter,
+        _ => NameList::NoonLower,
+    })
 }
 
 fn nanos(count: usize) -> Rule
     ensures { result ≡ table.rule_of table.nanos count }
 {
-    if count == 1 {
-        return fraction(1, ParseUnit::Decis);
+    match count {
+        1 => fraction(1, ParseUnit::Decis),
+        2 => fraction(2, ParseUnit::Centis),
+        4 => fraction(6, ParseUnit::Micros),
+        5 => fraction(9, ParseUnit::Nanos),
+        _ => fraction(3, ParseUnit::Millis),
     }
-    if count == 2 {
-        return fraction(2, ParseUnit::Centis);
-    }
-    if count == 4 {
-        return fraction(6, ParseUnit::Micros);
-    }
-    if count == 5 {
-        return fraction(9, ParseUnit::Nanos);
-    }
-    fraction(3, ParseUnit::Millis)
 }
 
 fn zone(utc: bool, count: usize) -> Rule
     ensures { result ≡ table.rule_of (table.zone 88 utc) count }
 {
-    if count == 1 {
-        return Rule::Zone {
-            utc,
-            colon: false,
-            minutes: Group::NotZero,
-            seconds: Group::Never,
-        };
-    }
-    if count == 2 {
-        return Rule::Zone {
-            utc,
-            colon: false,
-            minutes: Group::Always,
-            seconds: Group::Never,
-        };
-    }
-    if count == 4 {
-        return Rule::Zone {
-            utc,
-            colon: false,
-            minutes: Group::Always,
-            seconds: Group::NotZero,
-        };
-    }
-    if count == 5 {
-        return Rule::Zone {
-            utc,
-            colon: true,
-            minutes: Group::Always,
-            seconds: Group::NotZero,
-        };
-    }
+    let (colon, minutes, seconds) = match count {
+        1 => (false, Group::NotZero, Group::Never),
+        2 => (false, Group::Always, Group::Never),
+        4 => (false, Group::Always, Group::NotZero),
+        5 => (true, Group::Always, Group::NotZero),
+        _ => (true, Group::Always, Group::Never),
+    };
     Rule::Zone {
         utc,
-        colon: true,
-        minutes: Group::Always,
-        seconds: Group::Never,
+        colon,
+        minutes,
+        seconds,
     }
 }
 

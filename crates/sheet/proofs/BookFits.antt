@@ -1,4 +1,5 @@
 -- The answers about books fit a row: a bad name is one of 64, and a book has at most 1,349 bytes.
+use Rattle.std.specs.Prelude.{Ok}
 use mathlib.Core.Bool.{true}
 use mathlib.Core.List.{List, [], ◌∷◌, map}
 use mathlib.Core.Path.{◌≡◌}
@@ -8,19 +9,17 @@ use lib.Dec.{eqb, leb}
 use lib.ListN.{length, drop, length-append}
 use borrow.Author.Tests.{leb-true}
 use Rattle.laws.proofs.BookCopies.{opened-size, read_names, held_all}
-use Rattle.laws.proofs.Checks.{else-fine, fine-unless}
+use Rattle.laws.proofs.Checks.{else-fine}
 use Rattle.laws.proofs.OpenedNames.{short, all_short, added}
-use Rattle.laws.proofs.Tests.{both_true, every, when-is}
+use Rattle.laws.proofs.Tests.{both_true, every}
 use Rattle.meaning.specs.Answers.{◌else◌, refuse_unless, room_check, details}
-use Rattle.meaning.specs.Books.{Shelf, shelves, is_good, shelf_check, names_check, Shelved, cut, shelved, names_in, mark, version_of, is_mark, is_version, may_go_on, shelved_check, book_check, shelve_names, book_bytes}
+use Rattle.meaning.specs.Books.{Shelf, shelves, is_good, shelf_check, names_check, Shelved, cut, shelved, names_in, version_of, is_mark, is_version, may_go_on, shelved_check, book_check, shelve_names, book_bytes}
 use Rattle.meaning.specs.Bytes.{when, bytes}
 use Rattle.meaning.specs.OpenedBooks.{opened_size, book_names, opened_names, open_check, open_book, held_names, book_write_check, write_book}
-use Rattle.meaning.specs.declared.Checked.{Checked}
-use Rattle.meaning.specs.declared.Checked.TheVariants.{Fine, Refused}
 use Rattle.meaning.specs.declared.Refusal.TheVariants.{NoRoom, BookMark, BookVersion, BookCut, BookName}
 use Rattle.rows.proofs.WriteFits.{wrote-fits}
 use Rattle.rows.proofs.entries.Fits.{else-fits, unless-fits}
-use Rattle.rows.specs.Fits.{NumberFits, CheckedFits, WroteFits}
+use Rattle.rows.specs.Fits.{NumberFits, CheckedFits, CountFits}
 
 -- 23
 
@@ -58,7 +57,7 @@ book-fits s =
     (λ _. else-fits long (version else names) (unless-fits (leb 5 (length s)) BookCut (omega arith, tt))
     (λ _. else-fits version names (unless-fits (is_version (version_of s)) BookVersion (omega arith, tt)) (λ _. shelved-fits (version_of s) (names_in 64 (drop 5 s)))))
 
-pub open-fits : (s out : List ℕ) → NumberFits (length out) → WroteFits (open_book s out)
+pub open-fits : (s out : List ℕ) → NumberFits (length out) → CountFits (open_book s out)
 unfolding open_book open_check details
 open-fits s out h =
     wrote-fits (open_check s (length out)) (opened_names (book_names s))
@@ -76,12 +75,12 @@ shelved-length (name ∷ ns) h =
     let t = both_true (short 20 name) (every (short 20) ns) h in
     omega (arith, length-append name (shelve_names ns), leb-true (length name) 20 t.0, shelved-length ns t.1)
 
-book-length : (row : List ℕ) → names_check shelves 1 (held_names row) ≡ Fine → length (book_bytes (held_names row)) ≤ 1349
+book-length : (row : List ℕ) → names_check shelves 1 (held_names row) ≡ Ok tt → length (book_bytes (held_names row)) ≤ 1349
 unfolding book_bytes bytes
 book-length row good =
     omega (arith, shelved-length (held_names row) (all_short (held_names row) (held_all row) good), held_all row)
 
-pub write-book-fits : (row out : List ℕ) → NumberFits (length out) → WroteFits (write_book row out)
+pub write-book-fits : (row out : List ℕ) → NumberFits (length out) → CountFits (write_book row out)
 unfolding write_book book_write_check details
 write-book-fits row out h =
     let names = names_check shelves 1 (held_names row) in

@@ -1,5 +1,6 @@
 -- Two results that a promise of `Sheet` allows coincide, with the rows and the output; those of the check but for the record
 -- that a no shows.
+use Rattle.std.specs.Prelude.{Result, Ok, Err}
 use mathlib.Core.Bool.{Bool, true, false}
 use mathlib.Core.List.{List, ◌∷◌, ◌++◌}
 use mathlib.Core.Logic.{◌⊎◌, inl, inr}
@@ -20,9 +21,10 @@ use Rattle.meaning.specs.declared.Choices.{Choices}
 use Rattle.meaning.specs.declared.Edition.{Edition}
 use Rattle.meaning.specs.declared.Fields.{Fields}
 use Rattle.meaning.specs.declared.Pair.{Pair}
+use Rattle.meaning.specs.declared.Refusal.{Refusal}
 use Rattle.meaning.specs.declared.Stamp.{Stamp}
 use Rattle.meaning.specs.declared.Verdict.{Verdict}
-use Rattle.meaning.specs.declared.Verdict.TheVariants.{Yes, No, Refused}
+use Rattle.meaning.specs.declared.Verdict.TheVariants.{Yes, No}
 use Rattle.rows.specs.Rows.{in_row, Given}
 use Rattle.sheet.specs.Numbers.{edition_of, of_check}
 use Rattle.sheet.specs.Sheet.{has, if_room, if_choices, verdict_in, SheetWrites, SheetReads, SheetReadsWith, SheetWritesBy, SheetReadsBy, SheetReadsList, SheetReadsLine, SheetOpensBook, SheetWritesBook, SheetTellsRead, SheetParsesOffset, SheetSplits, SheetUnits, SheetChecks, SheetChecksWith, SheetMends, SheetUndoes, SheetDay, SheetDayNumber, SheetReadsStamp, SheetWritesStamp}
@@ -147,7 +149,7 @@ no_numbers part f = pos 0 ∷ pos part ∷ field_numbers f
 
 module _ {row after after' : List ℤ} {r r' : ℕ} where
   no-check : (part : ℕ) (f g : Fields) → 10 ≤ length row
-      → Given (in_row 10 (verdict_answer (No part f))) row after r → Given (in_row 10 (verdict_answer (No part g))) row after' r' → SameCheck r r' after after'
+      → Given (in_row 10 (verdict_answer (Ok (No part f)))) row after r → Given (in_row 10 (verdict_answer (Ok (No part g)))) row after' r' → SameCheck r r' after after'
   no-check part f g h x y =
       let e : after ≡ no_numbers part f ++ drop 10 row = x.row ∙ sets-eq (no_numbers part f) row 0 h in
       let e' : after' ≡ no_numbers part g ++ drop 10 row = y.row ∙ sets-eq (no_numbers part g) row 0 h in
@@ -158,21 +160,21 @@ module _ {row after after' : List ℤ} {r r' : ℕ} where
         all = inl (x.number, ap (λ (l : List ℤ). get_or l 0 (pos 1)) e);
       }
 
-  verdicts-coincide : (v w : Verdict) → 10 ≤ length row → SameButRecord v w
+  verdicts-coincide : (v w : Result Verdict Refusal) → 10 ≤ length row → SameButRecord v w
       → Given (in_row 10 (verdict_answer v)) row after r → Given (in_row 10 (verdict_answer w)) row after' r' → SameCheck r r' after after'
-  verdicts-coincide Yes Yes h e x y = same_check (given-coincide x y)
-  verdicts-coincide Yes (No j g) h e x y = absurd (let z : ◌≡◌ {A = ℕ} 0 1 = cc in omega arith)
-  verdicts-coincide Yes (Refused why) h e x y = absurd (let z : ◌≡◌ {A = ℕ} 0 1 = cc in omega arith)
-  verdicts-coincide (No i f) Yes h e x y = absurd (let z : ◌≡◌ {A = ℕ} 0 1 = cc in omega arith)
-  verdicts-coincide (No i f) (No j g) h e x y = let same : i ≡ j = cc in no-check i f g h x (rw (← same) at y)
-  verdicts-coincide (No i f) (Refused why) h e x y = absurd (let z : ◌≡◌ {A = ℕ} 0 1 = cc in omega arith)
-  verdicts-coincide (Refused why) Yes h e x y = absurd (let z : ◌≡◌ {A = ℕ} 0 1 = cc in omega arith)
-  verdicts-coincide (Refused why) (No j g) h e x y = absurd (let z : ◌≡◌ {A = ℕ} 0 1 = cc in omega arith)
-  verdicts-coincide (Refused why) (Refused why') h e x y =
+  verdicts-coincide (Ok (No i f)) (Ok (No j g)) h e x y = let same : i ≡ j = cc in no-check i f g h x (rw (← same) at y)
+  verdicts-coincide (Ok Yes) (Ok Yes) h e x y = same_check (given-coincide x y)
+  verdicts-coincide (Ok Yes) (Ok (No j g)) h e x y = absurd (let z : ◌≡◌ {A = ℕ} 0 1 = cc in omega arith)
+  verdicts-coincide (Ok (No i f)) (Ok Yes) h e x y = absurd (let z : ◌≡◌ {A = ℕ} 0 1 = cc in omega arith)
+  verdicts-coincide (Ok Yes) (Err why) h e x y = absurd (let z : ◌≡◌ {A = ℕ} 0 1 = cc in omega arith)
+  verdicts-coincide (Ok (No i f)) (Err why) h e x y = absurd (let z : ◌≡◌ {A = ℕ} 0 1 = cc in omega arith)
+  verdicts-coincide (Err why) (Ok Yes) h e x y = absurd (let z : ◌≡◌ {A = ℕ} 0 1 = cc in omega arith)
+  verdicts-coincide (Err why) (Ok (No j g)) h e x y = absurd (let z : ◌≡◌ {A = ℕ} 0 1 = cc in omega arith)
+  verdicts-coincide (Err why) (Err why') h e x y =
       let same : why ≡ why' = cc in
       same_check (given-coincide x (rw (← same) at y))
 
-  checks-by : (room : Bool) (v w : Verdict) → (room ≡ true → 10 ≤ length row) → SameButRecord v w
+  checks-by : (room : Bool) (v w : Result Verdict Refusal) → (room ≡ true → 10 ≤ length row) → SameButRecord v w
       → Given (if_room room (in_row 10 (verdict_answer v))) row after r → Given (if_room room (in_row 10 (verdict_answer w))) row after' r' → SameCheck r r' after after'
   checks-by true v w h e x y = verdicts-coincide v w (h refl) e x y
   checks-by false v w h e x y = same_check (given-coincide x y)

@@ -1,5 +1,6 @@
 -- Two half patterns, for what the functions for C and Rust return: a call for the join writes what a call for the one writes
 -- and, behind it, a call for the other, and splits it into the parts of the one and then those of the other.
+use Rattle.std.specs.Prelude.{Ok, Err}
 use mathlib.Core.Bool.{Bool, true, false}
 use mathlib.Core.List.{List, [], ◌∷◌, ◌++◌, map}
 use mathlib.Core.Path.{◌≡◌, refl, sym, ap, ◌∙◌}
@@ -17,12 +18,10 @@ use Rattle.meaning.specs.Answers.{number, wrote_answer, bytes_check}
 use Rattle.meaning.specs.Names.{Book}
 use Rattle.meaning.specs.Splitting.{parts, no_part}
 use Rattle.meaning.specs.Whole.{write, output}
-use Rattle.meaning.specs.declared.Checked.TheVariants.{Fine}
 use Rattle.meaning.specs.declared.Fields.{Fields}
 use Rattle.meaning.specs.declared.Pair.{Pair}
 use Rattle.meaning.specs.declared.Part.{Part}
-use Rattle.meaning.specs.declared.Wrote.{Wrote}
-use Rattle.meaning.specs.declared.Wrote.TheVariants as wrote
+use Rattle.meaning.specs.Results.{Wrote}
 use Rattle.rows.proofs.splits.Parts.{split-fine}
 use Rattle.rows.specs.Rows.{in_row, Given, laid, part_numbers}
 use Rattle.sheet.specs.Sheet.{has, if_room, SheetWrites, SheetSplits}
@@ -36,17 +35,17 @@ counted n row h = ap (λ (l : List ℤ). get_or l 0 (pos 0)) (sets-eq (counts n)
 
 -- an answer of 0 was accepted, and the row's first number is the length
 wrote-told : (room : Bool) (w : Wrote) (row : List ℤ) {after : List ℤ} {n : ℕ} → (room ≡ true → 2 ≤ length row)
-    → Given (if_room room (in_row 2 (wrote_answer w))) row after 0 → get_or after 0 (pos 0) ≡ pos n → (room ≡ true) × (w ≡ wrote.Length n)
+    → Given (if_room room (in_row 2 (wrote_answer w))) row after 0 → get_or after 0 (pos 0) ≡ pos n → (room ≡ true) × (w ≡ Ok n)
 wrote-told false w row h given e = absurd (omega (arith, given.number))
-wrote-told true (wrote.Length k) row {after} {n} h given e =
+wrote-told true (Ok k) row {after} {n} h given e =
     let same : pos k ≡ pos n = sym (counted k row (h refl)) ∙ ap (λ (l : List ℤ). get_or l 0 (pos 0)) (sym given.row) ∙ e in
     (refl, cc)
-wrote-told true (wrote.Refused why) row h given e = absurd (eqb-false (number why) 0 (refusal-number why) (sym given.number))
+wrote-told true (Err why) row h given e = absurd (eqb-false (number why) 0 (refusal-number why) (sym given.number))
 
 module _ (pair : Pair) (book : Book) (f : Fields) where
   write-told : (p out : List ℕ) (row : List ℤ) {n : ℕ} {out_after : List ℕ} {row_after : List ℤ}
       → SheetWrites pair book p f out row 0 out_after row_after → get_or row_after 0 (pos 0) ≡ pos n
-      → (write pair book p f out ≡ wrote.Length n) × (out_after ≡ output pair book p f out)
+      → (write pair book p f out ≡ Ok n) × (out_after ≡ output pair book p f out)
   write-told p out row w e =
       let t = wrote-told (has 2 row) (write pair book p f out) row (leb-true 2 (length row)) w.0 e in
       (t.1, w.1 ∙ when_true (output pair book p f out) out t.0)
@@ -71,7 +70,7 @@ SplitsInto ps row more r row_after more_after =
     × (more_after ≡ laid (part_numbers (ps ++ replicate (256 - length ps) no_part)) more)
 
 module _ (row more : List ℤ) (room : 2 ≤ length row) (rooms : 768 ≤ length more) {r : ℕ} {row_after more_after : List ℤ} where
-  pub splits-into : (p : List ℕ) → bytes_check p ≡ Fine → SheetSplits p row more r row_after more_after
+  pub splits-into : (p : List ℕ) → bytes_check p ≡ Ok tt → SheetSplits p row more r row_after more_after
       → SplitsInto (parts p) row more r row_after more_after
   splits-into p h s =
       let fine = split-fine p h in

@@ -1,5 +1,6 @@
 -- The answers of mending and undoing fit a row: a mended pattern has at most 256 bytes, and its changes stand in it; changes undone
 -- leave no more bytes than there were.
+use Rattle.std.specs.Prelude.{Ok, Err}
 use mathlib.Core.Bool.{true}
 use mathlib.Core.List.{List, [], ◌∷◌, ◌++◌}
 use mathlib.Core.Path.{◌≡◌, refl}
@@ -7,7 +8,7 @@ use Prim.Native.Nat.{ℕ, zero, suc, ◌+◌, ◌-◌, ◌≤◌}
 use native.Mathlib.Omega.{arith}
 use lib.Dec.{leb}
 use lib.IntN.{ℤ}
-use lib.ListN.{length, get_or, take, drop, replicate, length-drop, length-append, length-replicate}
+use lib.ListN.{length, take, drop, replicate, length-drop, length-append, length-replicate}
 use lib.Seq.{length-take-le}
 use mir.Syntax.{w32}
 use mir.Val.{SFits}
@@ -18,8 +19,7 @@ use Rattle.meaning.specs.Answers.{◌else◌, refuse_unless, pattern_check, curr
 use Rattle.meaning.specs.Mending.{no_change, fits, all_fit, undone_from, undone_by, undo}
 use Rattle.meaning.specs.Trust.{trust_check}
 use Rattle.meaning.specs.declared.Change.{Change}
-use Rattle.meaning.specs.declared.Checked.{Checked}
-use Rattle.meaning.specs.declared.Checked.TheVariants.{Fine, Refused}
+use Rattle.meaning.specs.Results.{Checked}
 use Rattle.meaning.specs.declared.Edition.{Edition}
 use Rattle.meaning.specs.declared.Refusal.TheVariants.{NoRoom, MendedTooLong}
 use Rattle.mending.proofs.undoing.Laws.{fits-is}
@@ -54,11 +54,11 @@ standing-fit p at (c ∷ cs) h e =
 -- mending
 
 mended-by-fits : (checked : Checked) (t : List ℕ) (cs : List Change) → CheckedFits checked
-    → (checked ≡ Fine → NumberFits (length t) × NumberFits (length cs) × AllChangesFit cs) → MendedFits (mended_by checked t cs)
-mended-by-fits Fine t cs h k =
+    → (checked ≡ Ok tt → NumberFits (length t) × NumberFits (length cs) × AllChangesFit cs) → MendedFits (mended_by checked t cs)
+mended-by-fits (Ok _) t cs h k =
     let fits = k refl in
-    (fits.0, fits.1, all_append cs (replicate (128 - length cs) no_change) fits.2 (none-fit (128 - length cs)), tt)
-mended-by-fits (Refused why) t cs h k = (omega arith, omega arith, none-fit 128, h)
+    (fits.0, fits.1, all_append cs (replicate (128 - length cs) no_change) fits.2 (none-fit (128 - length cs)))
+mended-by-fits (Err why) t cs h k = h
 
 module _ (edition : Edition) (p : List ℕ) (current : ℤ) (room : ℕ) where
   abbrev long : ℕ
@@ -67,7 +67,7 @@ module _ (edition : Edition) (p : List ℕ) (current : ℤ) (room : ℕ) where
   abbrev too_long : Checked
   too_long = refuse_unless (leb long 256) MendedTooLong
 
-  not-long : too_long ≡ Fine → long ≤ 256
+  not-long : too_long ≡ Ok tt → long ≤ 256
   not-long e = leb-true long 256 (fine-unless (leb long 256) MendedTooLong e)
 
   mend-check-fits : NumberFits (length p) → SFits w32 current → CheckedFits (mend_check edition p current room)
@@ -78,7 +78,7 @@ module _ (edition : Edition) (p : List ℕ) (current : ℤ) (room : ℕ) where
       (λ _. else-fits too_long (room_check room long) (unless-fits (leb long 256) MendedTooLong (omega arith, tt))
       (λ e. unless-fits (leb long room) (NoRoom long) (omega (arith, not-long e), tt)))
 
-  fine-short : mend_check edition p current room ≡ Fine → long ≤ 256
+  fine-short : mend_check edition p current room ≡ Ok tt → long ≤ 256
   unfolding mend_check
   fine-short e =
       let behind = (else-fine (trust_check edition p current) (too_long else room_check room long) e).1 in
@@ -109,8 +109,8 @@ undone-shorter p at (c ∷ cs) h e =
     omega (arith, undone-shorter p (c.place + c.after) cs f.inside t.1, f.behind, f.adds, kept-long, length-append (kept ++ stood) rest, length-append kept stood, length-replicate c.before c.byte)
 
 undone-by-fits : (checked : Checked) (t : List ℕ) → CheckedFits checked → NumberFits (length t) → UndoneFits (undone_by checked t)
-undone-by-fits Fine t h k = k
-undone-by-fits (Refused why) t h k = h
+undone-by-fits (Ok _) t h k = k
+undone-by-fits (Err why) t h k = h
 
 pub undo-fits : (p : List ℕ) (cs : List Change) (out : List ℕ) → NumberFits (length p) → UndoneFits (undo p cs out)
 unfolding undo details

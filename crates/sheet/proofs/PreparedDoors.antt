@@ -2,10 +2,9 @@
 -- ones. So it is with a row that was prepared (`prepared-stands`).
 use mathlib.Core.Bool.{true}
 use mathlib.Core.List.{List}
-use mathlib.Core.Path.{◌≡◌, refl}
-use Prim.Native.Nat.{ℕ, ◌≤◌, ◌<◌}
+use mathlib.Core.Path.{◌≡◌}
+use Prim.Native.Nat.{ℕ}
 use lib.IntN.{ℤ}
-use lib.ListN.{length}
 use Rattle.meaning.specs.Answers.{wrote_answer, read_answer, list_answer, verdict_answer}
 use Rattle.meaning.specs.Lists as lists
 use Rattle.meaning.specs.Lists.{read_list, list_rows}

@@ -1,5 +1,6 @@
 -- The answers about stamps fit a row: a place that is refused is in the text or at its end, the nanoseconds are those of a day, and what is
 -- written has at most 35 bytes.
+use Rattle.std.specs.Prelude.{Ok, Err}
 use mathlib.Core.Bool.{not}
 use mathlib.Core.List.{List}
 use mathlib.Core.Path.{◌≡◌, refl}
@@ -15,18 +16,15 @@ use Rattle.meaning.specs.Answers.{◌else◌, refuse_unless, fields_check, room_
 use Rattle.meaning.specs.Days.{day_check}
 use Rattle.meaning.specs.StampGrammar.{Ruled, reads, halts, DateTime, date_time, whole}
 use Rattle.meaning.specs.Stamps.{in_range, date_time_check, stamp_of, stamped_by, stamped_in, read_stamp, stamp_fields, four_digits, offset_written, stamp_check, stamp_text, stamp_write_check, write_stamp}
-use Rattle.meaning.specs.declared.Checked.{Checked}
-use Rattle.meaning.specs.declared.Checked.TheVariants.{Fine, Refused}
+use Rattle.meaning.specs.Results.{Checked, Stamped}
 use Rattle.meaning.specs.declared.Refusal.TheVariants.{NoRoom, StampRange, LeapSecond, StampYear, StampOffset}
 use Rattle.meaning.specs.declared.Stamp.{Stamp}
-use Rattle.meaning.specs.declared.Stamped.{Stamped}
-use Rattle.meaning.specs.declared.Stamped.TheVariants as stamped
 use Rattle.stamps.proofs.writing.Lengths.{text-short}
 use Rattle.rows.proofs.Fits.{text-fits}
 use Rattle.rows.proofs.WriteFits.{fields_fit, wrote-fits}
 use Rattle.sheet.proofs.Fits.{day-fits}
 use Rattle.rows.proofs.entries.Fits.{else-fits, unless-fits}
-use Rattle.rows.specs.Fits.{NumberFits, WhyFits, CheckedFits, WroteFits, StampedFits}
+use Rattle.rows.specs.Fits.{NumberFits, WhyFits, CheckedFits, CountFits, StampedFits}
 
 -- reading: 26, 27, 28, 17
 
@@ -42,16 +40,16 @@ date-time-fits t =
 
 -- what is refused
 abbrev RefusalFits : Stamped → Type 0
-RefusalFits (stamped.Read t) = Unit
-RefusalFits (stamped.Refused why) = WhyFits why
+RefusalFits (Ok t) = Unit
+RefusalFits (Err why) = WhyFits why
 
 by_fits : (checked : Checked) (r : Stamped) → CheckedFits checked → RefusalFits r → RefusalFits (stamped_by checked r)
-by_fits Fine r h k = k
-by_fits (Refused why) r h k = h
+by_fits (Ok _) r h k = k
+by_fits (Err why) r h k = h
 
 in-fits : (s : List ℕ) (x : Ruled DateTime) → NumberFits (length s) → whole date_time s ≡ x → RefusalFits (stamped_in x)
 unfolding details
-in-fits s (reads t at) h e = by_fits (date_time_check t) (stamped.Read (stamp_of t)) (date-time-fits t) tt
+in-fits s (reads t at) h e = by_fits (date_time_check t) (Ok (stamp_of t)) (date-time-fits t) tt
 in-fits s (halts place) h e = (omega (arith, halts-inside s e), tt)
 
 refusal-fits : (s : List ℕ) → NumberFits (length s) → RefusalFits (read_stamp s)
@@ -60,8 +58,8 @@ refusal-fits s h = by_fits (text_check s) (stamped_in (whole date_time s)) (text
 
 -- what is read has passed the checks of a writer
 answer-fits : (s : List ℕ) (r : Stamped) → read_stamp s ≡ r → RefusalFits r → StampedFits r
-answer-fits s (stamped.Read t) e h = omega (arith, (sizes t (stamp-fine t (read-writes s t e))).nanos)
-answer-fits s (stamped.Refused why) e h = h
+answer-fits s (Ok t) e h = omega (arith, (sizes t (stamp-fine t (read-writes s t e))).nanos)
+answer-fits s (Err why) e h = h
 
 pub read-stamp-fits : (s : List ℕ) → NumberFits (length s) → StampedFits (read_stamp s)
 read-stamp-fits s h = answer-fits s (read_stamp s) refl (refusal-fits s h)
@@ -78,7 +76,7 @@ stamp-check-fits t =
     (λ _. else-fits year (day else offset) (unless-fits (four_digits t.year) StampYear (omega arith, tt))
     (λ _. else-fits day offset (day-fits t.year t.month t.day) (λ _. unless-fits (offset_written t) StampOffset (omega arith, tt))))
 
-pub write-stamp-fits : (t : Stamp) (out : List ℕ) → WroteFits (write_stamp t out)
+pub write-stamp-fits : (t : Stamp) (out : List ℕ) → CountFits (write_stamp t out)
 unfolding write_stamp stamp_write_check details
 write-stamp-fits t out =
     let n = length (stamp_text t) in

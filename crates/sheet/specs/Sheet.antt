@@ -1,7 +1,7 @@
 -- What each function for C and Rust promises of the number r that it returns and of the lent rows afterwards. Where a lent row
 -- is too small for the answer, r is 100, where a number stands for no choices or for no mark, 101, where a row is no book, 102, where no line is left,
 -- 103, where changes do not fit, 104, and nothing is altered.
-use Rattle.std.specs.Prelude.{Bool, List, [], ◌≡◌, ℕ, leb, ℤ, length}
+use Rattle.std.specs.Prelude.{Bool, List, [], ◌≡◌, ℕ, leb, ℤ, length, Result}
 use Rattle.meaning.specs.Answers.{Answer, split_answer, wrote_answer, read_answer, list_answer, offset_answer, day_number_answer, day_answer, stamp_answer, verdict_answer}
 use Rattle.meaning.specs.Bytes.{when, both}
 use Rattle.meaning.specs.Days.{DayOf, day_number}
@@ -18,6 +18,7 @@ use Rattle.meaning.specs.declared.Day.{Day}
 use Rattle.meaning.specs.declared.Edition.{Edition}
 use Rattle.meaning.specs.declared.Fields.{Fields}
 use Rattle.meaning.specs.declared.Pair.{Pair}
+use Rattle.meaning.specs.declared.Refusal.{Refusal}
 use Rattle.meaning.specs.declared.Stamp.{Stamp}
 use Rattle.meaning.specs.declared.Verdict.{Verdict}
 use Rattle.rows.specs.Changes.{mended_counts, mend_numbers, holds_changes, changes_held, undone_by, in_undone}
@@ -110,12 +111,12 @@ abbrev pub SheetUnits : List ℕ → List ℤ → List ℤ → ℕ → List ℤ 
 SheetUnits p = InTwoRows (split_answer (split p)) (unit_entries p) 256
 
 -- an answer that `Says` allows, which leaves open the failing record
-pub record Checks (edition : Edition) (p : List ℕ) (current : ℤ) (answer : Verdict → Answer) (row : List ℤ) (r : ℕ) (row_after : List ℤ) : Type 0 where
-  pub verdict : Verdict
+pub record Checks (edition : Edition) (p : List ℕ) (current : ℤ) (answer : Result Verdict Refusal → Answer) (row : List ℤ) (r : ℕ) (row_after : List ℤ) : Type 0 where
+  pub verdict : Result Verdict Refusal
   pub says : Says edition p current verdict
   pub given : Given (answer verdict) row row_after r
 
-abbrev pub verdict_in : List ℤ → Verdict → Answer
+abbrev pub verdict_in : List ℤ → Result Verdict Refusal → Answer
 verdict_in row verdict = if_room (has 10 row) (in_row 10 (verdict_answer verdict))
 
 abbrev pub SheetChecks : Edition → List ℕ → ℤ → List ℤ → ℕ → List ℤ → Type 0

@@ -16,12 +16,12 @@ ghost use Rattle.sheet.specs.Sheet.{SheetWrites, SheetReads, SheetReadsWith, She
 
 use crate::numbers::{choices_of, edition_of, is_marked};
 use calendar::{day_number, day_of};
-use meaning::{Checked, Choices, Edition, Fields, Pair};
-use reader::checks::once_check;
+use fields::checks::trust_check;
+use meaning::{Choices, Edition, Fields, Pair};
 use reader::offset::parse_offset;
 use reader::plain;
-use rows::answers::{give_offset, give_refusal, give_wrote};
-use rows::days::{give_day, give_day_number};
+use rows::answers::{give_counted, give_integer, give_refusal};
+use rows::days::give_day;
 use rows::readings::read_row;
 use rows::splits::give_split;
 use rows::units::give_units;
@@ -35,7 +35,7 @@ fn write(pair: Pair, book: &[u8], pattern: &[u8], f: Fields, out: &mut [u8], row
     if row.len() < 2 {
         return 100;
     }
-    give_wrote(format_with(pair, book, pattern, f, out), row)
+    give_counted(format_with(pair, book, pattern, f, out), row)
 }
 
 fn read(
@@ -52,9 +52,9 @@ fn read(
         return 100;
     }
     let edition = choices.edition;
-    match once_check(edition, pattern, year) {
-        Checked::Fine => read_row(choices, book, pattern, text, year, row),
-        Checked::Refused(why) => give_refusal(why, 48, row),
+    match trust_check(edition, pattern, year) {
+        Ok(()) => read_row(choices, book, pattern, text, year, row),
+        Err(why) => give_refusal(why, 48, row),
     }
 }
 
@@ -174,7 +174,7 @@ pub extern "C" fn sheet_parse_offset(text: &[u8], answer: &mut [i64]) -> u32
     if answer.len() < 2 {
         return 100;
     }
-    give_offset(parse_offset(text), answer)
+    give_integer(parse_offset(text), answer)
 }
 
 // The row: how many parts and 0, or the refusal's details. The parts: kind, start and length of each of 256; untouched where
@@ -254,5 +254,5 @@ pub extern "C" fn sheet_day_number(year: i32, month: u32, day: u32, answer: &mut
     if answer.len() <= 1 {
         return 100;
     }
-    give_day_number(day_number(year, month, day), answer)
+    give_integer(day_number(year, month, day), answer)
 }

@@ -3,7 +3,7 @@ ghost use Rattle.std.specs.Prelude.{◌≤◌, ◌<◌, length};
 ghost use Rattle.meaning.specs.Answers.{list_answer};
 ghost use Rattle.meaning.specs.Lists.{rows_of, read_line};
 ghost use Rattle.meaning.specs.OpenedBooks.{book_in};
-ghost use Rattle.rows.specs.Fits.{ListedFits};
+ghost use Rattle.rows.specs.Fits.{CountFits};
 ghost use Rattle.rows.specs.Rows.{in_row, Given, in_line};
 ghost use Rattle.sheet.specs.Sheet.{SheetReadsList, SheetReadsLine};
 
@@ -11,19 +11,9 @@ use crate::numbers::{choices_of, is_book};
 use crate::read;
 use lists::lines::{line_end, next_line};
 use lists::read_list;
-use meaning::{Choices, Listed};
-use rows::answers::{give_count, give_refusal};
+use meaning::Choices;
+use rows::answers::give_counted;
 use rows::entries::{entry, lay};
-
-fn give_listed(listed: Listed, row: &mut [i64]) -> u32
-    requires { (2 ≤ length row.old) × ListedFits listed }
-    ensures { Given (in_row 2 (list_answer listed)) row.old row.new result }
-{
-    match listed {
-        Listed::Lines(n) => give_count(n as u64, row),
-        Listed::Refused(why) => give_refusal(why, 2, row),
-    }
-}
 
 // A line that is there: where it starts and ends and the next one starts, and behind these its reading.
 fn give_line(
@@ -75,7 +65,7 @@ pub extern "C" fn sheet_read_list(
         return 100;
     }
     let choices = choices_of(choices);
-    give_listed(
+    give_counted(
         read_list(
             choices, book, pattern, text, year, days, months, years, codes,
         ),

@@ -6,7 +6,7 @@ use crate::numbers::{choices_of, is_book, pair_of};
 use crate::{read, write};
 use books::{read_book, write_book};
 use meaning::Fields;
-use rows::answers::give_wrote;
+use rows::answers::give_counted;
 
 // A book opened: its bytes into a lent row of 1,344 bytes or more. The row of the answer: 1344 and 0, or the refusal's details.
 #[unsafe(no_mangle)]
@@ -16,7 +16,7 @@ pub extern "C" fn sheet_book_read(bytes: &[u8], book: &mut [u8], answer: &mut [i
     if answer.len() < 2 {
         return 100;
     }
-    give_wrote(read_book(bytes, book), answer)
+    give_counted(read_book(bytes, book), answer)
 }
 
 // The book of a lent row, written as bytes of version 1; an empty row is English. Another row than an opened book's is none: 102, and
@@ -31,7 +31,7 @@ pub extern "C" fn sheet_book_write(book: &[u8], out: &mut [u8], answer: &mut [i6
     if answer.len() < 2 {
         return 100;
     }
-    give_wrote(write_book(book, out), answer)
+    give_counted(write_book(book, out), answer)
 }
 
 // A writer with a reader's choices, of which the pair counts, and the names of a lent book. The row as before.

@@ -3,7 +3,7 @@ ghost use Rattle.sheet.specs.Numbers.{marks_unknown};
 ghost use Rattle.sheet.specs.Sheet.{SheetReadsStamp, SheetWritesStamp};
 
 use meaning::Stamp;
-use rows::answers::give_wrote;
+use rows::answers::give_counted;
 use rows::stamps::give_stamped;
 use stamps::{read_stamp, write_stamp};
 
@@ -48,5 +48,5 @@ pub extern "C" fn sheet_rfc_write(
         offset,
         unknown: unknown == 1,
     };
-    give_wrote(write_stamp(stamp, out), answer)
+    give_counted(write_stamp(stamp, out), answer)
 }

@@ -1,26 +1,24 @@
 -- The answers of the rules in code, from what the rules of the definitions give.
-use Rattle.std.specs.Prelude.{List, ℕ, ◌+◌, ◌*◌}
+use Rattle.std.specs.Prelude.{List, ℕ, ◌+◌, ◌*◌, Result, Ok, Err}
 use Rattle.meaning.specs.StampGrammar.{Ruled, reads, halts, NumOffset, DateTime}
 use Rattle.numerals.specs.Numbers.{pair_at}
-use Rattle.stamps.specs.declared.grammar.Fraction.{Fraction}
-use Rattle.stamps.specs.declared.grammar.Fraction.TheVariants as fraction
+use Rattle.stamps.specs.declared.grammar.Halted.{Halted}
 use Rattle.stamps.specs.declared.grammar.Parts.{Parts}
-use Rattle.stamps.specs.declared.grammar.Scanned.{Scanned}
-use Rattle.stamps.specs.declared.grammar.Scanned.TheVariants as scanned
 use Rattle.stamps.specs.declared.grammar.Shift.{Shift}
-use Rattle.stamps.specs.declared.grammar.Zone.{Zone}
-use Rattle.stamps.specs.declared.grammar.Zone.TheVariants as zone
 
-abbrev pub fraction_by : Ruled ℕ → Fraction
-fraction_by (reads n at) = fraction.Nanos n at
-fraction_by (halts at) = fraction.Halted at
+abbrev pub halted : ℕ → Halted
+halted at = record { place = at }
+
+abbrev pub fraction_by : Ruled ℕ → Result (ℕ × ℕ) Halted
+fraction_by (reads n at) = Ok (n, at)
+fraction_by (halts at) = Err (halted at)
 
 abbrev pub shift_of : NumOffset → Shift
 shift_of o = record { negative = o.negative; hour = o.hour; minute = o.minute }
 
-abbrev pub zone_by : Ruled NumOffset → Zone
-zone_by (reads o at) = zone.Shifted (shift_of o) at
-zone_by (halts at) = zone.Halted at
+abbrev pub zone_by : Ruled NumOffset → Result (Shift × ℕ) Halted
+zone_by (reads o at) = Ok (shift_of o, at)
+zone_by (halts at) = Err (halted at)
 
 abbrev pub parts_of : DateTime → Parts
 parts_of t =
@@ -49,9 +47,9 @@ parts_in s nanos shift =
       shift = shift;
     }
 
-abbrev pub scanned_by : Ruled DateTime → Scanned
-scanned_by (reads t at) = scanned.Read (parts_of t)
-scanned_by (halts at) = scanned.Halted at
+abbrev pub scanned_by : Ruled DateTime → Result Parts Halted
+scanned_by (reads t at) = Ok (parts_of t)
+scanned_by (halts at) = Err (halted at)
 
 -- and the other way
 

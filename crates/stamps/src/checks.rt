@@ -6,7 +6,7 @@ use calendar::numbers::day_check;
 use fields::checks::fields_check;
 use fields::signed::{is_negative, size};
 use meaning::unit_sizes::SECS_PER_MINUTE;
-use meaning::{Checked, Fields, Refusal, Stamp};
+use meaning::{Fields, Refusal, Stamp};
 
 // With what is always in range for the fields that a stamp does not have.
 fn fields_of(t: Stamp) -> Fields
@@ -27,14 +27,7 @@ fn fields_of(t: Stamp) -> Fields
 fn has_four_digits(year: i32) -> bool
     ensures { result ≡ stamps.four_digits year }
 {
-    if is_negative(year) {
-        return false;
-    }
-    let n = size(year);
-    if n < 1 {
-        return false;
-    }
-    n <= 9999
+    !is_negative(year) && (1..=9999).contains(&size(year))
 }
 
 // 29
@@ -42,27 +35,21 @@ fn is_written(t: Stamp) -> bool
     ensures { result ≡ stamps.offset_written t }
 {
     let n = size(t.offset);
-    if n % SECS_PER_MINUTE != 0 {
-        return false;
-    }
-    if t.unknown { n == 0 } else { true }
+    n % SECS_PER_MINUTE == 0 && (!t.unknown || n == 0)
 }
 
 // 4, 28, 17, 29
-pub fn stamp_check(t: Stamp) -> Checked
+#[tactic(auto, unfolding(meaning::specs::Stamps::stamp_check))]
+pub fn stamp_check(t: Stamp) -> Result<(), Refusal>
     ensures { result ≡ stamps.stamp_check t }
 {
-    if let Checked::Refused(why) = fields_check(fields_of(t)) {
-        return Checked::Refused(why);
-    }
+    fields_check(fields_of(t))?;
     if !has_four_digits(t.year) {
-        return Checked::Refused(Refusal::StampYear);
+        return Err(Refusal::StampYear);
     }
-    if let Checked::Refused(why) = day_check(size(t.year), t.month, t.day) {
-        return Checked::Refused(why);
-    }
+    day_check(size(t.year), t.month, t.day)?;
     if !is_written(t) {
-        return Checked::Refused(Refusal::StampOffset);
+        return Err(Refusal::StampOffset);
     }
-    Checked::Fine
+    Ok(())
 }

@@ -17,24 +17,12 @@ pub struct Digits {
     pub next: usize,
 }
 
-#[derive(Clone, Copy)]
-pub enum Fraction {
-    Halted(usize),
-    Nanos(u32, usize),
-}
-
 // What is behind the sign of an offset, and whether that is a minus.
 #[derive(Clone, Copy)]
 pub struct Shift {
     pub negative: bool,
     pub hour: u32,
     pub minute: u32,
-}
-
-#[derive(Clone, Copy)]
-pub enum Zone {
-    Halted(usize),
-    Shifted(Shift, usize),
 }
 
 // What a date-time says.
@@ -50,10 +38,10 @@ pub struct Parts {
     pub shift: Shift,
 }
 
+// Where a text can't go on as a date-time.
 #[derive(Clone, Copy)]
-pub enum Scanned {
-    Halted(usize),
-    Read(Parts),
+pub struct Halted {
+    pub place: usize,
 }
 
 // The digits from a place on. Those past the ninth have no weight.
@@ -63,6 +51,7 @@ fn fraction_digits(text: &[u8], at: usize) -> Digits
 {
     let mut nanos: u32 = 0;
     let mut weight: u32 = 100000000;
+    // A loop by hand: it adds up the digits and finds their end in one pass.
     let mut i = at;
     while i < text.len() {
         let b = text[i];
@@ -76,66 +65,60 @@ fn fraction_digits(text: &[u8], at: usize) -> Digits
     Digits { nanos, next: i }
 }
 
-// "." and at least one digit, or nothing.
-fn optional_secfrac(text: &[u8], at: usize) -> Fraction
+// "." and at least one digit, or nothing: the nanoseconds, and the place behind.
+fn optional_secfrac(text: &[u8], at: usize) -> Result<(u32, usize), Halted>
     ensures { result ≡ fraction_by (rfc.optional_secfrac text.now at) }
 {
     if text.len() <= at {
-        return Fraction::Nanos(0, at);
+        return Ok((0, at));
     }
     if text[at] != b'.' {
-        return Fraction::Nanos(0, at);
+        return Ok((0, at));
     }
     let first = at + 1;
     let found = fraction_digits(text, first);
     if found.next == first {
-        return Fraction::Halted(first);
+        return Err(Halted { place: first });
     }
-    Fraction::Nanos(found.nanos, found.next)
+    Ok((found.nanos, found.next))
 }
 
 fn is_z(b: u8) -> bool
     ensures { result ≡ rfc.is_z b }
 {
-    if b == b'Z' {
-        return true;
-    }
-    b == b'z'
+    matches!(b, b'Z' | b'z')
 }
 
 fn is_sign(b: u8) -> bool
     ensures { result ≡ rfc.is_sign b }
 {
-    if b == b'+' {
-        return true;
-    }
-    b == b'-'
+    matches!(b, b'+' | b'-')
 }
 
 // A sign, two digits, a colon, two digits.
-fn num_offset(text: &[u8], at: usize) -> Zone
+fn num_offset(text: &[u8], at: usize) -> Result<(Shift, usize), Halted>
     ensures { result ≡ zone_by (rfc.time_numoffset text.now at) }
 {
     if text.len() <= at {
-        return Zone::Halted(at);
+        return Err(Halted { place: at });
     }
     let sign = text[at];
     if !is_sign(sign) {
-        return Zone::Halted(at);
+        return Err(Halted { place: at });
     }
     let wrong = first_wrong(5, 11, text, at + 1);
     if wrong != at + 6 {
-        return Zone::Halted(wrong);
+        return Err(Halted { place: wrong });
     }
     let shift = Shift {
         negative: sign == b'-',
         hour: pair_at(text, at + 1),
         minute: pair_at(text, at + 4),
     };
-    Zone::Shifted(shift, at + 6)
+    Ok((shift, at + 6))
 }
 
-fn time_offset(text: &[u8], at: usize) -> Zone
+fn time_offset(text: &[u8], at: usize) -> Result<(Shift, usize), Halted>
     ensures { result ≡ zone_by (rfc.time_offset text.now at) }
 {
     if at < text.len() {
@@ -145,7 +128,7 @@ fn time_offset(text: &[u8], at: usize) -> Zone
                 hour: 0,
                 minute: 0,
             };
-            return Zone::Shifted(none, at + 1);
+            return Ok((none, at + 1));
         }
     }
     num_offset(text, at)
@@ -169,25 +152,17 @@ fn parts_in(text: &[u8], nanos: u32, shift: Shift) -> Parts
 }
 
 // The places up to the fraction, then the fraction, the offset and the end.
-pub fn date_time(text: &[u8]) -> Scanned
+pub fn date_time(text: &[u8]) -> Result<Parts, Halted>
     ensures { result ≡ scanned_by (rfc.whole rfc.date_time text.now) }
 {
     let wrong = first_wrong(19, 0, text, 0);
     if wrong != 19 {
-        return Scanned::Halted(wrong);
+        return Err(Halted { place: wrong });
     }
-    match optional_secfrac(text, 19) {
-        Fraction::Halted(place) => Scanned::Halted(place),
-        Fraction::Nanos(nanos, behind) => {
-            match time_offset(text, behind) {
-                Zone::Halted(place) => Scanned::Halted(place),
-                Zone::Shifted(shift, next) => {
-                    if next != text.len() {
-                        return Scanned::Halted(next);
-                    }
-                    Scanned::Read(parts_in(text, nanos, shift))
-                }
-            }
-        }
+    let (nanos, behind) = optional_secfrac(text, 19)?;
+    let (shift, next) = time_offset(text, behind)?;
+    if next != text.len() {
+        return Err(Halted { place: next });
     }
+    Ok(parts_in(text, nanos, shift))
 }

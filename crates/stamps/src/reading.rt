@@ -1,6 +1,5 @@
 // A date-time that was read: the refusals 26, 27, 28 and 17, in that order, and the stamp that it stands for.
-ghost use Rattle.std.specs.Prelude.{true, ◌≡◌, ◌≤◌, ◌<◌, eqb};
-ghost use Rattle.meaning.specs.Answers.{within};
+ghost use Rattle.std.specs.Prelude.{true, ◌≡◌, ◌≤◌, ◌<◌, eqb, Ok};
 ghost use Rattle.meaning.specs.Bytes.{both};
 ghost use Rattle.meaning.specs.Numerals.{integer};
 ghost use Rattle.meaning.specs.Stamps as stamps;
@@ -9,60 +8,41 @@ ghost use Rattle.stamps.specs.Found.{date_time_of};
 use crate::grammar::Parts;
 use calendar::numbers::day_check;
 use meaning::unit_sizes::{NANOS_PER_SEC, SECS_PER_HOUR, SECS_PER_MINUTE};
-use meaning::{Checked, Refusal, Stamp, Stamped};
-
-fn is_between(least: u32, most: u32, n: u32) -> bool
-    ensures { result ≡ within least most n }
-{
-    if n < least {
-        return false;
-    }
-    n <= most
-}
+use meaning::{Refusal, Stamp};
 
 // "hour to 23, minute to 59", of the time and of the offset.
 fn is_clock(hour: u32, minute: u32) -> bool
     ensures { result ≡ stamps.is_clock hour minute }
 {
-    if 23 < hour {
-        return false;
-    }
-    minute <= 59
+    hour <= 23 && minute <= 59
 }
 
 // 26
+#[tactic(auto, unfolding(meaning::specs::Stamps::in_range))]
 fn in_range(t: Parts) -> bool
     ensures { result ≡ stamps.in_range (date_time_of t) }
 {
-    let shift = t.shift;
-    if !is_between(1, 12, t.month) {
-        return false;
-    }
-    if !is_between(1, 31, t.day) {
-        return false;
-    }
-    if !is_clock(t.hour, t.minute) {
-        return false;
-    }
-    if 60 < t.second {
-        return false;
-    }
-    is_clock(shift.hour, shift.minute)
+    (1..=12).contains(&t.month)
+        && (1..=31).contains(&t.day)
+        && is_clock(t.hour, t.minute)
+        && t.second <= 60
+        && is_clock(t.shift.hour, t.shift.minute)
 }
 
 // 26, 27, 28, 17
-fn check(t: Parts) -> Checked
+#[tactic(auto, unfolding(meaning::specs::Stamps::date_time_check))]
+fn check(t: Parts) -> Result<(), Refusal>
     requires { t.year < 10000 }
     ensures { result ≡ stamps.date_time_check (date_time_of t) }
 {
     if !in_range(t) {
-        return Checked::Refused(Refusal::StampRange);
+        return Err(Refusal::StampRange);
     }
     if t.second == 60 {
-        return Checked::Refused(Refusal::LeapSecond);
+        return Err(Refusal::LeapSecond);
     }
     if t.year == 0 {
-        return Checked::Refused(Refusal::StampYear);
+        return Err(Refusal::StampYear);
     }
     day_check(t.year, t.month, t.day)
 }
@@ -86,7 +66,7 @@ fn signed(negative: bool, n: u32) -> i32
 fn is_unknown(negative: bool, n: u32) -> bool
     ensures { result ≡ both negative (eqb n 0) }
 {
-    if negative { n == 0 } else { false }
+    negative && n == 0
 }
 
 fn stamp_of(t: Parts) -> Stamp
@@ -106,12 +86,10 @@ fn stamp_of(t: Parts) -> Stamp
     }
 }
 
-pub fn accept(t: Parts) -> Stamped
+pub fn accept(t: Parts) -> Result<Stamp, Refusal>
     requires { (t.year < 10000) × (t.nanos < 1000000000) }
-    ensures { result ≡ stamps.stamped_by (stamps.date_time_check (date_time_of t)) (Stamped.Read (stamps.stamp_of (date_time_of t))) }
+    ensures { result ≡ stamps.stamped_by (stamps.date_time_check (date_time_of t)) (Ok (stamps.stamp_of (date_time_of t))) }
 {
-    match check(t) {
-        Checked::Refused(why) => Stamped::Refused(why),
-        Checked::Fine => Stamped::Read(stamp_of(t)),
-    }
+    check(t)?;
+    Ok(stamp_of(t))
 }

@@ -8,44 +8,30 @@ use numerals::is_digit;
 fn is_t(b: u8) -> bool
     ensures { result ≡ grammar.is_t b }
 {
-    if b == b'T' {
-        return true;
-    }
-    b == b't'
+    matches!(b, b'T' | b't')
 }
 
 // Whether a place of the shape takes a byte.
+#[tactic(auto, unfolding(crate::specs::Shape::takes))]
 fn fits(i: usize, b: u8) -> bool
     ensures { result ≡ takes i b }
 {
-    if i == 4 {
-        return b == b'-';
+    match i {
+        4 | 7 => b == b'-',
+        10 => is_t(b),
+        13 | 16 => b == b':',
+        _ => is_digit(b),
     }
-    if i == 7 {
-        return b == b'-';
-    }
-    if i == 10 {
-        return is_t(b);
-    }
-    if i == 13 {
-        return b == b':';
-    }
-    if i == 16 {
-        return b == b':';
-    }
-    is_digit(b)
 }
 
 fn search(count: usize, shape: usize, text: &[u8], at: usize) -> usize
     requires { (at + count ≤ length text.now) × (shape + count ≤ 19) }
     ensures { result ≡ first_wrong count shape at text.now }
 {
-    let mut i = 0;
-    while i < count {
+    for i in 0..count {
         if !fits(shape + i, text[at + i]) {
             return at + i;
         }
-        i += 1;
     }
     at + count
 }

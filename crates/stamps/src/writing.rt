@@ -1,9 +1,8 @@
 // The text of a stamp, laid into a lent output, and how long it is.
-ghost use Rattle.std.specs.Prelude.{◌∷◌, ◌++◌, ◌≡◌, ◌+◌, ◌/◌, ◌%◌, ◌≤◌, ◌<◌, length};
+ghost use Rattle.std.specs.Prelude.{◌∷◌, ◌++◌, ◌≡◌, ◌+◌, ◌/◌, ◌%◌, ◌≤◌, ◌<◌, length, Ok};
 ghost use Rattle.laws.specs.Laid.{Laid};
 ghost use Rattle.meaning.specs.Bytes.{num, minus, colon};
 ghost use Rattle.meaning.specs.Stamps as stamps;
-ghost use Rattle.meaning.specs.declared.Checked.TheVariants.{Fine};
 
 use digits::laying::{put_byte, put_bytes};
 use digits::numbers::{put_marked, put_nine, zero_padded};
@@ -55,7 +54,7 @@ fn put_offset(t: Stamp, out: &mut [u8], at: usize) -> usize
 }
 
 fn offset_length(t: Stamp) -> usize
-    requires { stamps.stamp_check t ≡ Fine }
+    requires { stamps.stamp_check t ≡ Ok tt }
     ensures { result ≡ length (stamps.stamp_offset t) }
 {
     if t.unknown {
@@ -68,7 +67,7 @@ fn offset_length(t: Stamp) -> usize
 }
 
 pub fn stamp_length(t: Stamp) -> usize
-    requires { stamps.stamp_check t ≡ Fine }
+    requires { stamps.stamp_check t ≡ Ok tt }
     ensures { result ≡ length (stamps.stamp_text t) }
 {
     if t.nanos % NANOS_PER_SEC == 0 {
@@ -78,7 +77,7 @@ pub fn stamp_length(t: Stamp) -> usize
 }
 
 pub fn put_stamp(t: Stamp, out: &mut [u8]) -> usize
-    requires { (stamps.stamp_check t ≡ Fine) × (length (stamps.stamp_text t) ≤ length out.old) }
+    requires { (stamps.stamp_check t ≡ Ok tt) × (length (stamps.stamp_text t) ≤ length out.old) }
     ensures { Laid out.old out.new 0 result (stamps.stamp_text t) }
 {
     let second = (t.nanos / NANOS_PER_SEC) as u32;

@@ -1,8 +1,9 @@
 -- Request [12]: the check says yes to the mended pattern, and a pattern to which it says yes stays as it is. That the changes can be
 -- undone is in Undoing, that none is needless in Needless, and which parts the mended pattern has in MendedParts.
+use Rattle.std.specs.Prelude.{Ok, Err, Result}
 use mathlib.Core.Bool.{true}
 use mathlib.Core.List.{List, [], ◌∷◌}
-use mathlib.Core.Path.{◌≡◌, refl, sym, ◌∙◌}
+use mathlib.Core.Path.{◌≡◌, refl, sym, ap, ◌∙◌}
 use Prim.Native.Nat.{ℕ, ◌+◌, ◌≤◌}
 use native.Mathlib.Omega.{arith}
 use lib.Dec.{eqb, leb}
@@ -14,9 +15,9 @@ use Rattle.meaning.specs.Mending.{mend_part, own_change}
 use Rattle.meaning.specs.Splitting.{Content, run, quotes, quoted, unclosed, contents, length_of}
 use Rattle.meaning.specs.Trust.{trust_check, Says}
 use Rattle.meaning.specs.Writing.{step_of, steps}
+use Rattle.meaning.specs.declared.Refusal.{Refusal}
 use Rattle.meaning.specs.declared.Change.{Change}
-use Rattle.meaning.specs.declared.Checked.{Checked}
-use Rattle.meaning.specs.declared.Checked.TheVariants.{Fine, Refused}
+use Rattle.meaning.specs.Results.{Checked}
 use Rattle.meaning.specs.declared.Edition.{Edition}
 use Rattle.meaning.specs.declared.Mended.{Mended}
 use Rattle.meaning.specs.declared.Pair.TheVariants.{Full}
@@ -57,21 +58,21 @@ mended-accepted edition p a short =
     (good-accepted (mended_parts edition cs) (mended-well edition cs w) (mended-good edition cs (accepted-good p a w)) (rw (mended-joined edition cs) at short))
 
 -- a pattern that is accepted passes the checks in the same year
-pub accepted-checks : (edition : Edition) (p q : List ℕ) (current : ℤ) → trust_check edition p current ≡ Fine → Accepted q → trust_check edition q current ≡ Fine
+pub accepted-checks : (edition : Edition) (p q : List ℕ) (current : ℤ) → trust_check edition p current ≡ Ok tt → Accepted q → trust_check edition q current ≡ Ok tt
 unfolding trust_check
 accepted-checks edition p q current h a = rw (fine-pattern q a) (else-fine (pattern_check p) (current_year_check edition current) h).1
 
 -- The check says yes to the mended pattern.
-pub mended-trusted : (edition : Edition) (p : List ℕ) (current : ℤ) → trust_check edition p current ≡ Fine → length (mended edition p) ≤ 256
-    → verdict_of edition (mended edition p) current ≡ Yes
+pub mended-trusted : (edition : Edition) (p : List ℕ) (current : ℤ) → trust_check edition p current ≡ Ok tt → length (mended edition p) ≤ 256
+    → verdict_of edition (mended edition p) current ≡ Ok Yes
 unfolding verdict_of steps
 mended-trusted edition p current h short =
     let a = pattern-fine p (unfold trust_check in (else-fine (pattern_check p) (current_year_check edition current) h).0) in
     rw (accepted-checks edition p (mended edition p) current h (mended-accepted edition p a short), mended-parts edition p)
-    (holds-yes edition 0 (full_steps (mended_parts edition (contents p))) (mended-holds edition (contents p) (parts-stand-well p)))
+    (ap Ok (holds-yes edition 0 (full_steps (mended_parts edition (contents p))) (mended-holds edition (contents p) (parts-stand-well p))))
 
-pub mended-says : (edition : Edition) (p : List ℕ) (current : ℤ) → trust_check edition p current ≡ Fine → length (mended edition p) ≤ 256
-    → Says edition (mended edition p) current Yes
+pub mended-says : (edition : Edition) (p : List ℕ) (current : ℤ) → trust_check edition p current ≡ Ok tt → length (mended edition p) ≤ 256
+    → Says edition (mended edition p) current (Ok Yes)
 mended-says edition p current h short = rw (mended-trusted edition p current h short) at (verdict-says edition (mended edition p) current)
 
 -- A pattern to which the check says yes stays as it is: no part is changed, and none gets spaces.
@@ -109,33 +110,33 @@ nothing-listed edition at (c ∷ cs) h =
     let behind = at + length_of (mend_part edition c) + 0 in
     rw (same-anywhere edition at c, unchanged edition c cs t.0, no_gap edition c cs t.0) (nothing-listed edition behind cs t.1)
 
-checked-yes : (c : Checked) (answer : Verdict) → verdict_by c answer ≡ Yes → answer ≡ Yes
-checked-yes Fine answer h = h
-checked-yes (Refused why) answer h = absurd (let z : ◌≡◌ {A = ℕ} 0 1 = cc in omega arith)
+checked-yes : (c : Checked) (answer : Verdict) → verdict_by c answer ≡ Ok Yes → answer ≡ Yes
+checked-yes (Ok _) answer h = cc
+checked-yes (Err why) answer h = absurd (let z : ◌≡◌ {A = ℕ} 0 1 = cc in omega arith)
 
-pub trusted-stays : (edition : Edition) (p : List ℕ) (current : ℤ) → verdict_of edition p current ≡ Yes → (mended edition p ≡ p) × (changes edition p ≡ [])
+pub trusted-stays : (edition : Edition) (p : List ℕ) (current : ℤ) → verdict_of edition p current ≡ Ok Yes → (mended edition p ≡ p) × (changes edition p ≡ [])
 unfolding verdict_of mended changes steps
 trusted-stays edition p current h =
     let hold = yes-holds edition 0 (full_steps (contents p)) (checked-yes (trust_check edition p current) (first_failing edition 0 (full_steps (contents p))) h) in
     (mended-joined edition (contents p) ∙ rw (parts_stay edition (contents p) hold) (parts-joined p), nothing-listed edition 0 (contents p) hold)
 
-checked-so : (c : Checked) (t : List ℕ) (cs : List Change) → (mended_by c t cs).checked ≡ c
-checked-so Fine t cs = refl
-checked-so (Refused why) t cs = refl
+checked-so : (c : Checked) (t : List ℕ) (cs : List Change) {m : Mended} → mended_by c t cs ≡ Ok m → c ≡ Ok tt
+checked-so (Ok _) t cs h = refl
+checked-so (Err why) t cs h = absurd (let z : ◌≡◌ {A = ℕ} 0 1 = cc in omega arith)
 
 -- Of a mending that is accepted, what the laws above ask for.
-pub accepted-mending : (edition : Edition) (p : List ℕ) (current : ℤ) (out : List ℕ) → (mend edition p current out).checked ≡ Fine
-    → (trust_check edition p current ≡ Fine) × (length (mended edition p) ≤ 256) × (length (mended edition p) ≤ length out)
+pub accepted-mending : (edition : Edition) (p : List ℕ) (current : ℤ) (out : List ℕ) {m : Mended} → mend edition p current out ≡ Ok m
+    → (trust_check edition p current ≡ Ok tt) × (length (mended edition p) ≤ 256) × (length (mended edition p) ≤ length out)
 unfolding mend mend_check
 accepted-mending edition p current out h =
     let n = length (mended edition p) in
     let long = refuse_unless (leb n 256) MendedTooLong in
     let room = room_check (length out) n in
-    let a = else-fine (trust_check edition p current) (long else room) (sym (checked-so (trust_check edition p current else long else room) (mended edition p) (changes edition p)) ∙ h) in
+    let a = else-fine (trust_check edition p current) (long else room) (checked-so (trust_check edition p current else long else room) (mended edition p) (changes edition p) h) in
     let b = else-fine long room a.1 in
     (a.0, leb-true n 256 (fine-unless (leb n 256) MendedTooLong b.0), leb-true n (length out) (fine-unless (leb n (length out)) (NoRoom n) b.1))
 
 -- mending::mend
-pub mends-coincide : (edition : Edition) (p : List ℕ) (current : ℤ) (out : List ℕ) {r s : Mended} {after after' : List ℕ}
+pub mends-coincide : (edition : Edition) (p : List ℕ) (current : ℤ) (out : List ℕ) {r s : Result Mended Refusal} {after after' : List ℕ}
     → Mends edition p current out r after → Mends edition p current out s after' → (r ≡ s) × (after ≡ after')
 mends-coincide edition p current out w v = (same-determined w.0 v.0, determined w.1 v.1)

@@ -1,4 +1,5 @@
 -- Request [12]: no change is needless. With any one of the listed changes undone alone, the check says no.
+use Rattle.std.specs.Prelude.{Ok}
 use mathlib.Core.Bool.{true, false}
 use mathlib.Core.List.{List, [], ◌∷◌, ◌++◌, map}
 use mathlib.Core.Path.{◌≡◌, refl, sym, ap, ◌∙◌}
@@ -14,7 +15,6 @@ use Rattle.meaning.specs.Splitting.{Content, run, quotes, quoted, unclosed, cont
 use Rattle.meaning.specs.Trust.{trust_check}
 use Rattle.meaning.specs.Writing.{step_of, steps}
 use Rattle.meaning.specs.declared.Change.{Change}
-use Rattle.meaning.specs.declared.Checked.TheVariants.{Fine}
 use Rattle.meaning.specs.declared.Edition.{Edition}
 use Rattle.meaning.specs.declared.Fields.{Fields}
 use Rattle.meaning.specs.declared.Pair.TheVariants.{Full}
@@ -213,17 +213,17 @@ pub record Needed (edition : Edition) (p : List ℕ) (current : ℤ) (c : Change
   pub fit : all_fit p 0 (c ∷ []) ≡ true
   pub part : ℕ
   pub shown : Fields
-  pub no : verdict_of edition (undone_from p 0 (c ∷ [])) current ≡ No part shown
+  pub no : verdict_of edition (undone_from p 0 (c ∷ [])) current ≡ Ok (No part shown)
 
-less-no : (edition : Edition) (p : List ℕ) (current : ℤ) (cs ds : List Content) → trust_check edition p current ≡ Fine → every is_good cs ≡ true
-    → length (mended_bytes edition cs) ≤ 256 → Less edition cs ds → (part : ℕ) × (f : Fields) × (verdict_of edition (joined ds) current ≡ No part f)
+less-no : (edition : Edition) (p : List ℕ) (current : ℤ) (cs ds : List Content) → trust_check edition p current ≡ Ok tt → every is_good cs ≡ true
+    → length (mended_bytes edition cs) ≤ 256 → Less edition cs ds → (part : ℕ) × (f : Fields) × (verdict_of edition (joined ds) current ≡ Ok (No part f))
 unfolding verdict_of steps
 less-no edition p current cs ds h good short l =
     let a = good-accepted ds l.well (l.good good) (omega (arith, l.short, short)) in
     let found = fails-no edition 0 (full_steps ds) l.fails in
-    (found.0, found.1, rw (accepted-checks edition p (joined ds) current h a, parts-of-joined ds l.well) found.2)
+    (found.0, found.1, rw (accepted-checks edition p (joined ds) current h a, parts-of-joined ds l.well) (ap Ok found.2))
 
-pub none-needless : (edition : Edition) (p : List ℕ) (current : ℤ) → trust_check edition p current ≡ Fine → length (mended edition p) ≤ 256
+pub none-needless : (edition : Edition) (p : List ℕ) (current : ℤ) → trust_check edition p current ≡ Ok tt → length (mended edition p) ≤ 256
     → (i : ℕ) → i < length (changes edition p) → Needed edition (mended edition p) current (get_or (changes edition p) i no_change)
 unfolding mended changes
 none-needless edition p current h short i k =

@@ -1,5 +1,6 @@
 -- Demand 3: the records that a no shows are real days, each with its number, by the calendar; and their numbers differ from each other,
 -- so that none can stand in the place of another unseen.
+use Rattle.std.specs.Prelude.{Ok}
 use mathlib.Core.Bool.{Bool, true, not}
 use mathlib.Core.List.{List, [], ◌∷◌}
 use mathlib.Core.Path.{◌≡◌, refl, ap}
@@ -16,7 +17,6 @@ use Rattle.meaning.specs.Days.{is_short, day_number}
 use Rattle.meaning.specs.Trust.{RealDay}
 use Rattle.meaning.specs.Weeks.{since_monday, weekday, thursday}
 use Rattle.meaning.specs.Writing.{hour_of, quantity_of}
-use Rattle.meaning.specs.declared.Checked.TheVariants.{Fine}
 use Rattle.meaning.specs.declared.Fields.{Fields}
 use Rattle.meaning.specs.declared.Quantity.TheVariants.{Minute, Second}
 use Rattle.laws.proofs.CalendarYears.{days-on}
@@ -42,7 +42,7 @@ tests f number first later =
     ∷ ltb (first + 7 * later) (year_length (leap_year f.year)) ∷ ltb 0 (nat_abs f.year) ∷ []
 
 record Facts (f : Fields) (number first later : ℕ) : Type 0 where
-  allowed : fields_check f ≡ Fine
+  allowed : fields_check f ≡ Ok tt
   numbered : date_number f.year f.month f.day ≡ pos number
   thursday-is : new_year f.year +ℤ pos (first + 7 * later) ≡ thursday (pos number)
   computed : every (λ holds. holds) (tests f number first later) ≡ true

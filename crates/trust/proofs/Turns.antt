@@ -1,4 +1,5 @@
 -- The turns of a walk that looks for the first part that does not hold: on where a part holds, else its answer.
+use Rattle.std.specs.Prelude.{Option, Some, None}
 use mathlib.Core.Bool.{Bool, true, false}
 use mathlib.Core.List.{List, [], ◌∷◌, map}
 use mathlib.Core.Path.{◌≡◌, refl, ap, ◌∙◌}
@@ -16,10 +17,9 @@ use Rattle.meaning.specs.declared.Edition.{Edition}
 use Rattle.meaning.specs.declared.Pair.TheVariants.{Full}
 use Rattle.meaning.specs.declared.Verdict.{Verdict}
 use Rattle.meaning.specs.declared.Verdict.TheVariants as verdict
-use Rattle.trust.specs.Check.{meets, witness, first_failing, first_unmet, shown}
+use Rattle.trust.specs.Check.{meets, witness, first_failing, first_unmet, unmet_at, shown}
 use Rattle.trust.specs.Needs.{step_need}
 use Rattle.trust.specs.declared.Unmet.{Unmet}
-use Rattle.trust.specs.declared.Unmet.TheVariants.{Nowhere, At}
 
 module _ (edition : Edition) (i : ℕ) (s : Step) (ss : List Step) where
   turn : Bool → Verdict
@@ -39,15 +39,15 @@ module _ (edition : Edition) (n i : ℕ) (c : Content) (cs : List Content) where
   met : Bool
   met = meets (step_need edition (step_of Full c)) (map (step_of Full) cs)
 
-  turn-unmet : Bool → Bool → Unmet
+  turn-unmet : Bool → Bool → Option Unmet
   turn-unmet more holds =
-      elim more as (λ x. Unmet) [
+      elim more as (λ x. Option Unmet) [
         | true ↦
-            elim holds as (λ x. Unmet) [
+            elim holds as (λ x. Option Unmet) [
               | true ↦ first_unmet edition (n - length_of c) (suc i) cs
-              | false ↦ At i (step_need edition (step_of Full c))
+              | false ↦ Some (unmet_at i (step_need edition (step_of Full c)))
             ]
-        | false ↦ Nowhere
+        | false ↦ None
       ]
 
   module _ (more : 0 < n) where
@@ -61,11 +61,11 @@ module _ (edition : Edition) (n i : ℕ) (c : Content) (cs : List Content) where
     unmet-on e = turned ∙ ap (turn-unmet true) e
 
     pub unmet-here : meets (step_need edition (step_of Full c)) (map (step_of Full) cs) ≡ false
-        → first_unmet edition n i (c ∷ cs) ≡ At i (step_need edition (step_of Full c))
+        → first_unmet edition n i (c ∷ cs) ≡ Some (unmet_at i (step_need edition (step_of Full c)))
     unfolding turn-unmet met
     unmet-here e = turned ∙ ap (turn-unmet true) e
 
-pub unmet-done : (edition : Edition) (i : ℕ) (cs : List Content) → first_unmet edition 0 i cs ≡ Nowhere
+pub unmet-done : (edition : Edition) (i : ℕ) (cs : List Content) → first_unmet edition 0 i cs ≡ None
 unfolding first_unmet
 unmet-done edition i [] = refl
 unmet-done edition i (c ∷ cs) = refl

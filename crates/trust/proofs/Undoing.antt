@@ -1,4 +1,5 @@
 -- Request [12]: the changes of a mended pattern fit it, and undone they give the pattern back.
+use Rattle.std.specs.Prelude.{Ok}
 use mathlib.Core.Bool.{true}
 use mathlib.Core.List.{List, [], ◌∷◌, ◌++◌, append_assoc}
 use mathlib.Core.Path.{◌≡◌, refl, sym, ap, ◌∙◌}
@@ -15,7 +16,6 @@ use Rattle.meaning.specs.Splitting.{Content, run, quotes, quoted, unclosed, cont
 use Rattle.meaning.specs.Writing.{ends_in_quote}
 use Rattle.meaning.specs.declared.Change.{Change}
 use Rattle.meaning.specs.declared.Edition.{Edition}
-use Rattle.meaning.specs.declared.Undone.TheVariants.{Length}
 use Rattle.laws.proofs.PartBytes.{joined, part_length, parts-joined}
 use Rattle.laws.proofs.Tests.{by-test}
 use Rattle.trust.proofs.MendedNeeds.{by-change}
@@ -171,7 +171,7 @@ changes-listed cs = take-append_seam cs _
 
 -- so the undoing answers the pattern's length, and lays the pattern into the output
 pub undo-gives-back : (edition : Edition) (p out : List ℕ) → length p ≤ length out
-    → (undo (mended edition p) (changes edition p) out ≡ Length (length p)) × (undo_output (mended edition p) (changes edition p) out ≡ sets out 0 p)
+    → (undo (mended edition p) (changes edition p) out ≡ Ok (length p)) × (undo_output (mended edition p) (changes edition p) out ≡ sets out 0 p)
 unfolding undo undo_output
 undo-gives-back edition p out h =
     let u = changes-undone edition p in

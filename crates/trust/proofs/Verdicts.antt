@@ -1,4 +1,5 @@
 -- The check is right: its answer is what `Says` asks of it, for every pattern and every current year, in either edition.
+use Rattle.std.specs.Prelude.{Ok, Err, Result}
 use mathlib.Core.Bool.{Bool, true, false}
 use mathlib.Core.List.{List, [], ◌∷◌}
 use mathlib.Core.Path.{◌≡◌, refl, sym, ◌∙◌}
@@ -13,8 +14,8 @@ use Rattle.meaning.specs.Books.{Valid}
 use Rattle.meaning.specs.Names.{Book}
 use Rattle.meaning.specs.Trust.{part_at, ComesBack, Records, AnyAllowed, RealDay, AllComeBack, FailsFirst, trust_check, full_pair, SaysOf, SaysWith, Says}
 use Rattle.meaning.specs.Writing.{Step, steps}
-use Rattle.meaning.specs.declared.Checked.{Checked}
-use Rattle.meaning.specs.declared.Checked.TheVariants.{Fine, Refused}
+use Rattle.meaning.specs.Results.{Checked}
+use Rattle.meaning.specs.declared.Refusal.{Refusal}
 use Rattle.meaning.specs.declared.Choices.{Choices}
 use Rattle.meaning.specs.declared.Edition.{Edition}
 use Rattle.meaning.specs.declared.Fields.{Fields}
@@ -52,7 +53,6 @@ record FirstOf (edition : Edition) (ss : List Step) (i : ℕ) (f : Fields) : Typ
 Tells : Edition → ℕ → List Step → Verdict → Type 0
 Tells edition k ss verdict.Yes = (j : ℕ) → j < length ss → holds edition ss j ≡ true
 Tells edition k ss (verdict.No part f) = (i : ℕ) × (part ≡ k + i) × FirstOf edition ss i f
-Tells edition k ss (verdict.Refused why) = ⊥
 
 -- with a part in front that holds
 module _ (edition : Edition) (s : Step) (ss : List Step) (first : meets (step_need edition s) ss ≡ true) where
@@ -76,7 +76,6 @@ module _ (edition : Edition) (s : Step) (ss : List Step) (first : meets (step_ne
           earlier = holds-from i named.earlier;
         },
       )
-  tells-from k (verdict.Refused why) h = h
 
 tells : (edition : Edition) (k : ℕ) (ss : List Step) → Tells edition k ss (first_failing edition k ss)
 unfolding first_failing Tells
@@ -94,7 +93,7 @@ tells edition k (s ∷ ss) =
 -- and what that says of the written text
 
 module _ (choices : Choices) (book : Book) (current : ℕ) {ss : List Step} (fit : Fitting book ss) (i : ℕ) (there : i < length ss) where
-  part-comes-back : holds choices.edition ss i ≡ true → (f : Fields) → fields_check f ≡ Fine → ComesBack choices book current ss f i
+  part-comes-back : holds choices.edition ss i ≡ true → (f : Fields) → fields_check f ≡ Ok tt → ComesBack choices book current ss f i
   unfolding holds ComesBack
   part-comes-back e f h = rw (text-from book f ss i there) (step-comes-back choices book current (fitting-from fit i there) e f (allowed f h))
 
@@ -105,7 +104,7 @@ module _ (choices : Choices) (book : Book) (current : ℕ) {ss : List Step} (fit
 
 -- the current year
 
-year-bound : (edition : Edition) (current : ℤ) → current_year_check edition current ≡ Fine → nat_abs current ≤ 9999
+year-bound : (edition : Edition) (current : ℤ) → current_year_check edition current ≡ Ok tt → nat_abs current ≤ 9999
 unfolding current_year_check
 year-bound edition (pos n) h =
     let first = first_current_year edition in
@@ -114,7 +113,7 @@ year-bound edition (negsuc n) h = absurd (let z : ◌≡◌ {A = ℕ} 0 1 = cc i
 
 -- the answer, of any records of which each is allowed and each that is shown is one
 
-module _ (book : Book) (valid : Valid book) (Counts : Records) (fine : (f : Fields) → Counts f → fields_check f ≡ Fine) (shown : (need : Need) → Counts (witness need)) where
+module _ (book : Book) (valid : Valid book) (Counts : Records) (fine : (f : Fields) → Counts f → fields_check f ≡ Ok tt) (shown : (need : Need) → Counts (witness need)) where
   all-come-back : (choices : Choices) (current : ℕ) {ss : List Step} → Fitting book ss → (n : ℕ) → n ≤ length ss
       → ((j : ℕ) → j < n → holds choices.edition ss j ≡ true) → AllComeBack Counts choices book current ss n
   unfolding AllComeBack
@@ -131,8 +130,8 @@ module _ (book : Book) (valid : Valid book) (Counts : Records) (fine : (f : Fiel
       }
 
   module _ (edition : Edition) (strict : Bool) (p : List ℕ) (current : ℤ) where
-    answer-says : trust_check edition p current ≡ Fine → (v : Verdict) → Tells edition 0 (steps Full p) v
-        → SaysOf Counts (full_pair edition strict) book p current v
+    answer-says : trust_check edition p current ≡ Ok tt → (v : Verdict) → Tells edition 0 (steps Full p) v
+        → SaysOf Counts (full_pair edition strict) book p current (Ok v)
     unfolding Tells SaysOf
     answer-says checked verdict.Yes h =
         (checked, all-come-back (full_pair edition strict) (nat_abs current) (steps-fit book valid p) (length (steps Full p)) (omega arith) h)
@@ -140,7 +139,6 @@ module _ (book : Book) (valid : Valid book) (Counts : Records) (fine : (f : Fiel
         let small = year-bound edition current (else-fine (pattern_check p) (current_year_check edition current) checked).1 in
         let e : part ≡ h.0 = omega (arith, h.1) in
         (checked, rw e (fails-first (full_pair edition strict) (nat_abs current) small (steps-fit book valid p) h.0 f h.2))
-    answer-says checked (verdict.Refused why) h = absurd h
 
     pub verdict-says-of : SaysOf Counts (full_pair edition strict) book p current (verdict_of edition p current)
     unfolding verdict_of
@@ -148,11 +146,11 @@ module _ (book : Book) (valid : Valid book) (Counts : Records) (fine : (f : Fiel
       where
         go : (c : Checked) → trust_check edition p current ≡ c
             → SaysOf Counts (full_pair edition strict) book p current (verdict_by c (first_failing edition 0 (steps Full p)))
-        go Fine e = answer-says e (first_failing edition 0 (steps Full p)) (tells edition 0 (steps Full p))
-        go (Refused why) e = unfold SaysOf in e
+        go (Ok _) e = answer-says e (first_failing edition 0 (steps Full p)) (tells edition 0 (steps Full p))
+        go (Err why) e = unfold SaysOf in e
 
     -- what is said of a reading is what the check answers, but for the record
-    pub told-as-checked-of : (v : Verdict) → SaysOf Counts (full_pair edition strict) book p current v → SameButRecord v (verdict_of edition p current)
+    pub told-as-checked-of : (v : Result Verdict Refusal) → SaysOf Counts (full_pair edition strict) book p current v → SameButRecord v (verdict_of edition p current)
     told-as-checked-of v says =
         answers-of-coincide Counts (full_pair edition strict) book p current v (verdict_of edition p current) says verdict-says-of
 
@@ -166,17 +164,17 @@ module _ (book : Book) (valid : Valid book) (edition : Edition) (p : List ℕ) (
     pub verdict-says-any : SaysOf AnyAllowed (full_pair edition strict) book p current (verdict_of edition p current)
     verdict-says-any = verdict-says-of book valid AnyAllowed (λ f h. h) witness-fine edition strict p current
 
-    pub told-as-checked : (v : Verdict) → SaysOf RealDay (full_pair edition strict) book p current v → SameButRecord v (verdict_of edition p current)
+    pub told-as-checked : (v : Result Verdict Refusal) → SaysOf RealDay (full_pair edition strict) book p current v → SameButRecord v (verdict_of edition p current)
     told-as-checked = told-as-checked-of book valid RealDay (λ f real. real.allowed) witness-real edition strict p current
 
     -- Nothing is lost: with any allowed record in the place of a real day's, verdict and part are the same.
-    pub same-of-any : (v w : Verdict) → SaysOf RealDay (full_pair edition strict) book p current v
+    pub same-of-any : (v w : Result Verdict Refusal) → SaysOf RealDay (full_pair edition strict) book p current v
         → SaysOf AnyAllowed (full_pair edition strict) book p current w → SameButRecord v w
     same-of-any v w says says' =
         told-as-checked v says ∙ sym (told-as-checked-of book valid AnyAllowed (λ f h. h) witness-fine edition strict p current w says')
 
   -- so it is the same of a strict reading and of a plain one
-  pub same-strict-or-not : (v w : Verdict) → SaysOf RealDay (full_pair edition true) book p current v
+  pub same-strict-or-not : (v w : Result Verdict Refusal) → SaysOf RealDay (full_pair edition true) book p current v
       → SaysOf RealDay (full_pair edition false) book p current w → SameButRecord v w
   same-strict-or-not v w says says' = told-as-checked true v says ∙ sym (told-as-checked false w says')
 
@@ -185,7 +183,7 @@ pub verdict-says : (edition : Edition) (p : List ℕ) (current : ℤ) → Says e
 verdict-says edition p current book valid = verdict-says-with book valid edition p current
 
 -- Demand 3 does not depend on the book: what is said with one is said with another, but for the record.
-pub same-with-any-book : (edition : Edition) (p : List ℕ) (current : ℤ) (a b : Book) → Valid a → Valid b → (v w : Verdict)
+pub same-with-any-book : (edition : Edition) (p : List ℕ) (current : ℤ) (a b : Book) → Valid a → Valid b → (v w : Result Verdict Refusal)
     → SaysWith a edition p current v → SaysWith b edition p current w → SameButRecord v w
 same-with-any-book edition p current a b good good' v w says says' =
     told-as-checked a good edition p current false v (says false) ∙ sym (told-as-checked b good' edition p current false w (says' false))

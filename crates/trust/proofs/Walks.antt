@@ -1,5 +1,6 @@
 -- Where every part comes back, a read of what was written goes through all parts, takes the whole text, and gives what each
 -- part carries, read from where its own text stands.
+use Rattle.std.specs.Prelude.{Ok}
 use mathlib.Core.List.{List, [], ◌∷◌, ◌++◌, reverse, append-nil, reverse-cons}
 use mathlib.Core.Path.{◌≡◌, ap, ◌∙◌}
 use Prim.Native.Nat.{ℕ, suc, ◌+◌, ◌<◌}
@@ -66,7 +67,7 @@ module _ (choices : Choices) (book : Book) (current : ℕ) where
         ∙ rw (end, newest-last mine (gave_from book f (at + length own) ss) gave))
 
 -- Where the check says yes, a pattern reads the whole of what it wrote, and gives what its parts carry, each from its own text.
-pub walk-yes : (Counts : Records) (choices : Choices) (book : Book) (p : List ℕ) (current : ℤ) → SaysOf Counts choices book p current Yes → (f : Fields) → Counts f
+pub walk-yes : (Counts : Records) (choices : Choices) (book : Book) (p : List ℕ) (current : ℤ) → SaysOf Counts choices book p current (Ok Yes) → (f : Fields) → Counts f
     → walk choices book (nat_abs current) 0 0 (steps choices.pair p) (text choices.pair book p f) []
     ≡ walked (length (text choices.pair book p f)) (gave_by book f 0 (steps choices.pair p))
 unfolding SaysOf AllComeBack text

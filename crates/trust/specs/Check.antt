@@ -1,14 +1,14 @@
 -- Demand 3: the check. A part holds where what can follow it meets its need; the first that does not is shown with a record
 -- for which it fails; and the whole answer, "the check 1, 2, 3, 14" first.
-use Rattle.std.specs.Prelude.{Bool, true, false, not, List, [], ◌∷◌, map, ℕ, suc, ◌-◌, ltb, ℤ, pos, neg_ℤ}
+use Rattle.std.specs.Prelude.{Bool, true, false, not, List, [], ◌∷◌, map, ℕ, suc, ◌-◌, ltb, ℤ, pos, neg_ℤ, Option, Some, None, Result, Ok, Err}
 use Rattle.meaning.specs.Splitting.{Content, length_of}
 use Rattle.meaning.specs.Trust.{trust_check}
 use Rattle.meaning.specs.Writing.{Step, step_of, steps}
-use Rattle.meaning.specs.declared.Checked.{Checked}
-use Rattle.meaning.specs.declared.Checked.TheVariants.{Fine, Refused}
+use Rattle.meaning.specs.Results.{Checked}
 use Rattle.meaning.specs.declared.Edition.{Edition}
 use Rattle.meaning.specs.declared.Fields.{Fields}
 use Rattle.meaning.specs.declared.Pair.TheVariants.{Full}
+use Rattle.meaning.specs.declared.Refusal.{Refusal}
 use Rattle.meaning.specs.declared.Verdict.{Verdict}
 use Rattle.meaning.specs.declared.Verdict.TheVariants as verdict
 use Rattle.trust.specs.Ahead.{digit_first, digit_second}
@@ -16,7 +16,6 @@ use Rattle.trust.specs.Needs.{step_need}
 use Rattle.trust.specs.declared.Need.{Need}
 use Rattle.trust.specs.declared.Need.TheVariants.{Nothing, NoDigit, NoSecondDigit, Broken, LosesYear}
 use Rattle.trust.specs.declared.Unmet.{Unmet}
-use Rattle.trust.specs.declared.Unmet.TheVariants.{Nowhere, At}
 
 -- whether what these parts can write meets a need
 unfoldable pub meets : Need → List Step → Bool
@@ -81,31 +80,34 @@ first_failing edition i (s ∷ ss) =
       | false ↦ verdict.No i (witness (step_need edition s))
     ]
 
+abbrev pub unmet_at : ℕ → Need → Unmet
+unmet_at part need = record { part = part; need = need }
+
 -- the same of the parts that start in the next n bytes, with the need that is not met; of all parts, `shown` is what the check
 -- answers (`shown-failing` of proofs/Turns)
-unfoldable pub first_unmet : Edition → ℕ → ℕ → List Content → Unmet
+unfoldable pub first_unmet : Edition → ℕ → ℕ → List Content → Option Unmet
 unfolding step_of step_need meets length_of
-first_unmet edition n i [] = Nowhere
+first_unmet edition n i [] = None
 first_unmet edition n i (c ∷ cs) =
     elim (ltb 0 n) [
       | true ↦
           elim (meets (step_need edition (step_of Full c)) (map (step_of Full) cs)) [
             | true ↦ first_unmet edition (n - length_of c) (suc i) cs
-            | false ↦ At i (step_need edition (step_of Full c))
+            | false ↦ Some (unmet_at i (step_need edition (step_of Full c)))
           ]
-      | false ↦ Nowhere
+      | false ↦ None
     ]
 
-abbrev pub shown : Unmet → Verdict
-shown Nowhere = verdict.Yes
-shown (At part need) = verdict.No part (witness need)
+abbrev pub shown : Option Unmet → Verdict
+shown None = verdict.Yes
+shown (Some unmet) = verdict.No unmet.part (witness unmet.need)
 
 -- a refusal, or else what is found of the parts
-abbrev pub verdict_by : Checked → Verdict → Verdict
-verdict_by Fine answer = answer
-verdict_by (Refused why) answer = verdict.Refused why
+abbrev pub verdict_by : Checked → Verdict → Result Verdict Refusal
+verdict_by (Ok _) answer = Ok answer
+verdict_by (Err why) answer = Err why
 
 -- the answer of the check, of the full pair in an edition: yes, or no with the part from 0 and the record
-unfoldable pub verdict_of : Edition → List ℕ → ℤ → Verdict
+unfoldable pub verdict_of : Edition → List ℕ → ℤ → Result Verdict Refusal
 unfolding trust_check first_failing steps
 verdict_of edition p current = verdict_by (trust_check edition p current) (first_failing edition 0 (steps Full p))

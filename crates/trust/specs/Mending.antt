@@ -1,6 +1,6 @@
 -- Request [12], mend this pattern: each part with its own change, and spaces behind those that a digit from the rest of the
 -- pattern can still disturb, which is where the check's need is not met; the list of the changes; and the whole answer.
-use Rattle.std.specs.Prelude.{List, [], ◌∷◌, ◌++◌, map, ◌≡◌, ℕ, zero, suc, ◌+◌, leb, ℤ, length, replicate}
+use Rattle.std.specs.Prelude.{List, [], ◌∷◌, ◌++◌, map, ◌≡◌, ℕ, zero, suc, ◌+◌, leb, ℤ, length, replicate, Result, Ok, Err}
 use Rattle.meaning.specs.Answers.{◌else◌, refuse_unless, room_check}
 use Rattle.meaning.specs.Bytes.{when}
 use Rattle.meaning.specs.Mending.{space, part_bytes, mend_part, change, listed, own_change, changes_of, mended_answer}
@@ -10,11 +10,11 @@ use Rattle.meaning.specs.Trust.{trust_check}
 use Rattle.meaning.specs.Whole.{output_by}
 use Rattle.meaning.specs.Writing.{Step, step_of}
 use Rattle.meaning.specs.declared.Change.{Change}
-use Rattle.meaning.specs.declared.Checked.{Checked}
-use Rattle.meaning.specs.declared.Checked.TheVariants.{Fine, Refused}
+use Rattle.meaning.specs.Results.{Checked}
 use Rattle.meaning.specs.declared.Edition.{Edition}
 use Rattle.meaning.specs.declared.Mended.{Mended}
 use Rattle.meaning.specs.declared.Pair.TheVariants.{Full}
+use Rattle.meaning.specs.declared.Refusal.{Refusal}
 use Rattle.meaning.specs.declared.Refusal.TheVariants.{MendedTooLong}
 use Rattle.trust.specs.Check.{meets}
 use Rattle.trust.specs.Needs.{step_need}
@@ -83,13 +83,13 @@ mend_check edition p current room =
     refuse_unless (leb (length (mended edition p)) 256) MendedTooLong else
     room_check room (length (mended edition p))
 
-abbrev pub mended_by : Checked → List ℕ → List Change → Mended
-mended_by Fine t cs = record { checked = Fine; length = length t; changes = changes_of cs }
-mended_by (Refused why) t cs = record { checked = Refused why; length = 0; changes = changes_of [] }
+abbrev pub mended_by : Checked → List ℕ → List Change → Result Mended Refusal
+mended_by (Ok _) t cs = Ok (record { length = length t; changes = changes_of cs })
+mended_by (Err why) t cs = Err why
 
 -- the answer, and the lent output afterwards
 
-unfoldable pub mend : Edition → List ℕ → ℤ → List ℕ → Mended
+unfoldable pub mend : Edition → List ℕ → ℤ → List ℕ → Result Mended Refusal
 unfolding mend_check changes
 mend edition p current out = mended_by (mend_check edition p current (length out)) (mended edition p) (changes edition p)
 
@@ -98,5 +98,5 @@ unfolding mend_check
 mend_output edition p current out = output_by (mend_check edition p current (length out)) (mended edition p) out
 
 -- what a mending promises of its answer r, and of the output afterwards
-abbrev pub Mends : Edition → List ℕ → ℤ → List ℕ → Mended → List ℕ → Type 0
+abbrev pub Mends : Edition → List ℕ → ℤ → List ℕ → Result Mended Refusal → List ℕ → Type 0
 Mends edition p current out r after = SameAnswer mended_answer r (mend edition p current out) × (after ≡ mend_output edition p current out)

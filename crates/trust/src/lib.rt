@@ -12,11 +12,11 @@ pub enum Need {
     LosesYear,
 }
 
-// The first of some parts whose need is not met, counted from 0, and that need; or none of them.
+// A part whose need is not met, counted from 0, and that need.
 #[derive(Clone, Copy)]
-pub enum Unmet {
-    Nowhere,
-    At { part: usize, need: Need },
+pub struct Unmet {
+    pub part: usize,
+    pub need: Need,
 }
 
 // How the names of a list begin: with a digit; with a letter, which is all; with two bytes that are no digits.

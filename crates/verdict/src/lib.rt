@@ -7,20 +7,20 @@ pub mod needs;
 
 ghost use Rattle.std.specs.Prelude.{◌≡◌, ◌-◌, ◌≤◌, length, drop};
 ghost use Rattle.meaning.specs.Splitting.{contents};
-ghost use Rattle.meaning.specs.Trust.{Says, trust_check};
+ghost use Rattle.meaning.specs.Trust.{Says};
 ghost use Rattle.meaning.specs.Writing.{steps};
 ghost use Rattle.trust.specs.Check as trust;
 
 use crate::lookahead::{digit_first, digit_second};
 use crate::needs::step_need;
-use fields::checks::{current_year_check, or_else};
-use meaning::{Checked, Edition, Fields, Pair, Verdict};
-use pattern::checks::quoted_check;
+use fields::checks::trust_check;
+use meaning::{Edition, Fields, Pair, Refusal, Verdict};
 use pattern::parts::next_part;
 use rules::step::step_of;
 use trust::{Need, Unmet};
 
 // Whether what the parts from a place on can write meets a need.
+#[tactic(auto, unfolding(trust::specs::Check::meets))]
 fn meets(need: Need, pattern: &[u8], place: usize) -> bool
     ensures { result ≡ trust.meets need (steps Pair.Full (drop place pattern.now)) }
 {
@@ -28,8 +28,7 @@ fn meets(need: Need, pattern: &[u8], place: usize) -> bool
         Need::Nothing => true,
         Need::NoDigit => !digit_first(pattern, place),
         Need::NoSecondDigit => !digit_second(pattern, place),
-        Need::Broken => false,
-        Need::LosesYear => false,
+        Need::Broken | Need::LosesYear => false,
     }
 }
 
@@ -85,21 +84,19 @@ fn witness(need: Need) -> Fields
     ensures { result ≡ trust.witness need }
 {
     match need {
-        Need::Nothing => long_numbers(),
         Need::NoDigit => short_numbers(),
-        Need::NoSecondDigit => long_numbers(),
-        Need::Broken => long_numbers(),
+        Need::Nothing | Need::NoSecondDigit | Need::Broken => long_numbers(),
         Need::LosesYear => long_year(),
     }
 }
 
 // What the check answers, by the first part whose need is not met.
-pub fn shown(unmet: Unmet) -> Verdict
+pub fn shown(unmet: Option<Unmet>) -> Verdict
     ensures { result ≡ trust.shown unmet }
 {
     match unmet {
-        Unmet::Nowhere => Verdict::Yes,
-        Unmet::At { part, need } => Verdict::No {
+        None => Verdict::Yes,
+        Some(Unmet { part, need }) => Verdict::No {
             part,
             record: witness(need),
         },
@@ -107,10 +104,11 @@ pub fn shown(unmet: Unmet) -> Verdict
 }
 
 // The first of the parts that start from a place on and before another whose need those behind it do not meet.
-pub fn first_unmet(edition: Edition, pattern: &[u8], from: usize, to: usize) -> Unmet
+pub fn first_unmet(edition: Edition, pattern: &[u8], from: usize, to: usize) -> Option<Unmet>
     requires { to ≤ length pattern.now }
     ensures { result ≡ trust.first_unmet edition (to - from) 0 (contents (drop from pattern.now)) }
 {
+    // Not by `parts_of`: the walk is between two places, and asks for the place behind each part.
     let mut place = from;
     let mut i = 0;
     while place < to {
@@ -118,28 +116,18 @@ pub fn first_unmet(edition: Edition, pattern: &[u8], from: usize, to: usize) -> 
         let need = step_need(edition, step_of(Pair::Full, pattern, part), pattern);
         place += part.length;
         if !meets(need, pattern, place) {
-            return Unmet::At { part: i, need };
+            return Some(Unmet { part: i, need });
         }
         i += 1;
     }
-    Unmet::Nowhere
-}
-
-pub fn trust_check(edition: Edition, pattern: &[u8], year: i32) -> Checked
-    ensures { result ≡ trust_check edition pattern.now year }
-{
-    let of_pattern = quoted_check(pattern);
-    let of_year = current_year_check(edition, year);
-    or_else(of_pattern, of_year)
+    None
 }
 
 // Whether a pattern can be trusted to read back what it wrote, in an edition and a current year: the refusals 1, 2, 3, 14; yes exactly when
 // every part comes back for every record of a real day; else the first part that fails for some such record, with one.
-pub fn verdict_on(edition: Edition, pattern: &[u8], year: i32) -> Verdict
+pub fn verdict_on(edition: Edition, pattern: &[u8], year: i32) -> Result<Verdict, Refusal>
     ensures { Says edition pattern.now year result }
 {
-    match trust_check(edition, pattern, year) {
-        Checked::Fine => shown(first_unmet(edition, pattern, 0, pattern.len())),
-        Checked::Refused(why) => Verdict::Refused(why),
-    }
+    trust_check(edition, pattern, year)?;
+    Ok(shown(first_unmet(edition, pattern, 0, pattern.len())))
 }

@@ -16,96 +16,70 @@ use rules::step::{Step, step_of};
 use trust::Opening;
 
 // How the names of a list begin: only the quarters' with a digit; some are one byte.
+#[tactic(auto, unfolding(trust::specs::Ahead::opening))]
 fn opening_of(list: NameList) -> Opening
     ensures { result ≡ ahead.opening list }
 {
     match list {
-        NameList::EraAbbreviated => Opening::Word,
-        NameList::EraNarrow => Opening::OneLetter,
-        NameList::EraWide => Opening::Word,
         NameList::QuarterWide => Opening::Digit,
-        NameList::MonthAbbreviated => Opening::Word,
-        NameList::MonthWide => Opening::Word,
-        NameList::MonthNarrow => Opening::OneLetter,
-        NameList::WdayAbbreviated => Opening::Word,
-        NameList::WdayWide => Opening::Word,
-        NameList::WdayNarrow => Opening::OneLetter,
-        NameList::WdayShort => Opening::Word,
-        NameList::PeriodUpper => Opening::Word,
-        NameList::PeriodLower => Opening::Word,
-        NameList::PeriodDotted => Opening::Word,
-        NameList::PeriodLetter => Opening::OneLetter,
-        NameList::NoonUpper => Opening::Word,
-        NameList::NoonLower => Opening::Word,
-        NameList::NoonDotted => Opening::Word,
-        NameList::NoonLetter => Opening::OneLetter,
+        NameList::EraNarrow
+        | NameList::MonthNarrow
+        | NameList::WdayNarrow
+        | NameList::PeriodLetter
+        | NameList::NoonLetter => Opening::OneLetter,
+        NameList::EraAbbreviated
+        | NameList::EraWide
+        | NameList::MonthAbbreviated
+        | NameList::MonthWide
+        | NameList::WdayAbbreviated
+        | NameList::WdayWide
+        | NameList::WdayShort
+        | NameList::PeriodUpper
+        | NameList::PeriodLower
+        | NameList::PeriodDotted
+        | NameList::NoonUpper
+        | NameList::NoonLower
+        | NameList::NoonDotted => Opening::Word,
     }
 }
 
+#[tactic(auto, unfolding(trust::specs::Ahead::name_first))]
 fn name_first(list: NameList) -> bool
     ensures { result ≡ ahead.name_first list }
 {
-    match opening_of(list) {
-        Opening::Digit => true,
-        Opening::OneLetter => false,
-        Opening::Word => false,
-    }
+    matches!(opening_of(list), Opening::Digit)
 }
 
+#[tactic(auto, unfolding(trust::specs::Ahead::rule_first))]
 fn rule_first(rule: Rule) -> bool
     ensures { result ≡ ahead.rule_first rule }
 {
     match rule {
-        Rule::Number {
-            quantity: _,
-            least: _,
-            most: _,
-            unit: _,
-            zero: _,
-        } => true,
-        Rule::SkippedNumber {
-            quantity: _,
-            least: _,
-            most: _,
-        } => true,
-        Rule::LetterQuarter => false,
-        Rule::SkippedName { names, length: _ } => name_first(names),
-        Rule::MatchedName(names) => name_first(names),
-        Rule::Letters { names, length: _ } => name_first(names),
-        Rule::Years(_) => true,
-        Rule::FixedYear(_) => true,
-        Rule::TwoDigitYear => true,
-        Rule::Zone {
-            utc: _,
-            colon: _,
-            minutes: _,
-            seconds: _,
-        } => false,
+        Rule::Number { .. }
+        | Rule::SkippedNumber { .. }
+        | Rule::Years(_)
+        | Rule::FixedYear(_)
+        | Rule::TwoDigitYear => true,
+        Rule::LetterQuarter | Rule::Zone { .. } => false,
+        Rule::SkippedName { names, .. } | Rule::MatchedName(names) | Rule::Letters { names, .. } =>
+            name_first(names),
     }
 }
 
+#[tactic(auto, unfolding(trust::specs::Ahead::has_letters))]
 fn name_second(list: NameList, behind: bool) -> bool
     ensures { result ≡ ahead.name_second list behind }
 {
-    match opening_of(list) {
-        Opening::Digit => false,
-        Opening::OneLetter => behind,
-        Opening::Word => false,
-    }
+    matches!(opening_of(list), Opening::OneLetter) && behind
 }
 
 fn number_second(quantity: Quantity, least: u8, behind: bool) -> bool
     ensures { result ≡ ahead.number_second quantity least behind }
 {
-    if 2 <= least {
-        return true;
-    }
-    if 2 <= most_digits(quantity) {
-        return true;
-    }
-    behind
+    2 <= least || 2 <= most_digits(quantity) || behind
 }
 
+#[tactic(auto, unfolding(trust::specs::Ahead::rule_second))]
 fn rule_second(rule: Rule, behind: bool) -> bool
     ensures { result ≡ ahead.rule_second rule behind }
 {
@@ -113,54 +87,45 @@ fn rule_second(rule: Rule, behind: bool) -> bool
         Rule::Number {
             quantity,
             least,
-            most: _,
-            unit: _,
-            zero: _,
-        } => number_second(quantity, least, behind),
-        Rule::SkippedNumber {
+            ..
+        }
+        | Rule::SkippedNumber {
             quantity,
             least,
-            most: _,
+            ..
         } => number_second(quantity, least, behind),
-        Rule::LetterQuarter => true,
-        Rule::SkippedName { names, length: _ } => name_second(names, behind),
-        Rule::MatchedName(names) => name_second(names, behind),
-        Rule::Letters { names, length: _ } => name_second(names, behind),
-        Rule::Years(_) => true,
-        Rule::FixedYear(_) => true,
-        Rule::TwoDigitYear => true,
-        Rule::Zone {
-            utc: _,
-            colon: _,
-            minutes: _,
-            seconds: _,
-        } => true,
+        Rule::SkippedName { names, .. } | Rule::MatchedName(names) | Rule::Letters { names, .. } =>
+            name_second(names, behind),
+        Rule::LetterQuarter
+        | Rule::Years(_)
+        | Rule::FixedYear(_)
+        | Rule::TwoDigitYear
+        | Rule::Zone { .. } => true,
     }
 }
 
 // The first byte of an inside stands for itself, and the second element begins one or two bytes behind it.
+#[tactic(auto, using(crate::proofs::lookahead::Literals::inside_none, crate::proofs::lookahead::Literals::inside_first), unfolding(meaning::specs::Bytes::digit_at))]
 fn inside_first(src: &[u8]) -> bool
     ensures { result ≡ digit_at 0 (unescaped src.now) }
 {
-    if src.len() == 0 {
-        return false;
-    }
-    is_digit(src[0])
+    !src.is_empty() && is_digit(src[0])
 }
 
+#[tactic(auto, using(crate::proofs::lookahead::Literals::second_none, crate::proofs::lookahead::Literals::second_behind, crate::proofs::lookahead::Literals::second_byte))]
 fn inside_second(src: &[u8], behind: bool) -> bool
     ensures { result ≡ inside_second (unescaped src.now) behind }
 {
-    if src.len() == 0 {
-        return behind;
-    }
-    let i = bytes_of(src[0]);
-    if src.len() <= i {
-        return behind;
-    }
-    is_digit(src[i])
+    let Some(&first) = src.first() else {
+        return behind
+    };
+    let Some(&second) = src.get(bytes_of(first)) else {
+        return behind
+    };
+    is_digit(second)
 }
 
+#[tactic(auto, using(crate::proofs::lookahead::Literals::run_second), unfolding(crate::specs::Insides::inside_second))]
 fn times_second(b: u8, count: usize, behind: bool) -> bool
     ensures { result ≡ inside_second (replicate count b) behind }
 {
@@ -171,33 +136,25 @@ fn times_second(b: u8, count: usize, behind: bool) -> bool
 }
 
 // Short numbers and years begin with two digits, for some record at least; names with two letters.
+#[tactic(auto, using(crate::proofs::lookahead::Literals::run_first, crate::proofs::lookahead::Quick::year_first, pattern::proofs::parts::Walks::rest_all), unfolding(trust::specs::Ahead::step_first, trust::specs::Ahead::rule_first, trust::specs::Ahead::name_first, trust::specs::Ahead::opening))]
 fn step_first(step: Step, pattern: &[u8]) -> bool
     requires { Held pattern.now step }
     ensures { result ≡ ahead.step_first (means pattern.now step) }
 {
     match step {
-        Step::Times { byte, count: _ } => is_digit(byte),
+        Step::Times { byte, .. } => is_digit(byte),
         Step::Quoted { from, to } => inside_first(&pattern[from..to]),
         Step::Open { from } => inside_first(&pattern[from..]),
-        Step::Short {
-            number: _,
-            count: _,
-        } => true,
-        Step::Year(_) => true,
-        Step::MonthAbbreviated => false,
-        Step::MonthWide => false,
-        Step::WdayWide => false,
-        Step::Run {
-            role,
-            byte,
-            count: _,
-        } => match role {
+        Step::Short { .. } | Step::Year(_) => true,
+        Step::MonthAbbreviated | Step::MonthWide | Step::WdayWide => false,
+        Step::Run { role, byte, .. } => match role {
             Role::Literal => is_digit(byte),
             Role::Symbol(rule) => rule_first(rule),
         },
     }
 }
 
+#[tactic(auto, using(crate::proofs::lookahead::Quick::short_second, crate::proofs::lookahead::Quick::year_second, pattern::proofs::parts::Walks::rest_all), unfolding(crate::specs::Insides::inside_second, trust::specs::Ahead::step_second, trust::specs::Ahead::has_letters, trust::specs::Ahead::opening))]
 fn step_second(step: Step, pattern: &[u8], behind: bool) -> bool
     requires { Held pattern.now step }
     ensures { result ≡ ahead.step_second (means pattern.now step) behind }
@@ -206,14 +163,8 @@ fn step_second(step: Step, pattern: &[u8], behind: bool) -> bool
         Step::Times { byte, count } => times_second(byte, count, behind),
         Step::Quoted { from, to } => inside_second(&pattern[from..to], behind),
         Step::Open { from } => inside_second(&pattern[from..], behind),
-        Step::Short {
-            number: _,
-            count: _,
-        } => true,
-        Step::Year(_) => true,
-        Step::MonthAbbreviated => false,
-        Step::MonthWide => false,
-        Step::WdayWide => false,
+        Step::Short { .. } | Step::Year(_) => true,
+        Step::MonthAbbreviated | Step::MonthWide | Step::WdayWide => false,
         Step::Run { role, byte, count } => match role {
             Role::Literal => times_second(byte, count, behind),
             Role::Symbol(rule) => rule_second(rule, behind),

@@ -14,23 +14,22 @@ use rules::step::Step;
 use trust::Need;
 
 // The most digits that a quantity has.
+#[tactic(auto, unfolding(laws::specs::Widths::most_digits))]
 pub fn most_digits(quantity: Quantity) -> u8
     ensures { result ≡ most_digits quantity }
 {
     match quantity {
-        Quantity::Month => 2,
-        Quantity::Quarter => 1,
-        Quantity::Week => 2,
-        Quantity::Day => 2,
+        Quantity::Quarter | Quantity::Weekday | Quantity::WeekdayFromMonday => 1,
+        Quantity::Month
+        | Quantity::Week
+        | Quantity::Day
+        | Quantity::Hour1To12
+        | Quantity::Hour0To11
+        | Quantity::Hour0To23
+        | Quantity::Hour1To24
+        | Quantity::Minute
+        | Quantity::Second => 2,
         Quantity::DayOfYear => 3,
-        Quantity::Weekday => 1,
-        Quantity::WeekdayFromMonday => 1,
-        Quantity::Hour1To12 => 2,
-        Quantity::Hour0To11 => 2,
-        Quantity::Hour0To23 => 2,
-        Quantity::Hour1To24 => 2,
-        Quantity::Minute => 2,
-        Quantity::Second => 2,
         Quantity::Fraction(digits) => digits,
     }
 }
@@ -39,12 +38,12 @@ fn number_need(quantity: Quantity, least: u8, most: u8) -> Need
     ensures { result ≡ needs.number_need quantity least most }
 {
     if most < most_digits(quantity) {
-        return Need::Broken;
+        Need::Broken
+    } else if least < most {
+        Need::NoDigit
+    } else {
+        Need::Nothing
     }
-    if least < most {
-        return Need::NoDigit;
-    }
-    Need::Nothing
 }
 
 // The same of a number that is read in an edition.
@@ -58,14 +57,9 @@ fn group_need(colon: bool, group: Group) -> Need
     ensures { result ≡ needs.group_need colon group }
 {
     match group {
-        Group::Never => Need::Nothing,
-        Group::NotZero => {
-            if colon {
-                return Need::NoSecondDigit;
-            }
-            Need::NoDigit
-        }
-        Group::Always => Need::Nothing,
+        Group::NotZero if colon => Need::NoSecondDigit,
+        Group::NotZero => Need::NoDigit,
+        Group::Never | Group::Always => Need::Nothing,
     }
 }
 
@@ -74,8 +68,7 @@ fn last_group(minutes: Group, seconds: Group) -> Group
 {
     match seconds {
         Group::Never => minutes,
-        Group::NotZero => Group::NotZero,
-        Group::Always => Group::Always,
+        Group::NotZero | Group::Always => seconds,
     }
 }
 
@@ -84,11 +77,13 @@ fn fixed_year_need(count: usize) -> Need
     ensures { result ≡ when (leb 7 count) Need.Nothing Need.LosesYear }
 {
     if 7 <= count {
-        return Need::Nothing;
+        Need::Nothing
+    } else {
+        Need::LosesYear
     }
-    Need::LosesYear
 }
 
+#[tactic(auto, unfolding(trust::specs::Needs::rule_need))]
 fn rule_need(edition: Edition, rule: Rule) -> Need
     ensures { result ≡ needs.rule_need edition rule }
 {
@@ -97,61 +92,55 @@ fn rule_need(edition: Edition, rule: Rule) -> Need
             quantity,
             least,
             most,
-            unit: _,
-            zero: _,
+            ..
         } => read_need(edition, quantity, least, most),
         Rule::SkippedNumber {
             quantity,
             least,
             most,
         } => number_need(quantity, least, most),
-        Rule::LetterQuarter => Need::Nothing,
-        Rule::SkippedName {
-            names: _,
-            length: _,
-        } => Need::Nothing,
-        Rule::MatchedName(_) => Need::Nothing,
-        Rule::Letters {
-            names: _,
-            length: _,
-        } => Need::Nothing,
+        Rule::LetterQuarter
+        | Rule::SkippedName { .. }
+        | Rule::MatchedName(_)
+        | Rule::Letters { .. } => Need::Nothing,
         Rule::Years(_) => Need::NoDigit,
         Rule::FixedYear(count) => fixed_year_need(count),
         Rule::TwoDigitYear => Need::LosesYear,
         Rule::Zone {
-            utc: _,
             colon,
             minutes,
             seconds,
+            ..
         } => group_need(colon, last_group(minutes, seconds)),
     }
 }
 
 // y, more than twice.
+#[tactic(auto, unfolding(trust::specs::Needs::rule_need))]
 fn year_need(edition: Edition, count: usize) -> Need
     ensures { result ≡ needs.rule_need edition (long_year count) }
 {
     if count <= 4 {
-        return Need::NoDigit;
+        Need::NoDigit
+    } else {
+        fixed_year_need(count)
     }
-    fixed_year_need(count)
 }
 
-// A part that loses a byte when it is written does not come back: a read skips that byte too.
-fn loss_need(lost: bool) -> Need
-    ensures { result ≡ when lost Need.Broken Need.Nothing }
-{
-    if lost { Need::Broken } else { Need::Nothing }
-}
-
+// An unclosed part that loses a byte when it is written does not come back: a read skips that byte too.
+#[tactic(auto, unfolding(trust::specs::Needs::step_need, trust::specs::Needs::rule_need))]
 pub fn step_need(edition: Edition, step: Step, pattern: &[u8]) -> Need
     requires { Held pattern.now step }
     ensures { result ≡ needs.step_need edition (means pattern.now step) }
 {
     match step {
-        Step::Times { byte: _, count: _ } => Need::Nothing,
-        Step::Quoted { from: _, to: _ } => Need::Nothing,
-        Step::Open { from } => loss_need(ends_in_quote(&pattern[from..])),
+        Step::Open { from } => {
+            if ends_in_quote(&pattern[from..]) {
+                Need::Broken
+            } else {
+                Need::Nothing
+            }
+        }
         Step::Short { number, count } => read_need(
             edition,
             short_quantity(number),
@@ -159,14 +148,12 @@ pub fn step_need(edition: Edition, step: Step, pattern: &[u8]) -> Need
             short_most(number, count),
         ),
         Step::Year(count) => year_need(edition, count),
-        Step::MonthAbbreviated => Need::Nothing,
-        Step::MonthWide => Need::Nothing,
-        Step::WdayWide => Need::Nothing,
-        Step::Run {
-            role,
-            byte: _,
-            count: _,
-        } => match role {
+        Step::Times { .. }
+        | Step::Quoted { .. }
+        | Step::MonthAbbreviated
+        | Step::MonthWide
+        | Step::WdayWide => { Need::Nothing }
+        Step::Run { role, .. } => match role {
             Role::Literal => Need::Nothing,
             Role::Symbol(rule) => rule_need(edition, rule),
         },

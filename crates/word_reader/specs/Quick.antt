@@ -1,5 +1,5 @@
 -- What a quick reading keeps on its way, and what each of its steps promises.
-use Rattle.std.specs.Prelude.{Bool, true, false, List, [], ◌∷◌, ◌++◌, map, ◌≡◌, ℕ, ◌+◌, ◌-◌, ◌*◌, ◌≤◌, ◌<◌, ℤ, pos, length, get_or, take, drop, set, replicate}
+use Rattle.std.specs.Prelude.{Bool, true, false, List, [], ◌∷◌, ◌++◌, map, ◌≡◌, ℕ, ◌+◌, ◌-◌, ◌*◌, ◌≤◌, ◌<◌, ℤ, pos, length, get_or, take, drop, set, replicate, Ok, Option, None, IfSome}
 use Rattle.std.specs.Int.Count.{ones}
 use Rattle.meaning.specs.Answers.{read_answer}
 use Rattle.meaning.specs.Bytes.{is_digit, digit_at}
@@ -10,7 +10,6 @@ use Rattle.meaning.specs.Whole.{Gave, walked, walk, reading_of}
 use Rattle.meaning.specs.Writing.{Step}
 use Rattle.meaning.specs.declared.Carried.{Carried}
 use Rattle.meaning.specs.declared.Carried.TheVariants.{Nothing}
-use Rattle.meaning.specs.declared.Checked.TheVariants.{Fine}
 use Rattle.meaning.specs.declared.Choices.{Choices}
 use Rattle.words.specs.Fields.{first_byte, second_byte}
 use Rattle.words.specs.Pieces.{behind, piece_step, steps_in}
@@ -19,10 +18,10 @@ use Rattle.word_reader.specs.declared.keeping.Moved.{Moved}
 -- the row of what parts gave, with no counts yet; and the mask
 unfoldable pub row_of : List Gave → List ℤ
 row_of gave =
-    pos 0 ∷ pos 0 ∷ pos 0 ∷ (reading_of Fine 0 gave).values ++ map pos (reading_of Fine 0 gave).starts ++ map pos (reading_of Fine 0 gave).ends
+    pos 0 ∷ pos 0 ∷ pos 0 ∷ (reading_of 0 gave).values ++ map pos (reading_of 0 gave).starts ++ map pos (reading_of 0 gave).ends
 
 unfoldable pub mask_of : List Gave → ℕ
-mask_of gave = (reading_of Fine 0 gave).mask
+mask_of gave = (reading_of 0 gave).mask
 
 -- what one part gives
 abbrev pub gave_one : Carried → ℕ → ℕ → List Gave
@@ -44,19 +43,19 @@ pub record Kept (gs : List Gave) (old new : List ℤ) (mask more : ℕ) : Type 0
   pub keeps : (gave : List Gave) (rest : List ℤ) → old ≡ row_of gave ++ rest → mask ≡ mask_of gave
       → (new ≡ row_of (gs ++ gave) ++ rest) × (more ≡ mask_of (gs ++ gave))
 
--- behind its 48 entries a row stays; and where the next place is one of a text, the steps are read and kept
-pub record Quick (choices : Choices) (book : Book) (current : ℕ) (ss : List Step) (text : List ℕ) (at mask : ℕ) (old new : List ℤ) (r : Moved) : Type 0 where
+-- behind its 48 entries a row stays; and where a place is told, the steps up to it are read and kept
+pub record Quick (choices : Choices) (book : Book) (current : ℕ) (ss : List Step) (text : List ℕ) (at mask : ℕ) (old new : List ℤ) (r : Option Moved) : Type 0 where
   pub beyond : drop 48 new ≡ drop 48 old
-  pub reads : r.next ≤ 2048 → (gs : List Gave) × Moves choices book current ss text at r.next gs × Kept gs old new mask r.mask
+  pub reads : IfSome r (λ moved. (gs : List Gave) × Moves choices book current ss text at moved.next gs × Kept gs old new mask moved.mask)
 
 -- a word read at once, whatever book, year and row there are, or the row as it was
-pub record Hot (choices : Choices) (w : ℕ) (text : List ℕ) (at mask : ℕ) (old new : List ℤ) (r : Moved) : Type 0 where
-  pub lost : 2048 < r.next → new ≡ old
+pub record Hot (choices : Choices) (w : ℕ) (text : List ℕ) (at mask : ℕ) (old new : List ℤ) (r : Option Moved) : Type 0 where
+  pub lost : r ≡ None → new ≡ old
   pub quick : (book : Book) (current : ℕ) (row : List ℕ) → Quick choices book current (steps_in row w) text at mask old new r
 
 -- the same with one book
-pub record Named (choices : Choices) (book : Book) (w : ℕ) (text : List ℕ) (at mask : ℕ) (old new : List ℤ) (r : Moved) : Type 0 where
-  pub lost : 2048 < r.next → new ≡ old
+pub record Named (choices : Choices) (book : Book) (w : ℕ) (text : List ℕ) (at mask : ℕ) (old new : List ℤ) (r : Option Moved) : Type 0 where
+  pub lost : r ≡ None → new ≡ old
   pub quick : (current : ℕ) (row : List ℕ) → Quick choices book current (steps_in row w) text at mask old new r
 
 -- the byte behind all else is passed over, which keeps nothing
@@ -101,4 +100,4 @@ counted at mask row = set (set (set row 0 (pos at)) 1 (pos mask)) 2 (pos (ones m
 pub record Whole (choices : Choices) (book : Book) (current : ℕ) (ss : List Step) (text : List ℕ) (old new : List ℤ) (r : Bool) : Type 0 where
   pub beyond : drop 48 new ≡ drop 48 old
   pub reads : r ≡ true → (at : ℕ) × (gave : List Gave) × (walk choices book current 0 0 ss text [] ≡ walked at gave)
-      × (new ≡ (read_answer (reading_of Fine at gave)).values ++ drop 48 old)
+      × (new ≡ (read_answer (Ok (reading_of at gave))).values ++ drop 48 old)

@@ -1,19 +1,18 @@
 // Reading piece by piece, straight into the row: every text is read or refused here as the definitions say, whatever the words are.
 ghost use Rattle.std.specs.Prelude.{[], map, ◌≡◌, ◌+◌, ◌-◌, ◌≤◌, ◌%◌, min, length, take, drop, replicate};
-ghost use Rattle.meaning.specs.Answers.{refused, read_answer};
+ghost use Rattle.meaning.specs.Answers.{read_answer};
 ghost use Rattle.meaning.specs.OpenedBooks.{book_in};
 ghost use Rattle.meaning.specs.Reading.{literal_read, read_step};
 ghost use Rattle.meaning.specs.Whole.{walk, walk_reading};
 ghost use Rattle.parse.specs.Literals.{compared_from};
 ghost use Rattle.parse.specs.Steps.{part_at};
-ghost use Rattle.rows.specs.Fits.{NumberFits};
 ghost use Rattle.rows.specs.Rows.{in_row, Given};
 ghost use Rattle.words.specs.Pieces.{held_bytes, piece_step, steps_of};
 
 use crate::keeping::{finish, keep};
 use meaning::{Carried, Choices, Refusal, Trouble};
-use parse::cursor::{Cursor, PartRead};
-use parse::literals::{Compared, compare};
+use parse::cursor::{Cursor, Read, Stop};
+use parse::literals::compare;
 use parse::rule::parse_rule;
 use parse::steps::pass;
 use rows::answers::give_refusal;
@@ -22,47 +21,50 @@ use rules::step::Step;
 use words::pieces::{Piece, piece_count, piece_in};
 
 // The bytes that words hold, each compared with the one of the text.
-fn compare_held(held: &[u64], text: &[u8], at: usize) -> Compared
+fn compare_held(held: &[u64], text: &[u8], at: usize) -> Option<usize>
     requires { at + length held.now ≤ length text.now }
     ensures { result ≡ compared_from at (map (λ w. w % 256) held.now) text.now }
 {
-    let mut i = 0;
-    while i < held.len() {
-        let b = (held[i] % 256) as u8;
-        if text[at + i] != b {
-            return Compared::Differs(at + i);
+    for i in 0..held.len() {
+        if text[at + i] != (held[i] % 256) as u8 {
+            return Some(at + i);
         }
-        i += 1;
     }
-    Compared::Same
+    None
 }
 
-fn differs(place: usize) -> PartRead
-    ensures { result ≡ PartRead.Stopped Trouble.LiteralDiffers place }
+fn differs(place: usize) -> Stop
+    ensures { result ≡ record { trouble = Trouble.LiteralDiffers; place = place } }
 {
-    PartRead::Stopped {
+    Stop {
         trouble: Trouble::LiteralDiffers,
         place,
     }
 }
 
 // Held bytes: passed over, or by a strict reading compared.
-fn read_held(strict: bool, held: &[u64], text: &[u8], cursor: Cursor) -> PartRead
+fn read_held(strict: bool, held: &[u64], text: &[u8], cursor: Cursor) -> Result<Read<Carried>, Stop>
     requires { cursor.at ≤ length text.now }
     ensures { result ≡ part_at cursor.at (literal_read strict (map (λ w. w % 256) held.now) (drop cursor.at text.now)) }
 {
     let at = cursor.at;
     let count = held.len();
     if strict && count <= text.len() - at {
-        if let Compared::Differs(place) = compare_held(held, text, at) {
-            return differs(place);
+        if let Some(place) = compare_held(held, text, at) {
+            return Err(differs(place));
         }
     }
     pass(count, text, cursor)
 }
 
 // A byte, so many times.
-fn read_times(strict: bool, byte: u8, count: usize, text: &[u8], cursor: Cursor) -> PartRead
+fn read_times(
+    strict: bool,
+    byte: u8,
+    count: usize,
+    text: &[u8],
+    cursor: Cursor,
+) -> Result<Read<Carried>, Stop>
     requires { cursor.at ≤ length text.now }
     ensures { result ≡ part_at cursor.at (literal_read strict (replicate count byte) (drop cursor.at text.now)) }
 {
@@ -70,13 +72,8 @@ fn read_times(strict: bool, byte: u8, count: usize, text: &[u8], cursor: Cursor)
     if strict && 0 < count {
         if count <= text.len() - at {
             let none: [u8; 0] = [];
-            if let Compared::Differs(place) = compare(
-                Step::Times { byte, count },
-                &none,
-                text,
-                at + count,
-            ) {
-                return differs(place);
+            if let Some(place) = compare(Step::Times { byte, count }, &none, text, at + count) {
+                return Err(differs(place));
             }
         }
     }
@@ -98,7 +95,7 @@ pub fn read_piece(
     current_year: u32,
     text: &[u8],
     cursor: Cursor,
-) -> PartRead
+) -> Result<Read<Carried>, Stop>
     requires { cursor.at ≤ length text.now }
     ensures { result ≡ part_at cursor.at (read_step choices (book_in book.now) current_year (piece_step tail.now piece) (drop cursor.at text.now)) }
 {
@@ -119,18 +116,6 @@ pub fn read_piece(
     }
 }
 
-fn refused_in(trouble: Trouble, part: usize, place: usize, answer: &mut [i64]) -> u32
-    requires { (48 ≤ length answer.old) × NumberFits part × NumberFits place }
-    ensures { Given (in_row 48 (refused (Refusal.InPart trouble part place))) answer.old answer.new result }
-{
-    let why = Refusal::InPart {
-        trouble,
-        part,
-        place,
-    };
-    give_refusal(why, 48, answer)
-}
-
 // All pieces of all words in order; the first that can't be read refuses the whole, and so does what a strict reading leaves.
 pub fn read_pieces(
     choices: Choices,
@@ -148,6 +133,7 @@ pub fn read_pieces(
     let mut mask: u16 = 0;
     let mut at = 0;
     let mut part = 0;
+    // One loop over words and their pieces: with a loop for each (it proves), prepared reads take up to 1.7 per cent more instructions.
     let mut i = 0;
     let mut k = 0;
     while i < used {
@@ -160,11 +146,11 @@ pub fn read_pieces(
         let piece = piece_in(w, k);
         let cursor = Cursor { at };
         match read_piece(choices, book, piece, tail, current_year, text, cursor) {
-            PartRead::Stopped { trouble, place } => return refused_in(trouble, part, place, answer),
-            PartRead::Got { carried, next } => {
+            Err(stop) => return give_refusal(stop.in_part(part), 48, answer),
+            Ok(read) => {
                 let start = at;
-                at = next.at;
-                if let Carried::Value(unit, value) = carried {
+                at = read.next.at;
+                if let Carried::Value(unit, value) = read.value {
                     let kept = keep(unit, value, start, at, mask, answer);
                     mask = kept.mask;
                 }

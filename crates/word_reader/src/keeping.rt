@@ -1,5 +1,5 @@
 // What a quick reading keeps as it goes: the next place, the mask of the units read, and a value in its entries of the row.
-ghost use Rattle.std.specs.Prelude.{[], ◌∷◌, ◌≡◌, ◌+◌, ◌≤◌, ◌<◌, length, drop};
+ghost use Rattle.std.specs.Prelude.{[], ◌∷◌, ◌≡◌, ◌+◌, ◌≤◌, ◌<◌, length, drop, IfSome};
 ghost use Rattle.meaning.specs.Readers.{got};
 ghost use Rattle.meaning.specs.Reading.{literal_read};
 ghost use Rattle.word_reader.specs.Quick as quick;
@@ -14,9 +14,6 @@ pub struct Moved {
     pub next: usize,
     pub mask: u16,
 }
-
-// A place behind every text: what was read is given up.
-pub const LOST: usize = 4096;
 
 // Keeps a value and the places of its part.
 pub fn keep(
@@ -41,28 +38,23 @@ pub fn keep(
 }
 
 // A byte that stands for itself: the place behind it.
-pub fn pass_byte(strict: bool, byte: u8, text: &[u8], at: usize) -> usize
-    ensures { result ≤ 2048 → (result ≡ at + 1) × (at < length text.now) × (literal_read strict (byte ∷ []) (drop at text.now) ≡ got 1 Carried.Nothing) }
+pub fn pass_byte(strict: bool, byte: u8, text: &[u8], at: usize) -> Option<usize>
+    ensures { IfSome result (λ next. (next ≡ at + 1) × (at < length text.now) × (literal_read strict (byte ∷ []) (drop at text.now) ≡ got 1 Carried.Nothing)) }
 {
-    if text.len() <= at {
-        return LOST;
+    if text.len() <= at || strict && text[at] != byte {
+        return None;
     }
-    if strict {
-        if text[at] != byte {
-            return LOST;
-        }
-    }
-    at + 1
+    Some(at + 1)
 }
 
 // The byte behind all else, where there is one.
-pub fn pass_behind(choices: Choices, w: u64, text: &[u8], at: usize) -> usize
+pub fn pass_behind(choices: Choices, w: u64, text: &[u8], at: usize) -> Option<usize>
     requires { at ≤ length text.now }
-    ensures { result ≤ 2048 → quick.Behind choices w text.now at result }
+    ensures { IfSome result (quick.Behind choices w text.now at) }
 {
     let b = last_byte(w);
     if b == 0 {
-        return at;
+        return Some(at);
     }
     pass_byte(choices.strict, b, text, at)
 }

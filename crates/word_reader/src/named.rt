@@ -6,7 +6,7 @@ ghost use Rattle.word_reader.specs.Quick as quick;
 ghost use Rattle.words.specs.Coding.{is_spelled};
 ghost use Rattle.words.specs.Fields as field;
 
-use crate::keeping::{LOST, Moved, keep, pass_behind};
+use crate::keeping::{Moved, keep, pass_behind};
 use meaning::{Choices, ParseUnit};
 use names::letters::spelled_at;
 use names::rooms::OPENED;
@@ -20,29 +20,23 @@ fn english_name(
     at: usize,
     mask: u16,
     answer: &mut [i64],
-) -> Moved
+) -> Option<Moved>
     requires { (field.code w ≡ 22) × (is_spelled w ≡ true) × quick.Ready text.now at answer.old }
     ensures { quick.Named choices english w text.now at mask answer.old answer.new result }
 {
     let weekday = is_weekday(w);
-    let found = spelled_at(weekday, most_letters(w), text, at);
-    if found.length == 0 {
-        return Moved { next: LOST, mask };
-    }
+    let found = spelled_at(weekday, most_letters(w), text, at)?;
     let end = at + found.length;
-    let next = pass_behind(choices, w, text, end);
-    if 2048 < next {
-        return Moved { next: LOST, mask };
-    }
+    let next = pass_behind(choices, w, text, end)?;
     if weekday {
-        return Moved { next, mask };
+        return Some(Moved { next, mask });
     }
     let month = (found.name + 1) as i64;
     let kept = keep(ParseUnit::Month, month, at, end, mask, answer);
-    Moved {
+    Some(Moved {
         next,
         mask: kept.mask,
-    }
+    })
 }
 
 // A name, if it is spelled and no book is lent.
@@ -54,15 +48,15 @@ pub fn hot_name(
     at: usize,
     mask: u16,
     answer: &mut [i64],
-) -> Moved
+) -> Option<Moved>
     requires { (field.code w ≡ 22) × quick.Ready text.now at answer.old }
     ensures { quick.Named choices (book_in book.now) w text.now at mask answer.old answer.new result }
 {
     if book.len() == OPENED {
-        return Moved { next: LOST, mask };
+        return None;
     }
     if is_spelled(w) {
         return english_name(choices, w, text, at, mask, answer);
     }
-    Moved { next: LOST, mask }
+    None
 }

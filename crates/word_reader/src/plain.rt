@@ -1,141 +1,123 @@
 // Words that go the plain way are read at once: a byte, digits that stand where they are expected. Of any other the row stays as it was.
-ghost use Rattle.std.specs.Prelude.{true, ◌≡◌, ◌+◌, ◌-◌, ◌≤◌, ◌<◌, pos, length, drop};
+ghost use Rattle.std.specs.Prelude.{◌≡◌, ◌+◌, ◌-◌, ◌≤◌, ◌<◌, pos, length, drop, Some, None, IfSome};
 ghost use Rattle.meaning.specs.Bytes.{when, is_digit};
 ghost use Rattle.parse.specs.ShortReads.{short_digits};
 ghost use Rattle.word_reader.specs.Quick as quick;
 ghost use Rattle.words.specs.Fields as field;
 
-use crate::keeping::{LOST, Moved, keep, pass_behind, pass_byte};
+use crate::keeping::{Moved, keep, pass_behind, pass_byte};
 use meaning::{Carried, Choices, ParseUnit};
 use numerals::is_digit;
-use parse::short::{Digits, NONE};
+use parse::short::Digits;
 use rules::numbers::most_read;
 use rules::short::{short_most, short_quantity, short_unit};
 use words::fields::{code, first_byte, last_byte, second_byte, slot};
 use words::pieces::short_in;
 
-// The number of a digit; 100 stands for none.
-fn digit(b: u8) -> u32
-    ensures { result ≡ when (is_digit b) (b - 48) 100 }
+// The number of a digit.
+fn digit(b: u8) -> Option<u32>
+    ensures { result ≡ when (is_digit b) (Some (b - 48)) None }
 {
     if is_digit(b) {
-        return (b - b'0') as u32;
+        return Some((b - b'0') as u32);
     }
-    100
+    None
 }
 
-// Two digits that stand there; 100 stands for none.
-fn two_at(text: &[u8], at: usize) -> u32
+// Two digits that stand there.
+fn two_at(text: &[u8], at: usize) -> Option<u32>
     requires { at + 2 ≤ length text.now }
-    ensures { result < 100 → quick.Two text.now at result }
+    ensures { IfSome result (quick.Two text.now at) }
 {
-    let a = digit(text[at]);
-    let b = digit(text[at + 1]);
-    if 10 <= a {
-        return 100;
-    }
-    if 10 <= b {
-        return 100;
-    }
-    a * 10 + b
+    let tens = digit(text[at])?;
+    let ones = digit(text[at + 1])?;
+    Some(tens * 10 + ones)
 }
 
 // One digit, or two if so many may be read.
-fn few_at(most: u8, text: &[u8], at: usize) -> Digits
+fn few_at(most: u8, text: &[u8], at: usize) -> Option<Digits>
     requires { at < length text.now }
     ensures { result ≡ short_digits 1 most (drop at text.now) }
 {
     if !is_digit(text[at]) {
-        return NONE;
+        return None;
     }
     let a = (text[at] - b'0') as u32;
-    if most == 1 {
-        return Digits { size: a, taken: 1 };
+    if most == 1 || text.len() <= at + 1 || !is_digit(text[at + 1]) {
+        return Some(Digits { size: a, taken: 1 });
     }
-    if text.len() <= at + 1 {
-        return Digits { size: a, taken: 1 };
-    }
-    if is_digit(text[at + 1]) {
-        return Digits {
-            size: a * 10 + (text[at + 1] - b'0') as u32,
-            taken: 2,
-        };
-    }
-    Digits { size: a, taken: 1 }
+    Some(Digits {
+        size: a * 10 + (text[at + 1] - b'0') as u32,
+        taken: 2,
+    })
 }
 
-// A year of four digits behind which none stands; 10000 stands for none.
-fn year_at(text: &[u8], at: usize) -> u32
+// A year of four digits behind which none stands.
+fn year_at(text: &[u8], at: usize) -> Option<u32>
     requires { at + 4 ≤ length text.now }
-    ensures { result < 10000 → quick.FourDigits text.now at result }
+    ensures { IfSome result (quick.FourDigits text.now at) }
 {
-    let century = two_at(text, at);
-    let rest = two_at(text, at + 2);
-    if 100 <= century {
-        return 10000;
-    }
-    if 100 <= rest {
-        return 10000;
-    }
+    let century = two_at(text, at)?;
+    let rest = two_at(text, at + 2)?;
     let end = at + 4;
-    if end < text.len() {
-        if is_digit(text[end]) {
-            return 10000;
-        }
+    if end < text.len() && is_digit(text[end]) {
+        return None;
     }
-    century * 100 + rest
+    Some(century * 100 + rest)
 }
 
 // Two digits of a number, by its slot.
-fn hot_two(choices: Choices, w: u64, text: &[u8], at: usize, mask: u16, answer: &mut [i64]) -> Moved
+fn hot_two(
+    choices: Choices,
+    w: u64,
+    text: &[u8],
+    at: usize,
+    mask: u16,
+    answer: &mut [i64],
+) -> Option<Moved>
     requires { (field.code w ≡ 3) × quick.Ready text.now at answer.old }
     ensures { quick.Hot choices w text.now at mask answer.old answer.new result }
 {
     let end = at + 2;
     if text.len() < end {
-        return Moved { next: LOST, mask };
+        return None;
     }
-    let n = two_at(text, at);
-    if 100 <= n {
-        return Moved { next: LOST, mask };
-    }
-    let next = pass_behind(choices, w, text, end);
-    if 2048 < next {
-        return Moved { next: LOST, mask };
-    }
+    let n = two_at(text, at)?;
+    let next = pass_behind(choices, w, text, end)?;
     let unit = short_unit(short_in(slot(w)));
     let kept = keep(unit, n as i64, at, end, mask, answer);
-    Moved {
+    Some(Moved {
         next,
         mask: kept.mask,
-    }
+    })
 }
 
 // One digit or two of a number, by its slot.
-fn hot_few(choices: Choices, w: u64, text: &[u8], at: usize, mask: u16, answer: &mut [i64]) -> Moved
+fn hot_few(
+    choices: Choices,
+    w: u64,
+    text: &[u8],
+    at: usize,
+    mask: u16,
+    answer: &mut [i64],
+) -> Option<Moved>
     requires { (field.code w ≡ 4) × quick.Ready text.now at answer.old }
     ensures { quick.Hot choices w text.now at mask answer.old answer.new result }
 {
     if text.len() <= at {
-        return Moved { next: LOST, mask };
+        return None;
     }
     let short = short_in(slot(w));
     let edition = choices.edition;
     let most = most_read(edition, short_quantity(short), short_most(short, 1));
-    let read = few_at(most, text, at);
-    if 100 <= read.size {
-        return Moved { next: LOST, mask };
-    }
+    let read = few_at(most, text, at)?;
     let end = at + read.taken;
-    let next = pass_behind(choices, w, text, end);
-    if 2048 < next {
-        return Moved { next: LOST, mask };
-    }
+    let next = pass_behind(choices, w, text, end)?;
     let kept = keep(short_unit(short), read.size as i64, at, end, mask, answer);
-    Moved {
+    Some(Moved {
         next,
         mask: kept.mask,
-    }
+    })
 }
 
 // A year of four digits, where the word asks for no more.
@@ -146,53 +128,33 @@ fn hot_year(
     at: usize,
     mask: u16,
     answer: &mut [i64],
-) -> Moved
+) -> Option<Moved>
     requires { (field.code w ≡ 9) × quick.Ready text.now at answer.old }
     ensures { quick.Hot choices w text.now at mask answer.old answer.new result }
 {
     let end = at + 4;
     if text.len() < end {
-        return Moved { next: LOST, mask };
+        return None;
     }
     if 4 < slot(w) {
-        return Moved { next: LOST, mask };
+        return None;
     }
-    let n = year_at(text, at);
-    if 10000 <= n {
-        return Moved { next: LOST, mask };
-    }
-    let next = pass_behind(choices, w, text, end);
-    if 2048 < next {
-        return Moved { next: LOST, mask };
-    }
+    let n = year_at(text, at)?;
+    let next = pass_behind(choices, w, text, end)?;
     let kept = keep(ParseUnit::Year, n as i64, at, end, mask, answer);
-    Moved {
+    Some(Moved {
         next,
         mask: kept.mask,
-    }
+    })
 }
 
 // The bytes between three numbers.
-fn between(strict: bool, w: u64, text: &[u8], first: usize, second: usize) -> bool
-    requires { length text.now ≤ 2048 }
-    ensures { result ≡ true → quick.Between strict w text.now first second }
+fn between(strict: bool, w: u64, text: &[u8], first: usize, second: usize) -> Option<()>
+    ensures { IfSome result (λ _. quick.Between strict w text.now first second) }
 {
-    if 2048 < pass_byte(strict, first_byte(w), text, first) {
-        return false;
-    }
-    pass_byte(strict, second_byte(w), text, second) <= 2048
-}
-
-fn all_below(a: u32, b: u32, c: u32) -> bool
-    ensures { result ≡ true → (a < 100) × (b < 100) × (c < 100) }
-{
-    if 100 <= a {
-        return false;
-    }
-    if 100 <= b {
-        return false;
-    }
-    c < 100
+    pass_byte(strict, first_byte(w), text, first)?;
+    pass_byte(strict, second_byte(w), text, second)?;
+    Some(())
 }
 
 // The units of three numbers.
@@ -250,28 +212,20 @@ fn hot_time(
     at: usize,
     mask: u16,
     answer: &mut [i64],
-) -> Moved
+) -> Option<Moved>
     requires { (field.code w ≡ 10) × quick.Ready text.now at answer.old }
     ensures { quick.Hot choices w text.now at mask answer.old answer.new result }
 {
     let end = at + 2;
     if text.len() < end + 6 {
-        return Moved { next: LOST, mask };
+        return None;
     }
-    let hour = two_at(text, at);
-    let minute = two_at(text, end + 1);
-    let second = two_at(text, end + 4);
-    if !all_below(hour, minute, second) {
-        return Moved { next: LOST, mask };
-    }
-    if !between(choices.strict, w, text, end, end + 3) {
-        return Moved { next: LOST, mask };
-    }
-    let next = pass_behind(choices, w, text, end + 6);
-    if 2048 < next {
-        return Moved { next: LOST, mask };
-    }
-    keep_three(TIME, hour, minute, second, at, end, next, mask, answer)
+    let hour = two_at(text, at)?;
+    let minute = two_at(text, end + 1)?;
+    let second = two_at(text, end + 4)?;
+    between(choices.strict, w, text, end, end + 3)?;
+    let next = pass_behind(choices, w, text, end + 6)?;
+    Some(keep_three(TIME, hour, minute, second, at, end, next, mask, answer))
 }
 
 // Three numbers: the year of four digits, the month and the day.
@@ -282,39 +236,29 @@ fn hot_date(
     at: usize,
     mask: u16,
     answer: &mut [i64],
-) -> Moved
+) -> Option<Moved>
     requires { (field.code w ≡ 15) × quick.Ready text.now at answer.old }
     ensures { quick.Hot choices w text.now at mask answer.old answer.new result }
 {
     let end = at + 4;
     if text.len() < end + 6 {
-        return Moved { next: LOST, mask };
+        return None;
     }
-    let year = year_at(text, at);
-    let month = two_at(text, end + 1);
-    let day = two_at(text, end + 4);
-    if !all_below(year / 100, month, day) {
-        return Moved { next: LOST, mask };
-    }
-    if !between(choices.strict, w, text, end, end + 3) {
-        return Moved { next: LOST, mask };
-    }
-    let next = pass_behind(choices, w, text, end + 6);
-    if 2048 < next {
-        return Moved { next: LOST, mask };
-    }
-    keep_three(DATE, year, month, day, at, end, next, mask, answer)
+    let year = year_at(text, at)?;
+    let month = two_at(text, end + 1)?;
+    let day = two_at(text, end + 4)?;
+    between(choices.strict, w, text, end, end + 3)?;
+    let next = pass_behind(choices, w, text, end + 6)?;
+    Some(keep_three(DATE, year, month, day, at, end, next, mask, answer))
 }
 
 // A byte by itself.
-fn hot_byte(choices: Choices, w: u64, text: &[u8], at: usize, mask: u16) -> Moved
+fn hot_byte(choices: Choices, w: u64, text: &[u8], at: usize, mask: u16) -> Option<Moved>
     requires { (field.code w ≡ 1) × (at ≤ length text.now) }
     ensures { (row : quick.Row) → quick.Hot choices w text.now at mask row row result }
 {
-    Moved {
-        next: pass_byte(choices.strict, last_byte(w), text, at),
-        mask,
-    }
+    let next = pass_byte(choices.strict, last_byte(w), text, at)?;
+    Some(Moved { next, mask })
 }
 
 // A word, if it goes the plain way.
@@ -325,7 +269,7 @@ pub fn hot_word(
     at: usize,
     mask: u16,
     answer: &mut [i64],
-) -> Moved
+) -> Option<Moved>
     requires { quick.Ready text.now at answer.old }
     ensures { quick.Hot choices w text.now at mask answer.old answer.new result }
 {
@@ -336,6 +280,6 @@ pub fn hot_word(
         9 => hot_year(choices, w, text, at, mask, answer),
         10 => hot_time(choices, w, text, at, mask, answer),
         15 => hot_date(choices, w, text, at, mask, answer),
-        _ => Moved { next: LOST, mask },
+        _ => None,
     }
 }

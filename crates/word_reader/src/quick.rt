@@ -7,11 +7,11 @@ ghost use Rattle.words.specs.Fields as field;
 ghost use Rattle.words.specs.Pieces as pieces;
 
 use crate::exact::read_piece;
-use crate::keeping::{LOST, Moved, finish, keep, pass_behind};
+use crate::keeping::{Moved, finish, keep, pass_behind};
 use crate::named::hot_name;
 use crate::plain::hot_word;
 use meaning::{Carried, Choices};
-use parse::cursor::{Cursor, PartRead};
+use parse::cursor::Cursor;
 use parse::rule::parse_rule;
 use rows::entries::lay_zeros;
 use words::coding::rule_in;
@@ -29,22 +29,19 @@ fn quick_piece(
     at: usize,
     mask: u16,
     answer: &mut [i64],
-) -> Moved
+) -> Option<Moved>
     requires { quick.Ready text.now at answer.old }
     ensures { quick.Quick choices (book_in book.now) current_year (pieces.piece_step tail.now piece ∷ []) text.now at mask answer.old answer.new result }
 {
     let cursor = Cursor { at };
     match read_piece(choices, book, piece, tail, current_year, text, cursor) {
-        PartRead::Stopped {
-            trouble: _,
-            place: _,
-        } => Moved { next: LOST, mask },
-        PartRead::Got { carried, next } => match carried {
-            Carried::Nothing => Moved {
-                next: next.at,
+        Err(_) => None,
+        Ok(read) => match read.value {
+            Carried::Nothing => Some(Moved {
+                next: read.next.at,
                 mask,
-            },
-            Carried::Value(unit, value) => keep(unit, value, at, next.at, mask, answer),
+            }),
+            Carried::Value(unit, value) => Some(keep(unit, value, at, read.next.at, mask, answer)),
         },
     }
 }
@@ -60,17 +57,17 @@ fn quick_pieces(
     at: usize,
     mask: u16,
     answer: &mut [i64],
-) -> Moved
+) -> Option<Moved>
     requires { quick.Ready text.now at answer.old }
     ensures { quick.Quick choices (book_in book.now) current_year (pieces.steps_in tail.now w) text.now at mask answer.old answer.new result }
 {
     let count = piece_count(w);
-    let mut next = at;
-    let mut read = mask;
-    let mut k = 0;
-    while k < count {
+    let mut moved = Moved { next: at, mask };
+    for k in 0..count {
         let piece = piece_in(w, k);
-        let moved = quick_piece(
+        let next = moved.next;
+        let read = moved.mask;
+        moved = quick_piece(
             choices,
             book,
             piece,
@@ -80,15 +77,9 @@ fn quick_pieces(
             next,
             read,
             answer,
-        );
-        if 2048 < moved.next {
-            return moved;
-        }
-        next = moved.next;
-        read = moved.mask;
-        k += 1;
+        )?;
     }
-    Moved { next, mask: read }
+    Some(moved)
 }
 
 // A symbol that is not one of those, and the byte behind it.
@@ -101,28 +92,25 @@ fn quick_rule(
     at: usize,
     mask: u16,
     answer: &mut [i64],
-) -> Moved
+) -> Option<Moved>
     requires { (field.code w ≡ 22) × quick.Ready text.now at answer.old }
     ensures { (row : List ℕ) → quick.Quick choices (book_in book.now) current_year (pieces.steps_in row w) text.now at mask answer.old answer.new result }
 {
     let edition = choices.edition;
     let cursor = Cursor { at };
     match parse_rule(edition, book, rule_in(w), current_year, text, cursor) {
-        PartRead::Stopped {
-            trouble: _,
-            place: _,
-        } => Moved { next: LOST, mask },
-        PartRead::Got { carried, next } => {
-            let end = next.at;
-            let behind = pass_behind(choices, w, text, end);
-            match carried {
-                Carried::Nothing => Moved { next: behind, mask },
+        Err(_) => None,
+        Ok(read) => {
+            let end = read.next.at;
+            let next = pass_behind(choices, w, text, end)?;
+            match read.value {
+                Carried::Nothing => Some(Moved { next, mask }),
                 Carried::Value(unit, value) => {
                     let kept = keep(unit, value, at, end, mask, answer);
-                    Moved {
-                        next: behind,
+                    Some(Moved {
+                        next,
                         mask: kept.mask,
-                    }
+                    })
                 }
             }
         }
@@ -140,18 +128,16 @@ fn quick_word(
     at: usize,
     mask: u16,
     answer: &mut [i64],
-) -> Moved
+) -> Option<Moved>
     requires { quick.Ready text.now at answer.old }
     ensures { quick.Quick choices (book_in book.now) current_year (pieces.steps_in tail.now w) text.now at mask answer.old answer.new result }
 {
-    let moved = hot_word(choices, w, text, at, mask, answer);
-    if moved.next <= 2048 {
-        return moved;
+    if let Some(moved) = hot_word(choices, w, text, at, mask, answer) {
+        return Some(moved);
     }
     if code(w) == 22 {
-        let named = hot_name(choices, book, w, text, at, mask, answer);
-        if named.next <= 2048 {
-            return named;
+        if let Some(moved) = hot_name(choices, book, w, text, at, mask, answer) {
+            return Some(moved);
         }
         return quick_rule(choices, book, w, current_year, text, at, mask, answer);
     }
@@ -174,16 +160,15 @@ pub fn quick_words(
     lay_zeros(30, answer, 18);
     let mut at = 0;
     let mut mask: u16 = 0;
-    let mut i = 0;
-    while i < used {
+    // By index: over the slice itself, prepared reads take up to 1 per cent more instructions.
+    for i in 0..used {
         let w = tail[i];
-        let moved = quick_word(choices, book, w, tail, current_year, text, at, mask, answer);
-        if 2048 < moved.next {
+        let Some(moved) = quick_word(choices, book, w, tail, current_year, text, at, mask, answer)
+        else {
             return false;
-        }
+        };
         at = moved.next;
         mask = moved.mask;
-        i += 1;
     }
     if choices.strict && at < text.len() {
         return false;

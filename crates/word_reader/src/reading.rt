@@ -1,5 +1,5 @@
 // Reading a text by a prepared pattern.
-ghost use Rattle.std.specs.Prelude.{true, [], ◌≡◌, ◌≤◌, nat_abs, length, take};
+ghost use Rattle.std.specs.Prelude.{true, [], ◌≡◌, ◌≤◌, nat_abs, length, take, Ok};
 ghost use Rattle.meaning.specs.Answers.{current_year_check, text_check, read_answer};
 ghost use Rattle.meaning.specs.OpenedBooks.{book_in};
 ghost use Rattle.meaning.specs.Whole.{read_by, walk};
@@ -11,7 +11,7 @@ ghost use Rattle.meaning.specs.Prepared.{read_steps};
 use crate::exact::read_pieces;
 use crate::quick::quick_words;
 use fields::signed::size;
-use meaning::{Checked, Choices};
+use meaning::Choices;
 use reader::checks::text_check;
 use rows::answers::give_refusal;
 use rows::entries::lay_zeros;
@@ -30,8 +30,8 @@ fn read_exactly(
     ensures { Given (in_row 48 (read_answer (read_by (text_check text.now) (walk choices (book_in book.now) (nat_abs year) 0 0 (steps_of tail.now (take used tail.now)) text.now [])))) answer.old answer.new result }
 {
     match text_check(text) {
-        Checked::Fine => read_pieces(choices, book, tail, used, text, size(year), answer),
-        Checked::Refused(why) => give_refusal(why, 48, answer),
+        Ok(()) => read_pieces(choices, book, tail, used, text, size(year), answer),
+        Err(why) => give_refusal(why, 48, answer),
     }
 }
 
@@ -47,12 +47,12 @@ fn read_quickly(
     answer: &mut [i64],
 ) -> bool
     requires { (used ≤ length tail.now) × (48 ≤ length answer.old) }
-    ensures { Whole choices (book_in book.now) (nat_abs year) (steps_of tail.now (take used tail.now)) text.now answer.old answer.new result × (result ≡ true → text_check text.now ≡ Checked.Fine) }
+    ensures { Whole choices (book_in book.now) (nat_abs year) (steps_of tail.now (take used tail.now)) text.now answer.old answer.new result × (result ≡ true → text_check text.now ≡ Ok tt) }
 {
     lay_zeros(18, answer, 0);
     match text_check(text) {
-        Checked::Fine => quick_words(choices, book, tail, used, text, size(year), answer),
-        Checked::Refused(_) => false,
+        Ok(()) => quick_words(choices, book, tail, used, text, size(year), answer),
+        Err(_) => false,
     }
 }
 
@@ -66,8 +66,8 @@ pub fn read_words(
     year: i32,
     answer: &mut [i64],
 ) -> u32
-    requires { (used ≤ length tail.now) × (48 ≤ length answer.old) × (current_year_check choices.edition year ≡ Checked.Fine) }
-    ensures { Given (in_row 48 (read_answer (read_steps Checked.Fine choices (book_in book.now) (steps_of tail.now (take used tail.now)) text.now year))) answer.old answer.new result }
+    requires { (used ≤ length tail.now) × (48 ≤ length answer.old) × (current_year_check choices.edition year ≡ Ok tt) }
+    ensures { Given (in_row 48 (read_answer (read_steps (Ok tt) choices (book_in book.now) (steps_of tail.now (take used tail.now)) text.now year))) answer.old answer.new result }
 {
     if read_quickly(choices, book, tail, used, text, year, answer) {
         return 0;

@@ -1,4 +1,5 @@
 -- A word writes at most as many bytes as its code and count say, with any lent book, for a record that is allowed.
+use Rattle.std.specs.Prelude.{Ok}
 use mathlib.Core.Bool.{Bool, true, false}
 use mathlib.Core.List.{List, [], ◌∷◌}
 use mathlib.Core.Path.{◌≡◌}
@@ -21,7 +22,6 @@ use Rattle.meaning.specs.Bytes.{bytes, num}
 use Rattle.meaning.specs.Names.{english, names}
 use Rattle.meaning.specs.OpenedBooks.{book_in}
 use Rattle.meaning.specs.Writing.{quantity_of, signed_text, rule_text, texts}
-use Rattle.meaning.specs.declared.Checked.TheVariants.{Fine}
 use Rattle.meaning.specs.declared.Fields.{Fields}
 use Rattle.meaning.specs.declared.Group.{Group}
 use Rattle.meaning.specs.declared.Group.TheVariants.{Never, NotZero, Always}
@@ -41,7 +41,7 @@ use Rattle.words.specs.Fields.{code, slot, count, from, is_lost, last_byte, kind
 use Rattle.words.specs.Pieces.{short_in, steps_in, steps_of, most_bytes, most_of}
 
 -- a year of so many digits
-pub year-length : (k : ℕ) (f : Fields) → fields_check f ≡ Fine → length (signed_text k f.year) ≤ 1 + max k 7
+pub year-length : (k : ℕ) (f : Fields) → fields_check f ≡ Ok tt → length (signed_text k f.year) ≤ 1 + max k 7
 unfolding rule_text widths.most_bytes
 year-length k f h = rule-length (book_in []) (opened-short []) (Years k) f (allowed f h)
 
@@ -109,7 +109,7 @@ rule-short w =
     when-is P (eqb (kind w) 6) (λ _. omega arith) (λ _.
     omega (arith, group-short (colon w) (group_in (minutes w)), group-short (colon w) (group_in (seconds w))))))))))
 
-pub rule_fits : (row : List ℕ) (f : Fields) → fields_check f ≡ Fine → (w : ℕ) → length (rule_text (book_in row) (rule_in w) f) ≤ 21
+pub rule_fits : (row : List ℕ) (f : Fields) → fields_check f ≡ Ok tt → (w : ℕ) → length (rule_text (book_in row) (rule_in w) f) ≤ 21
 rule_fits row f h w = omega (arith, rule-length (book_in row) (opened-short row) (rule_in w) f (allowed f h), rule-short w)
 
 pub behind-short : (w : ℕ) → length (behind_text w) ≤ 1
@@ -145,7 +145,7 @@ unfolding most_of
 most-all [] = omega arith
 most-all (w ∷ ws) = omega (arith, most-small w, most-all ws)
 
-module _ (row tail : List ℕ) (f : Fields) (fine : fields_check f ≡ Fine) where
+module _ (row tail : List ℕ) (f : Fields) (fine : fields_check f ≡ Ok tt) where
   pub word_fits : (w : ℕ) → length (texts (book_in row) f (steps_in tail w)) ≤ most_bytes w
   word_fits w =
       let book = book_in row in

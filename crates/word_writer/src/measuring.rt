@@ -1,8 +1,7 @@
 // How many bytes words write, with no byte written.
-ghost use Rattle.std.specs.Prelude.{◌≡◌, ◌-◌, ◌≤◌, min, length, take};
+ghost use Rattle.std.specs.Prelude.{◌≡◌, ◌-◌, ◌≤◌, min, length, take, Ok};
 ghost use Rattle.meaning.specs.Answers.{fields_check};
 ghost use Rattle.meaning.specs.Writing.{signed_text};
-ghost use Rattle.meaning.specs.declared.Checked.TheVariants.{Fine};
 ghost use Rattle.word_writer.specs.Written.{word_text, words_text, behind_text, held_text};
 ghost use Rattle.words.specs.Fields as field;
 ghost use Rattle.words.specs.Pieces.{held_bytes, most_bytes, most_of};
@@ -28,10 +27,8 @@ pub fn most_of(words: &[u64]) -> usize
     ensures { result ≡ most_of words.now }
 {
     let mut most = 0;
-    let mut i = 0;
-    while i < words.len() {
-        most += most_bytes(words[i]);
-        i += 1;
+    for w in words {
+        most += most_bytes(*w);
     }
     most
 }
@@ -61,23 +58,18 @@ pub fn held_length(tail: &[u64], w: u64) -> usize
     ensures { (held_text tail.now w ≡ held_bytes tail.now (field.from w) result) × (result ≤ length tail.now - field.from w) }
 {
     let n = at_most(count(w), from(w), tail.len());
-    if is_lost(w) {
-        if 0 < n {
-            return n - 1;
-        }
-    }
-    n
+    if is_lost(w) && 0 < n { n - 1 } else { n }
 }
 
 fn years_length(f: Fields, digits: usize) -> usize
-    requires { (fields_check f ≡ Fine) × (digits ≤ 512) }
+    requires { (fields_check f ≡ Ok tt) × (digits ≤ 512) }
     ensures { (result ≡ length (signed_text digits f.year)) × (result ≤ 513) }
 {
     year_length(f.year, digits)
 }
 
 fn word_length(book: &[u8], tail: &[u64], w: u64, f: Fields) -> usize
-    requires { fields_check f ≡ Fine }
+    requires { fields_check f ≡ Ok tt }
     ensures { result ≡ length (word_text book.now tail.now f w) }
 {
     let behind = behind_length(w);
@@ -98,16 +90,14 @@ fn word_length(book: &[u8], tail: &[u64], w: u64, f: Fields) -> usize
 
 // The first so many words of a row.
 pub fn words_length(book: &[u8], tail: &[u64], used: usize, f: Fields) -> usize
-    requires f_value { fields_check f ≡ Fine }
+    requires f_value { fields_check f ≡ Ok tt }
     requires used_in_bounds { used ≤ length tail.now }
     requires used_bound { used ≤ 256 }
     ensures { result ≡ length (words_text book.now tail.now f (take used tail.now)) }
 {
     let mut n = 0;
-    let mut i = 0;
-    while i < used {
+    for i in 0..used {
         n += word_length(book, tail, tail[i], f);
-        i += 1;
     }
     n
 }

@@ -1,11 +1,10 @@
 // Writing by words: each lays the text of its steps behind that of the words before it.
-ghost use Rattle.std.specs.Prelude.{true, false, ◌++◌, ◌≡◌, ◌+◌, ◌-◌, ◌≤◌, ◌<◌, length, take, get_or};
+ghost use Rattle.std.specs.Prelude.{true, false, ◌++◌, ◌≡◌, ◌+◌, ◌-◌, ◌≤◌, ◌<◌, length, take, get_or, Ok};
 ghost use Rattle.laws.specs.Laid.{Laid};
 ghost use Rattle.meaning.specs.Answers.{fields_check};
 ghost use Rattle.meaning.specs.Bytes.{num};
 ghost use Rattle.meaning.specs.OpenedBooks.{book_in};
 ghost use Rattle.meaning.specs.Writing.{name_text, signed_text};
-ghost use Rattle.meaning.specs.declared.Checked.TheVariants.{Fine};
 ghost use Rattle.word_writer.specs.Written.{word_text, words_text, behind_text, matched_text, two_more, plain_year, numbers_of, Small, is_quick, quick_text, other_text, spelled_name};
 ghost use Rattle.words.specs.Coding.{list_in, is_spelled};
 ghost use Rattle.words.specs.Fields as field;
@@ -22,7 +21,7 @@ use format::rule::format_rule;
 use format::symbols::put_name_of;
 use format::years::zero_padded_i;
 use meaning::unit_sizes::{SECS_PER_HOUR, SECS_PER_MINUTE};
-use meaning::{Checked, Fields, Refusal, Wrote};
+use meaning::{Fields, Refusal};
 use names::letters::put_spelled;
 use names::rooms::OPENED;
 use words::coding::{is_matched_name, is_spelled, is_weekday, list, most_letters, rule_in};
@@ -83,15 +82,14 @@ fn put_held(tail: &[u64], from: usize, n: usize, out: &mut [u8], at: usize) -> u
     requires n_in_bounds_2 { at + n ≤ length out.old }
     ensures { Laid out.old out.new at result (held_bytes tail.now from n) }
 {
-    let mut j = 0;
-    while j < n {
+    for j in 0..n {
         out[at + j] = (tail[from + j] % 256) as u8;
-        j += 1;
     }
-    at + j
+    at + n
 }
 
-// Whether a word is one of those that patterns have most, with a year of four digits where it writes one.
+// Whether a word is one of those that patterns have most, with a year of four digits where it writes one. An arm for each code: joined by `|`, a prepared
+// write takes up to 2 per cent more instructions.
 fn is_quick(w: u64, year: u32) -> bool
     ensures { result ≡ is_quick year w }
 {
@@ -143,7 +141,7 @@ fn put_quick(w: u64, numbers: &[u32; 11], out: &mut [u8], at: usize) -> usize
 
 // The number of a record's name among those that are spelled.
 fn spelled_name(w: u64, f: Fields) -> usize
-    requires { (fields_check f ≡ Fine) × (is_spelled w ≡ true) }
+    requires { (fields_check f ≡ Ok tt) × (is_spelled w ≡ true) }
     ensures { result ≡ spelled_name f w }
 {
     if is_weekday(w) {
@@ -154,7 +152,7 @@ fn spelled_name(w: u64, f: Fields) -> usize
 
 // The name of a word, which is matched: an English month or weekday by its letters, any other by its list.
 fn put_matched(book: &[u8], w: u64, f: Fields, out: &mut [u8], at: usize) -> usize
-    requires f_value { fields_check f ≡ Fine }
+    requires f_value { fields_check f ≡ Ok tt }
     requires f_in_bounds { at + length (name_text (book_in book.now) (list_in (field.item w)) f) ≤ length out.old }
     ensures { Laid out.old out.new at result (name_text (book_in book.now) (list_in (field.item w)) f) }
 {
@@ -168,7 +166,7 @@ fn put_matched(book: &[u8], w: u64, f: Fields, out: &mut [u8], at: usize) -> usi
 
 // A name that is matched, and the byte behind it: no rule is made of it.
 fn put_name(book: &[u8], w: u64, f: Fields, out: &mut [u8], at: usize) -> usize
-    requires f_value { fields_check f ≡ Fine }
+    requires f_value { fields_check f ≡ Ok tt }
     requires w_in_bounds { at + length (matched_text book.now f w) ≤ length out.old }
     ensures { Laid out.old out.new at result (matched_text book.now f w) }
 {
@@ -178,7 +176,7 @@ fn put_name(book: &[u8], w: u64, f: Fields, out: &mut [u8], at: usize) -> usize
 
 // What is rarest.
 fn put_other(tail: &[u64], w: u64, f: Fields, out: &mut [u8], at: usize) -> usize
-    requires f_value { fields_check f ≡ Fine }
+    requires f_value { fields_check f ≡ Ok tt }
     requires w_in_bounds { at + length (other_text tail.now f w) ≤ length out.old }
     ensures { Laid out.old out.new at result (other_text tail.now f w) }
 {
@@ -200,7 +198,7 @@ fn put_other(tail: &[u64], w: u64, f: Fields, out: &mut [u8], at: usize) -> usiz
 
 // Any word that is not quick. The rarest are called at two places: so they stay a call, and nothing of them is worked out where it is not asked for.
 fn put_slow(book: &[u8], tail: &[u64], w: u64, f: Fields, out: &mut [u8], at: usize) -> usize
-    requires f_value { fields_check f ≡ Fine }
+    requires f_value { fields_check f ≡ Ok tt }
     requires w_value { is_quick (plain_year f) w ≡ false }
     requires w_in_bounds { at + length (word_text book.now tail.now f w) ≤ length out.old }
     ensures { Laid out.old out.new at result (word_text book.now tail.now f w) }
@@ -219,7 +217,7 @@ fn put_slow(book: &[u8], tail: &[u64], w: u64, f: Fields, out: &mut [u8], at: us
 }
 
 fn numbers_of(f: Fields) -> [u32; 11]
-    requires { fields_check f ≡ Fine }
+    requires { fields_check f ≡ Ok tt }
     ensures { result ≡ numbers_of f }
 {
     let y = f.year;
@@ -242,7 +240,7 @@ fn numbers_of(f: Fields) -> [u32; 11]
 
 // The first so many words of a row, where there is room for their text.
 fn put_words(book: &[u8], tail: &[u64], used: usize, f: Fields, out: &mut [u8]) -> usize
-    requires f_value { fields_check f ≡ Fine }
+    requires f_value { fields_check f ≡ Ok tt }
     requires used_in_bounds { used ≤ length tail.now }
     requires tail_in_bounds { length (words_text book.now tail.now f (take used tail.now)) ≤ length out.old }
     ensures { Laid out.old out.new 0 result (words_text book.now tail.now f (take used tail.now)) }
@@ -250,34 +248,35 @@ fn put_words(book: &[u8], tail: &[u64], used: usize, f: Fields, out: &mut [u8]) 
     let numbers = numbers_of(f);
     let year = numbers[10];
     let mut at = 0;
-    let mut i = 0;
-    while i < used {
+    for i in 0..used {
         let w = tail[i];
         if is_quick(w, year) {
             at = put_quick(w, &numbers, out, at);
         } else {
             at = put_slow(book, tail, w, f, out, at);
         }
-        i += 1;
     }
     at
 }
 
 // Writes a record by words. A refused write alters no byte. The text is measured where the bytes that the words write at most do not fit.
-pub fn write_words(book: &[u8], tail: &[u64], used: usize, f: Fields, out: &mut [u8]) -> Wrote
+pub fn write_words(
+    book: &[u8],
+    tail: &[u64],
+    used: usize,
+    f: Fields,
+    out: &mut [u8],
+) -> Result<usize, Refusal>
     requires used_in_bounds { used ≤ length tail.now }
     requires used_bound { used ≤ 256 }
-    ensures { (result ≡ write_steps Fine (book_in book.now) (steps_of tail.now (take used tail.now)) f out.old) × (out.new ≡ output_steps Fine (book_in book.now) (steps_of tail.now (take used tail.now)) f out.old) }
+    ensures { (result ≡ write_steps (Ok tt) (book_in book.now) (steps_of tail.now (take used tail.now)) f out.old) × (out.new ≡ output_steps (Ok tt) (book_in book.now) (steps_of tail.now (take used tail.now)) f out.old) }
 {
-    let checked = fields_check(f);
-    if let Checked::Refused(why) = checked {
-        return Wrote::Refused(why);
-    }
+    fields_check(f)?;
     if out.len() < most_of(&tail[..used]) {
         let n = words_length(book, tail, used, f);
         if out.len() < n {
-            return Wrote::Refused(Refusal::NoRoom(n));
+            return Err(Refusal::NoRoom(n));
         }
     }
-    Wrote::Length(put_words(book, tail, used, f, out))
+    Ok(put_words(book, tail, used, f, out))
 }

@@ -1,4 +1,5 @@
 -- What the parts of an accepted pattern have, as far as their words ask for it: few bytes, all of them below 128.
+use Rattle.std.specs.Prelude.{Ok}
 use mathlib.Core.Bool.{true}
 use mathlib.Core.List.{List, [], ◌∷◌, ◌++◌}
 use mathlib.Core.Path.{◌≡◌, refl}
@@ -10,7 +11,6 @@ use Rattle.meaning.specs.Answers.{within, pattern_check}
 use Rattle.meaning.specs.Bytes.{quote}
 use Rattle.meaning.specs.Mending.{escaped_bytes, part_bytes}
 use Rattle.meaning.specs.Splitting.{Content, run, quotes, quoted, unclosed, contents, length_of, inside_length}
-use Rattle.meaning.specs.declared.Checked.TheVariants.{Fine}
 use Rattle.laws.proofs.Ascii.{is_ascii, Ascii}
 use Rattle.laws.proofs.Checks.{within-is, pattern-fine}
 use Rattle.laws.proofs.PartBytes.{joined, parts-joined}
@@ -69,7 +69,7 @@ parts-pack (c ∷ cs) h few k =
 ascii-weaker : (b : ℕ) → within 1 127 b ≡ true → is_ascii b ≡ true
 ascii-weaker b h = let w = within-is 1 127 b h in rw (le-leb 0 b (omega arith), le-leb b 127 w.1)
 
-pub pattern-packs : (p : List ℕ) → pattern_check p ≡ Fine → AllPack (contents p)
+pub pattern-packs : (p : List ℕ) → pattern_check p ≡ Ok tt → AllPack (contents p)
 pattern-packs p h =
     let fine = pattern-fine p h in
     parts-pack (contents p) (parts-stand-well p) (omega (arith, parts-fill p, fine.short))

@@ -1,4 +1,5 @@
 -- The words of a pattern and the bytes that they hold are together no more than its bytes.
+use Rattle.std.specs.Prelude.{Ok}
 use mathlib.Core.Bool.{Bool, true, false}
 use mathlib.Core.List.{List, [], ◌∷◌}
 use mathlib.Core.Path.{◌≡◌, refl}
@@ -12,7 +13,6 @@ use Rattle.meaning.specs.Bytes.{when, quote}
 use Rattle.meaning.specs.Rules.{role_of}
 use Rattle.meaning.specs.Splitting.{Content, run, quotes, quoted, unclosed, contents, length_of}
 use Rattle.meaning.specs.Writing.{ends_in_quote}
-use Rattle.meaning.specs.declared.Checked.TheVariants.{Fine}
 use Rattle.meaning.specs.declared.Pair.{Pair}
 use Rattle.meaning.specs.declared.Role.{Role}
 use Rattle.meaning.specs.declared.Role.TheVariants as role
@@ -63,7 +63,7 @@ parts-fit pair at [] h = omega arith
 parts-fit pair at (c ∷ cs) h =
     omega (arith, part-fits c h.0, parts-fit pair (at - length (held_in c)) cs h.1, length-append (held_of cs) (held_in c))
 
-pub packed-short : (pair : Pair) (p : List ℕ) → pattern_check p ≡ Fine → length (packed pair p) + length (held_by p) ≤ length p
+pub packed-short : (pair : Pair) (p : List ℕ) → pattern_check p ≡ Ok tt → length (packed pair p) + length (held_by p) ≤ length p
 unfolding packed held_by
 packed-short pair p h =
     omega (
@@ -127,7 +127,7 @@ joined_words a b (w ∷ ws) h k e =
     (λ _. joined_words 0 (three_word 10 a b) ws (omega arith) (three-is-word 10 a b (omega arith)) t.1)
     (kept-words a (joined b w ws) h (joined_words b w ws k fits t.1))
 
-pub packed-words : (pair : Pair) (p : List ℕ) → pattern_check p ≡ Fine → every is_word (packed pair p) ≡ true
+pub packed-words : (pair : Pair) (p : List ℕ) → pattern_check p ≡ Ok tt → every is_word (packed pair p) ≡ true
 unfolding packed
 packed-words pair p h =
     joined_words 0 0 (part_words pair 256 (contents p)) (omega arith) (omega arith) (parts-are-words pair 256 (contents p) (omega arith) (pattern-packs p h))

@@ -1,4 +1,5 @@
 -- The words of an accepted pattern, with the bytes that they hold at the end of a row, stand for the pattern's steps.
+use Rattle.std.specs.Prelude.{Ok}
 use mathlib.Core.List.{List, [], ◌∷◌, ◌++◌, map}
 use mathlib.Core.Path.{◌≡◌, refl, ap, sym, ◌∙◌}
 use Prim.Native.Nat.{ℕ, ◌+◌, ◌-◌, ◌≤◌}
@@ -8,7 +9,6 @@ use lib.Seq.{take-add, take-append_seam, drop-append_seam, take-length, drop-dro
 use Rattle.meaning.specs.Answers.{pattern_check}
 use Rattle.meaning.specs.Splitting.{Content, contents}
 use Rattle.meaning.specs.Writing.{step_of, steps}
-use Rattle.meaning.specs.declared.Checked.TheVariants.{Fine}
 use Rattle.meaning.specs.declared.Pair.{Pair}
 use Rattle.laws.proofs.Checks.{pattern-fine}
 use Rattle.words.specs.Packing.{held_in, held_of, held_by, part_word, part_words, packed}
@@ -58,7 +58,7 @@ module _ (pair : Pair) (row : List ℕ) where
       let behind = parts-stand next cs (omega arith) (omega arith) h.1 below in
       steps-cons row (part_word pair next c) (part_words pair next cs) ∙ rw (part, behind)
 
-pub packed-stands : (pair : Pair) (p row : List ℕ) → pattern_check p ≡ Fine → drop (256 - length (held_by p)) row ≡ held_by p
+pub packed-stands : (pair : Pair) (p row : List ℕ) → pattern_check p ≡ Ok tt → drop (256 - length (held_by p)) row ≡ held_by p
     → steps_of row (packed pair p) ≡ steps pair p
 unfolding packed held_by steps
 packed-stands pair p row h e =

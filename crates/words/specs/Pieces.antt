@@ -1,9 +1,8 @@
 -- Request [11]: what a word of a prepared pattern stands for: no step, one, or some that follow one another. Every word stands for such a
 -- list, also one that nobody made.
-use Rattle.std.specs.Prelude.{Bool, true, false, List, [], ◌∷◌, ◌++◌, map, ℕ, ◌+◌, ◌%◌, eqb, leb, take, drop, replicate}
+use Rattle.std.specs.Prelude.{false, List, [], ◌∷◌, ◌++◌, map, ℕ, ◌+◌, ◌%◌, eqb, leb, take, drop, replicate}
 use Rattle.meaning.specs.Bytes.{when}
 use Rattle.meaning.specs.Writing.{Step, literal, field}
-use Rattle.meaning.specs.declared.Rule.{Rule}
 use Rattle.rules.specs.ShortRules.{short_rule}
 use Rattle.rules.specs.Steps.{long_year}
 use Rattle.rules.specs.declared.short.Short.{Short}
@@ -24,12 +23,11 @@ piece_step row (Times b n) = literal (replicate n b) false
 piece_step row (Held i n lost) = literal (held_bytes row i n) lost
 piece_step row (Symbol rule) = field rule
 
--- one of the numbers that patterns have most, by its slot
+-- one of the numbers that patterns have most, by its slot; any other slot than theirs is the day
 unfoldable pub short_in : ℕ → Short
 short_in n =
     when (eqb n 0) short.Month
-    (when (eqb n 1) short.Day
-    (when (eqb n 2) short.Hour (when (eqb n 3) short.Minute (when (eqb n 4) short.Second short.Other))))
+    (when (eqb n 2) short.Hour (when (eqb n 3) short.Minute (when (eqb n 4) short.Second short.Day)))
 
 abbrev pub once : ℕ → Piece
 once b = Times b 1

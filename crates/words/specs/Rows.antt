@@ -1,11 +1,10 @@
 -- Request [11]: the row of a prepared pattern: a mark, a check word, what was found of the pattern, and 256 words, of which the first are
 -- those of its steps and the last the bytes that these hold.
-use Rattle.std.specs.Prelude.{Bool, true, false, List, [], ◌∷◌, ℕ, ◌+◌, ◌-◌, ◌*◌, ◌/◌, ◌%◌, eqb, leb, ltb, length, get_or, take, drop}
+use Rattle.std.specs.Prelude.{Bool, List, [], ◌∷◌, ℕ, ◌-◌, ◌%◌, eqb, leb, ltb, length, get_or, take, drop, Ok, Err}
 use Rattle.std.specs.Int.Bits.{bit_xor}
 use Rattle.meaning.specs.Bytes.{when, both}
 use Rattle.meaning.specs.Writing.{Step}
-use Rattle.meaning.specs.declared.Checked.{Checked}
-use Rattle.meaning.specs.declared.Checked.TheVariants.{Fine, Refused}
+use Rattle.meaning.specs.Results.{Checked}
 use Rattle.meaning.specs.declared.Refusal.{Refusal}
 use Rattle.meaning.specs.declared.Refusal.TheVariants.{PatternTooLong, PatternByte, LoneQuote}
 use Rattle.words.specs.Pieces.{steps_of}
@@ -73,7 +72,7 @@ is_refused row =
 
 -- what its pattern was refused for, and its steps
 abbrev pub checked_in : List ℕ → Checked
-checked_in row = when (is_accepted row) Fine (Refused (refusal_in row))
+checked_in row = when (is_accepted row) (Ok tt) (Err (refusal_in row))
 
 abbrev pub steps_held : List ℕ → List Step
 steps_held row = steps_of (tail row) (step_words row)

@@ -7,10 +7,8 @@ pub fn check_word(from: u64, words: &[u64]) -> u64
     ensures { result ≡ xor_from from words.now }
 {
     let mut sum = from;
-    let mut i = 0;
-    while i < words.len() {
-        sum = sum ^ words[i];
-        i += 1;
+    for w in words {
+        sum ^= *w;
     }
     sum
 }

@@ -135,23 +135,14 @@ pub fn is_matched_name(w: u64) -> bool
 fn is_spelled_list(n: u64) -> bool
     ensures { result ≡ coding.is_spelled_list n }
 {
-    if n == 4 {
-        return true;
-    }
-    if n == 5 {
-        return true;
-    }
-    n == 8
+    matches!(n, 4 | 5 | 8)
 }
 
 // Whether the name is matched by its letters, whether it is one of a weekday, and how many letters it has at most.
 pub fn is_spelled(w: u64) -> bool
     ensures { result ≡ coding.is_spelled w }
 {
-    if is_matched_name(w) {
-        return is_spelled_list(w / 512 % 32);
-    }
-    false
+    is_matched_name(w) && is_spelled_list(w / 512 % 32)
 }
 
 pub fn is_weekday(w: u64) -> bool

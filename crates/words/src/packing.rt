@@ -1,14 +1,13 @@
 // A pattern packed into the words of a row: those of its steps from the start, the bytes that these hold at the end.
-ghost use Rattle.std.specs.Prelude.{◌≡◌, ◌-◌, ◌≤◌, length};
+ghost use Rattle.std.specs.Prelude.{◌≡◌, ◌-◌, ◌≤◌, length, Ok};
 ghost use Rattle.std.proofs.lemmas.List.Edits.{sets};
 ghost use Rattle.meaning.specs.Answers.{pattern_check};
-ghost use Rattle.meaning.specs.declared.Checked.TheVariants.{Fine};
 ghost use Rattle.words.specs.Packing.{packed, held_by};
 
 use crate::parts::part_word;
 use crate::pending::{Pending, join, keep};
 use meaning::Pair;
-use pattern::parts::next_part;
+use pattern::parts::parts_of;
 
 // How many words there are, and where the bytes start that they hold.
 #[derive(Clone, Copy)]
@@ -18,7 +17,7 @@ pub struct Packed {
 }
 
 pub fn pack(pair: Pair, pattern: &[u8], tail: &mut [u64]) -> Packed
-    requires { (256 ≤ length tail.old) × (pattern_check pattern.now ≡ Fine) }
+    requires { (256 ≤ length tail.old) × (pattern_check pattern.now ≡ Ok tt) }
     ensures { (result.used ≡ length (packed pair pattern.now)) × (result.held ≡ 256 - length (held_by pattern.now)) × (tail.new ≡ sets (sets tail.old 0 (packed pair pattern.now)) result.held (held_by pattern.now)) }
 {
     let mut pending = Pending {
@@ -27,13 +26,10 @@ pub fn pack(pair: Pair, pattern: &[u8], tail: &mut [u64]) -> Packed
         second: 0,
     };
     let mut held = 256;
-    let mut place = 0;
-    while place < pattern.len() {
-        let part = next_part(pattern, place);
+    for part in parts_of(pattern) {
         let placed = part_word(pair, pattern, part, tail, held);
         pending = join(pending, placed.word, tail);
         held = placed.at;
-        place += part.length;
     }
     let used = keep(pending.first, tail, pending.used);
     Packed {

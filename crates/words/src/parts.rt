@@ -51,19 +51,13 @@ fn role_meant(step: Step) -> Role
     ensures { result ≡ role_meant step }
 {
     match step {
-        Step::Times { byte: _, count: _ } => Role::Literal,
-        Step::Quoted { from: _, to: _ } => Role::Literal,
-        Step::Open { from: _ } => Role::Literal,
+        Step::Times { .. } | Step::Quoted { .. } | Step::Open { .. } => Role::Literal,
         Step::Short { number, count } => Role::Symbol(short_rule(number, count)),
         Step::Year(count) => Role::Symbol(year_rule(count)),
         Step::MonthAbbreviated => Role::Symbol(Rule::MatchedName(NameList::MonthAbbreviated)),
         Step::MonthWide => Role::Symbol(Rule::MatchedName(NameList::MonthWide)),
         Step::WdayWide => Role::Symbol(Rule::MatchedName(NameList::WdayWide)),
-        Step::Run {
-            role,
-            byte: _,
-            count: _,
-        } => role,
+        Step::Run { role, .. } => role,
     }
 }
 
@@ -87,6 +81,7 @@ fn lay_held(src: &[u8], tail: &mut [u64], at: usize)
     ensures { tail.new ≡ sets tail.old at (unescaped src.now) }
 {
     let mut next = at;
+    // A loop by hand: a doubled quote is two bytes, and no iterator of a slice steps by one or two.
     let mut i = 0;
     while i < src.len() {
         let b = src[i];
@@ -100,8 +95,7 @@ fn held_word(at: usize, n: usize, lost: bool) -> u64
     requires { (at ≤ 256) × (n ≤ 256) }
     ensures { result ≡ 31 + 32 * n + 16384 * at + 8388608 * bit lost }
 {
-    let word = 31 + 32 * n as u64 + 16384 * at as u64;
-    if lost { word + 8388608 } else { word }
+    31 + 32 * n as u64 + 16384 * at as u64 + 8388608 * u64::from(lost)
 }
 
 // An inside: a byte by itself, or bytes that are held before a place.
@@ -110,13 +104,11 @@ fn hold(src: &[u8], lost: bool, tail: &mut [u64], before: usize) -> Placed
     ensures { (result.word ≡ held_word result.at (unescaped src.now) lost) × Holds tail.old tail.new before (held_inside (unescaped src.now) lost) result.at }
 {
     let n = unescaped_length(src);
-    if n == 1 {
-        if !lost {
-            return Placed {
-                word: times_word(src[0], 1),
-                at: before,
-            };
-        }
+    if n == 1 && !lost {
+        return Placed {
+            word: times_word(src[0], 1),
+            at: before,
+        };
     }
     let at = before - n;
     lay_held(src, tail, at);

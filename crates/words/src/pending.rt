@@ -21,47 +21,27 @@ pub struct Pending {
 fn is_number(c: u64) -> bool
     ensures { result ≡ is_number c }
 {
-    match c {
-        3 => true,
-        4 => true,
-        9 => true,
-        10 => true,
-        15 => true,
-        _ => c == 22,
-    }
+    matches!(c, 3 | 4 | 9 | 10 | 15 | 22)
 }
 
 // Whether the lower fields of a word are these, and a byte is behind them.
 fn has_byte(w: u64, fields: u64) -> bool
     ensures { result ≡ both (eqb (w % 72057594037927936) fields) (ltb 0 (last_byte w)) }
 {
-    if w % 72057594037927936 == fields {
-        return 0 < last_byte(w);
-    }
-    false
+    w % 72057594037927936 == fields && 0 < last_byte(w)
 }
 
 fn joins_byte(w: u64, byte: u64) -> bool
     ensures { result ≡ joins_byte w byte }
 {
-    if w < 72057594037927936 {
-        if is_number(code(w)) {
-            return has_byte(byte, 1);
-        }
-    }
-    false
+    w < 72057594037927936 && is_number(code(w)) && has_byte(byte, 1)
 }
 
 // Whether three words are these numbers, with a byte behind the first and the second.
 fn are_three(a: u64, first: u64, b: u64, second: u64, c: u64, third: u64) -> bool
     ensures { result ≡ both (eqb c third) (with_bytes first second a b) }
 {
-    if c == third {
-        if has_byte(a, first) {
-            return has_byte(b, second);
-        }
-    }
-    false
+    c == third && has_byte(a, first) && has_byte(b, second)
 }
 
 fn three_word(kind: u64, a: u64, b: u64) -> u64

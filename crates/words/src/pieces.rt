@@ -24,17 +24,17 @@ pub enum Piece {
     Symbol(Rule),
 }
 
-// One of the numbers that patterns have most, by its slot.
+// One of the numbers that patterns have most, by its slot; any other slot is the day.
+#[tactic(auto, unfolding(crate::specs::Pieces::short_in))]
 pub fn short_in(n: usize) -> Short
     ensures { result ≡ pieces.short_in n }
 {
     match n {
         0 => Short::Month,
-        1 => Short::Day,
         2 => Short::Hour,
         3 => Short::Minute,
         4 => Short::Second,
-        _ => Short::Other,
+        _ => Short::Day,
     }
 }
 
@@ -42,10 +42,7 @@ pub fn short_in(n: usize) -> Short
 fn behind_count(w: u64) -> usize
     ensures { (result ≡ length (pieces.behind w)) × (result ≤ 1) }
 {
-    if last_byte(w) == 0 {
-        return 0;
-    }
-    1
+    if last_byte(w) == 0 { 0 } else { 1 }
 }
 
 // How many pieces a word has.
@@ -84,10 +81,11 @@ fn shortly(number: Short, digits: u8) -> Piece
 fn yearly(digits: usize) -> Piece
     ensures { result ≡ pieces.yearly digits }
 {
-    if digits <= 4 {
-        return Piece::Symbol(Rule::Years(digits));
-    }
-    Piece::Symbol(Rule::FixedYear(digits))
+    Piece::Symbol(if digits <= 4 {
+        Rule::Years(digits)
+    } else {
+        Rule::FixedYear(digits)
+    })
 }
 
 // The first piece of a word that has one.

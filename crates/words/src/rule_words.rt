@@ -1,7 +1,7 @@
 // The word of a rule: the numbers that `coding` takes apart again.
 ghost use Rattle.std.specs.Prelude.{◌≡◌, ◌<◌};
 ghost use Rattle.meaning.specs.Whole.{unit_number};
-ghost use Rattle.words.specs.Packing.{quantity_number, list_number, group_number, bit, slot_number, slot_word, rule_word};
+ghost use Rattle.words.specs.Packing.{quantity_number, list_number, group_number, slot_number, slot_word, rule_word};
 
 use meaning::{Group, NameList, ParseUnit, Quantity, Rule};
 
@@ -84,31 +84,17 @@ fn group_number(group: Group) -> u64
     }
 }
 
-fn bit(b: bool) -> u64
-    ensures { (result ≡ bit b) × (result < 2) }
-{
-    if b { 1 } else { 0 }
-}
-
 // The slot of a number that patterns have most; 5 for any other.
 fn slot_number(quantity: Quantity) -> u64
     ensures { (result ≡ slot_number quantity) × (result < 6) }
 {
     match quantity {
         Quantity::Month => 0,
-        Quantity::Quarter => 5,
-        Quantity::Week => 5,
         Quantity::Day => 1,
-        Quantity::DayOfYear => 5,
-        Quantity::Weekday => 5,
-        Quantity::WeekdayFromMonday => 5,
-        Quantity::Hour1To12 => 5,
-        Quantity::Hour0To11 => 5,
         Quantity::Hour0To23 => 2,
-        Quantity::Hour1To24 => 5,
         Quantity::Minute => 3,
         Quantity::Second => 4,
-        Quantity::Fraction(_) => 5,
+        _ => 5,
     }
 }
 
@@ -141,8 +127,8 @@ fn number_word(quantity: Quantity, least: u8, most: u8, unit: ParseUnit, zero: u
 fn zone_word(utc: bool, colon: bool, minutes: Group, seconds: Group) -> u64
     ensures { result ≡ rule_word (Rule.Zone utc colon minutes seconds) }
 {
-    246 + 17179869184 * bit(utc)
-        + 34359738368 * bit(colon)
+    246 + 17179869184 * u64::from(utc)
+        + 34359738368 * u64::from(colon)
         + 68719476736 * group_number(minutes)
         + 274877906944 * group_number(seconds)
 }

@@ -3,9 +3,9 @@ ghost use Rattle.meaning.specs.Names.{english};
 ghost use Rattle.meaning.specs.Promises.{Writes};
 
 use crate::format_english;
-use meaning::{Fields, Pair, Wrote};
+use meaning::{Fields, Pair, Refusal};
 
-pub fn format(pattern: &[u8], f: Fields, out: &mut [u8]) -> Wrote
+pub fn format(pattern: &[u8], f: Fields, out: &mut [u8]) -> Result<usize, Refusal>
     ensures { Writes Pair.Date english pattern.now f out.old result out.new }
 {
     format_english(Pair::Date, pattern, f, out)

@@ -9,31 +9,35 @@ ghost use Rattle.meaning.specs.OpenedBooks.{book_in};
 ghost use Rattle.meaning.specs.Promises.{Writes};
 
 use crate::walk::{format_parts, text_length};
-use fields::checks::{fields_check, or_else};
-use meaning::{Checked, Fields, Pair, Refusal, Wrote};
+use fields::checks::fields_check;
+use meaning::{Fields, Pair, Refusal};
 use pattern::checks::pattern_check;
 
 // Writes a record by a pattern of either pair, with the names of a lent book. A refused write alters no byte, an accepted one just those it reports. The text is
 // measured where 8 bytes for each of the pattern, which are always enough, do not fit.
-pub fn format_with(pair: Pair, book: &[u8], pattern: &[u8], f: Fields, out: &mut [u8]) -> Wrote
+#[tactic(auto, unfolding(meaning::specs::Whole::write, meaning::specs::Whole::write_check, meaning::specs::Whole::output))]
+pub fn format_with(
+    pair: Pair,
+    book: &[u8],
+    pattern: &[u8],
+    f: Fields,
+    out: &mut [u8],
+) -> Result<usize, Refusal>
     ensures { Writes pair (book_in book.now) pattern.now f out.old result out.new }
 {
-    let of_fields = fields_check(f);
-    let checked = or_else(pattern_check(pattern), of_fields);
-    if let Checked::Refused(why) = checked {
-        return Wrote::Refused(why);
-    }
+    pattern_check(pattern)?;
+    fields_check(f)?;
     if out.len() < pattern.len() * 8 {
         let n = text_length(pair, book, pattern, f);
         if out.len() < n {
-            return Wrote::Refused(Refusal::NoRoom(n));
+            return Err(Refusal::NoRoom(n));
         }
     }
-    Wrote::Length(format_parts(pair, book, pattern, f, out))
+    Ok(format_parts(pair, book, pattern, f, out))
 }
 
 // With the English names, for which an empty row stands.
-fn format_english(pair: Pair, pattern: &[u8], f: Fields, out: &mut [u8]) -> Wrote
+fn format_english(pair: Pair, pattern: &[u8], f: Fields, out: &mut [u8]) -> Result<usize, Refusal>
     ensures { Writes pair english pattern.now f out.old result out.new }
 {
     let none: [u8; 0] = [];
@@ -41,7 +45,7 @@ fn format_english(pair: Pair, pattern: &[u8], f: Fields, out: &mut [u8]) -> Wrot
 }
 
 // The full pair's writer.
-pub fn format(pattern: &[u8], f: Fields, out: &mut [u8]) -> Wrote
+pub fn format(pattern: &[u8], f: Fields, out: &mut [u8]) -> Result<usize, Refusal>
     ensures { Writes Pair.Full english pattern.now f out.old result out.new }
 {
     format_english(Pair::Full, pattern, f, out)

@@ -5,7 +5,7 @@ use Prim.Native.Nat.{ℕ, zero, suc, ◌+◌, ◌-◌, ◌≤◌, ◌<◌}
 use native.Mathlib.Numerals.{add-one}
 use native.Mathlib.Omega.{arith}
 use lib.ListN.{length, get_or, take, drop, replicate, length-append, length-take, drop_of_length-le}
-use lib.Seq.{sets, drop-cons, take-append-le, take-append-add}
+use lib.Seq.{sets, drop-cons, take-append-add}
 use Rattle.books.specs.Places.{name_in, names_by}
 use Rattle.laws.proofs.Laid.{sets-append}
 use Rattle.laws.specs.Laid.{Laid}
@@ -77,9 +77,6 @@ short-room name h =
     (ap (λ (n : ℕ). take n (name ++ replicate 20 0)) all
     ∙ take-append-add name (replicate 20 0) (20 - length name)
     ∙ ap (λ (s : List ℕ). name ++ s) (zeros (20 - length name) 20 (omega arith)))
-
-pub long-room : (name : List ℕ) → 20 < length name → in_room name ≡ length name ∷ take 20 name
-long-room name h = ap (λ (s : List ℕ). length name ∷ s) (take-append-le 20 name (replicate 20 0) (omega arith))
 
 pub room-length : (name : List ℕ) → length (in_room name) ≡ 21
 room-length name = simp (length-take, length-append) (omega arith)

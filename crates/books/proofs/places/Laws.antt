@@ -1,7 +1,8 @@
 -- Laws of the places of names, found one by one.
-use mathlib.Core.List.{List, [], ◌∷◌, ◌++◌, append_assoc, append-nil}
-use mathlib.Core.Path.{◌≡◌, refl, ap}
-use Prim.Native.Nat.{ℕ, suc, ◌+◌, ◌-◌, ◌*◌, ◌≤◌, ◌<◌}
+use mathlib.Core.List.{List, [], ◌∷◌, ◌++◌, map}
+use Rattle.std.specs.List.{range_with_len}
+use mathlib.Core.Path.{◌≡◌, refl, sym, ap, ◌∙◌}
+use Prim.Native.Nat.{ℕ, zero, suc, ◌+◌, ◌-◌, ◌*◌, ◌≤◌, ◌<◌}
 use native.Mathlib.Numerals.{add-one}
 use native.Mathlib.Omega.{arith}
 use borrow.Author.Tests.{le-leb, lt-leb}
@@ -76,19 +77,10 @@ module _ (s places : List ℕ) (i at : ℕ) where
 
 -- in an opened book
 
-module _ (places : List ℕ) (all : length places ≡ 64) (i : ℕ) where
-  pub room-more : i < 64 → (row : List ℕ)
-      → names_by row (take i places) ++ names_at 255 (64 - i) (drop (i * 21) row)
-      ≡ names_by row (take (i + 1) (set places i (i * 21))) ++ names_at 255 (64 - (i + 1)) (drop ((i + 1) * 21) row)
-  unfolding names_at
-  room-more more row =
-      let one : 64 - i ≡ suc (64 - (i + 1)) = omega arith in
-      let next : i * 21 + 21 ≡ (i + 1) * 21 = omega arith in
-      let h : i < length places = omega arith in
-      rw (one, names_more row places i (i * 21) h, append_assoc, drop-drop, next)
-
-  pub rooms-done : 64 ≤ i → (row : List ℕ) → names_by row (take i places) ++ names_at 255 (64 - i) (drop (i * 21) row) ≡ names_by row places
-  unfolding names_at
-  rooms-done done row =
-      let none : 64 - i ≡ 0 = omega arith in
-      rw (none, take_all i places (omega arith)) (append-nil (names_by row places))
+pub rooms-from : (row : List ℕ) (n a : ℕ) → names_by row (map (λ i. i * 21) (range_with_len a n)) ≡ names_at 255 n (drop (a * 21) row)
+unfolding names_by names_at
+rooms-from row zero a = refl
+rooms-from row (suc n) a =
+    let next : a * 21 + 21 ≡ (a + 1) * 21 = omega arith in
+    ap (λ (ns : List (List ℕ)). name_in row (a * 21) ∷ ns)
+    (rooms-from row n (a + 1) ∙ ap (λ (k : ℕ). names_at 255 n (drop k row)) (sym next) ∙ ap (names_at 255 n) (sym (drop-drop 21 (a * 21) row)))

@@ -1,78 +1,67 @@
--- Laws of the check of names: the lists as the code has them, the earlier names of a list one by one, a name, the names of a list.
-use mathlib.Core.Bool.{true, false}
-use mathlib.Core.List.{List, [], ◌∷◌}
-use mathlib.Core.Path.{◌≡◌, refl}
+-- Laws of the check of names: the lists as the code has them, the earlier names of a list, the names of a list.
+use Rattle.std.specs.Prelude.{Ok, Err}
+use mathlib.Core.Bool.{Bool, true, false, ◌&&◌}
+use mathlib.Core.List.{List, [], ◌∷◌, map}
+use mathlib.Core.Path.{◌≡◌, refl, sym, ap, ◌∙◌}
 use Prim.Native.Nat.{ℕ, zero, suc, ◌+◌, ◌-◌, ◌≤◌, ◌<◌}
 use native.Mathlib.Numerals.{add-one}
 use native.Mathlib.Omega.{arith}
-use lib.Dec.{ltb}
-use borrow.Author.Tests.{le-leb, lt-leb}
-use lib.ListN.{length, get_or, drop, drop_of_length-le}
+use lib.ListN.{length, get_or, take, drop, length-drop, drop_of_length-le}
 use lib.Seq.{drop-cons, drop-drop}
+use Rattle.std.proofs.lemmas.List.{get_or-drop}
+use Rattle.std.specs.List.{list_all}
+use Rattle.std.proofs.lemmas.List.Folds.{list_all_more}
+use Rattle.meaning.specs.Bytes.{both}
 use Rattle.books.specs.Places.{name_in, names_by, earlier}
+use Rattle.books.specs.Shelves.{meant}
+use Rattle.books.specs.declared.shelves.Shelf.{Shelf}
 use Rattle.meaning.specs.Books as books
-use Rattle.meaning.specs.declared.Checked.TheVariants.{Fine, Refused}
 use Rattle.meaning.specs.declared.Refusal.{Refusal}
 use Rattle.meaning.specs.declared.Refusal.TheVariants.{BookName}
 
-abbrev told : ℕ → books.Shelf
-told k =
-    books.shelf
-    (get_or (12 ∷ 12 ∷ 7 ∷ 7 ∷ 7 ∷ 7 ∷ 12 ∷ []) k 0)
-    (get_or (2 ∷ 2 ∷ 2 ∷ 3 ∷ 2 ∷ 1 ∷ 1 ∷ []) k 0)
-    (get_or (20 ∷ 20 ∷ 20 ∷ 3 ∷ 2 ∷ 1 ∷ 1 ∷ []) k 0)
-    (ltb k 3)
+-- the lists as the code has them
+abbrev pub lists : List Shelf
+lists =
+    record { count = 12; least = 2; most = 20; apart = true }
+    ∷ record { count = 12; least = 2; most = 20; apart = true }
+    ∷ record { count = 7; least = 2; most = 20; apart = true }
+    ∷ record { count = 7; least = 3; most = 3; apart = false }
+    ∷ record { count = 7; least = 2; most = 2; apart = false }
+    ∷ record { count = 7; least = 1; most = 1; apart = false }
+    ∷ record { count = 12; least = 1; most = 1; apart = false }
+    ∷ []
 
-pub shelf-there : (k : ℕ) → k < 7 → drop k books.shelves ≡ told k ∷ drop (suc k) books.shelves
-shelf-there zero h = refl
-shelf-there (suc zero) h = refl
-shelf-there (suc (suc zero)) h = refl
-shelf-there (suc (suc (suc zero))) h = refl
-shelf-there (suc (suc (suc (suc zero)))) h = refl
-shelf-there (suc (suc (suc (suc (suc zero))))) h = refl
-shelf-there (suc (suc (suc (suc (suc (suc zero)))))) h = refl
-shelf-there (suc (suc (suc (suc (suc (suc (suc k))))))) h = absurd (omega arith)
+abbrev pub list_at : ℕ → books.Shelf
+list_at k = meant (get_or lists k (record { count = 0; least = 0; most = 0; apart = false }))
+
+behind-list : (all : List Shelf) (k : ℕ) (none : Shelf) → k < length all → drop k (map meant all) ≡ meant (get_or all k none) ∷ drop (suc k) (map meant all)
+behind-list [] k none h = absurd (omega arith)
+behind-list (s ∷ all) zero none h = refl
+behind-list (s ∷ all) (suc k) none h = behind-list all k none (omega arith)
+
+pub shelf-there : (k : ℕ) → k < 7 → drop k books.shelves ≡ list_at k ∷ drop (suc k) books.shelves
+shelf-there k h = behind-list lists k (record { count = 0; least = 0; most = 0; apart = false }) h
 
 -- the earlier names
 
-module _ (s places : List ℕ) (first : ℕ) (name : List ℕ) (n k : ℕ) (one : n ≡ suc k) where
-  pub earlier-apart : books.apart (name_in s (get_or places (first + k) 0)) name ≡ true
-      → books.apart_from (earlier s places first n) name ≡ books.apart_from (earlier s places first k) name
-  unfolding books.apart_from earlier
-  earlier-apart e = rw (one, e)
+turned : (p q : Bool) → (p && q) ≡ both q p
+turned true true = refl
+turned true false = refl
+turned false true = refl
+turned false false = refl
 
-  pub earlier-begins : books.apart (name_in s (get_or places (first + k) 0)) name ≡ false → books.apart_from (earlier s places first n) name ≡ false
-  unfolding books.apart_from earlier
-  earlier-begins e = rw (one, e)
-
-pub none-earlier : (s places : List ℕ) (first : ℕ) (name : List ℕ) (n : ℕ) → n ≤ 0 → books.apart_from (earlier s places first n) name ≡ true
+pub all-apart : (s places : List ℕ) (first count : ℕ) (name : List ℕ) → first + count ≤ length places
+    → list_all (λ at. books.apart (name_in s at) name) (take count (drop first places)) ≡ books.apart_from (earlier s places first count) name
 unfolding books.apart_from earlier
-none-earlier s places first name n h = let none : n ≡ 0 = omega arith in rw none
-
--- a name by itself, and against the earlier ones
-
-module _ (s : books.Shelf) (before : List (List ℕ)) (name : List ℕ) where
-  pub too_short : length name < s.least → books.is_good s before name ≡ false
-  unfolding books.is_good
-  too_short h = rw (lt-leb s.least (length name) h)
-
-  module _ (long : s.least ≤ length name) where
-    pub too_long : s.most < length name → books.is_good s before name ≡ false
-    unfolding books.is_good
-    too_long h = rw (le-leb s.least (length name) long, lt-leb (length name) s.most h)
-
-    module _ (short : length name ≤ s.most) where
-      pub no-letters : books.all_letters name ≡ false → books.is_good s before name ≡ false
-      unfolding books.is_good
-      no-letters e = rw (le-leb s.least (length name) long, le-leb (length name) s.most short, e)
-
-      pub by_itself : books.all_letters name ≡ true → s.apart ≡ false → books.is_good s before name ≡ true
-      unfolding books.is_good
-      by_itself e one = rw (le-leb s.least (length name) long, le-leb (length name) s.most short, e, one)
-
-      pub by-earlier : books.all_letters name ≡ true → s.apart ≡ true → books.is_good s before name ≡ books.apart_from before name
-      unfolding books.is_good
-      by-earlier e all = rw (le-leb s.least (length name) long, le-leb (length name) s.most short, e, all)
+all-apart s places first zero name h = refl
+all-apart s places first (suc k) name h =
+    let p : ℕ → Bool = λ at. books.apart (name_in s at) name in
+    let there : k < length (drop first places) = omega (arith, length-drop first places) in
+    ap (λ (n : ℕ). list_all p (take n (drop first places))) (sym (add-one k))
+    ∙ list_all_more p (drop first places) k 0 there
+    ∙ turned (list_all p (take k (drop first places))) (p (get_or (drop first places) k 0))
+    ∙ ap (λ (n : ℕ). both (p n) (list_all p (take k (drop first places)))) (get_or-drop first places k 0)
+    ∙ ap (both (p (get_or places (first + k) 0))) (all-apart s places first k name (omega arith))
 
 -- the names of a list
 
@@ -81,7 +70,7 @@ module _ (s : books.Shelf) (t places : List ℕ) (first k j : ℕ) (there : firs
   here = name_in t (get_or places (first + k) 0)
 
   pub bad-name : books.is_good s (earlier t places first k) here ≡ false
-      → books.shelf_check s (j - k) (suc (first + k)) (earlier t places first k) (names_by t (drop (first + k) places)) ≡ Refused (BookName (first + k + 1))
+      → books.shelf_check s (j - k) (suc (first + k)) (earlier t places first k) (names_by t (drop (first + k) places)) ≡ Err (BookName (first + k + 1))
   unfolding books.shelf_check names_by
   bad-name e =
       let more : j - k ≡ suc (j - (k + 1)) = omega arith in
@@ -96,7 +85,7 @@ module _ (s : books.Shelf) (t places : List ℕ) (first k j : ℕ) (there : firs
       let next : first + (k + 1) ≡ suc (first + k) = omega arith in
       rw (more, drop-cons places (first + k) 0 there, e, next, add-one)
 
-pub names-done : (s : books.Shelf) (k j i : ℕ) (before ns : List (List ℕ)) → j ≤ k → books.shelf_check s (j - k) i before ns ≡ Fine
+pub names-done : (s : books.Shelf) (k j i : ℕ) (before ns : List (List ℕ)) → j ≤ k → books.shelf_check s (j - k) i before ns ≡ Ok tt
 unfolding books.shelf_check
 names-done s k j i before ns h = let none : j - k ≡ 0 = omega arith in rw none
 
@@ -122,12 +111,12 @@ module _ (t places : List ℕ) (first k : ℕ) (s : books.Shelf) (there : drop k
   abbrev left : List (List ℕ)
   left = names_by t (drop first places)
 
-  pub bad-list : {why : Refusal} → books.shelf_check s s.count (suc first) [] left ≡ Refused why
-      → books.names_check (drop k books.shelves) (suc first) left ≡ Refused why
+  pub bad-list : {why : Refusal} → books.shelf_check s s.count (suc first) [] left ≡ Err why
+      → books.names_check (drop k books.shelves) (suc first) left ≡ Err why
   unfolding books.names_check
   bad-list e = rw (there, e)
 
-  pub good-list : books.shelf_check s s.count (suc first) [] left ≡ Fine
+  pub good-list : books.shelf_check s s.count (suc first) [] left ≡ Ok tt
       → books.names_check (drop k books.shelves) (suc first) left
       ≡ books.names_check (drop (k + 1) books.shelves) (suc (first + s.count)) (names_by t (drop (first + s.count) places))
   unfolding books.names_check
@@ -135,6 +124,6 @@ module _ (t places : List ℕ) (first k : ℕ) (s : books.Shelf) (there : drop k
       let next : suc first + s.count ≡ suc (first + s.count) = omega arith in
       rw (there, e, next, names-behind t (drop first places) s.count, drop-drop, add-one)
 
-pub lists-done : (k i : ℕ) (ns : List (List ℕ)) → 7 ≤ k → books.names_check (drop k books.shelves) i ns ≡ Fine
+pub lists-done : (k i : ℕ) (ns : List (List ℕ)) → 7 ≤ k → books.names_check (drop k books.shelves) i ns ≡ Ok tt
 unfolding books.names_check
 lists-done k i ns h = let none : length books.shelves ≤ k = omega arith in rw (drop_of_length-le books.shelves none)

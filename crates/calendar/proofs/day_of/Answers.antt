@@ -5,25 +5,9 @@ use native.Mathlib.Omega.{arith}
 use mir.Facts.{to_z-of_z}
 use Rattle.calendar.proofs.Found.{near-places, day-found}
 use Rattle.calendar.proofs.line.Signed.{year-fits}
-use Rattle.laws.proofs.CalendarLine.{line-room}
-use Rattle.laws.proofs.CalendarYears.{year-short}
 use Rattle.laws.specs.CalendarLine.{line, InYear}
 use Rattle.meaning.specs.Calendar.{year_length}
 use Rattle.calendar.proofs.day_of.Goals as goal
-
-pub year_on_line-found-requires : goal.year_on_line-found-requires
-year_on_line-found-requires c =
-    let line-is : c.on_line-n.result ≡ line c.args.number = rw (to_z-of_z c.ranges.number) at c.on_line-n.ensures in
-    omega (arith, line-is, line-room c.args.number c.ranges.number.sfits)
-
-pub month_of-in_month-requires : goal.month_of-in_month-requires
-month_of-in_month-requires c = rw c.year_on_line-found.ensures.1 c.year_on_line-found.ensures.0.inside
-
-pub overflow_add-result : goal.overflow_add-result
-overflow_add-result c =
-    let r = c.year_on_line-found.result in
-    let inside : r.past < year_length r.leap = rw c.year_on_line-found.ensures.1 c.year_on_line-found.ensures.0.inside in
-    omega (arith, inside, year-short r.leap)
 
 pub week_of-requires : goal.week_of-requires
 week_of-requires c =

@@ -14,7 +14,7 @@ use Rattle.pattern.specs.First.{unescaped}
 use Rattle.rules.specs.ShortRules.{short_quantity}
 use Rattle.rules.specs.Steps.{long_year}
 use Rattle.rules.specs.declared.short.Short.{Short}
-use Rattle.rules.specs.declared.short.Short.TheVariants.{Month, Day, Hour, Minute, Second, Other}
+use Rattle.rules.specs.declared.short.Short.TheVariants.{Month, Day, Hour, Minute, Second}
 
 pub open-text : (book : Book) (f : Fields) (s : List ℕ) → step_text book f (literal (unescaped s) (ends_in_quote (unescaped s))) ≡ open_text s
 unfolding step_text open_text
@@ -28,7 +28,6 @@ short-small Day f ok = omega arith
 short-small Hour f ok = omega arith
 short-small Minute f ok = omega arith
 short-small Second f ok = omega arith
-short-small Other f ok = omega arith
 
 pub year-text : (book : Book) (c : ℕ) (f : Fields) → rule_text book (long_year c) f ≡ signed_text c f.year
 unfolding rule_text

@@ -4,39 +4,19 @@ use mathlib.Core.Path.{◌≡◌, refl, sym, ap, ◌∙◌}
 use Prim.Native.Nat.{ℕ, suc, ◌+◌, ◌-◌, ◌≤◌}
 use native.Mathlib.Omega.{arith}
 use lib.Dec.{eqb}
-use lib.ListN.{length, set, drop, replicate, length-append, drop_of_length-le}
+use lib.ListN.{length, drop, replicate, length-append, drop_of_length-le}
 use lib.Seq.{set_at, append_snoc}
-use borrow.Author.Tests.{eq-eqb, ne_eqb}
 use Rattle.laws.proofs.Tests.{by-test}
-use Rattle.meaning.specs.Bytes.{when}
 use Rattle.meaning.specs.Mending.{space, change, listed, no_change, changes_of}
 use Rattle.meaning.specs.Splitting.{contents}
 use Rattle.meaning.specs.declared.Change.{Change}
 use Rattle.meaning.specs.declared.Changes.{Changes}
 use Rattle.meaning.specs.declared.Edition.{Edition}
 use Rattle.meaning.specs.declared.Part.{Part}
+use Rattle.mending.specs.Listing.{list_of, with_change}
 use Rattle.mending.proofs.walk.Laws.{left_from, all_left, Found, gap-told, long-next, length-next}
 use Rattle.trust.proofs.MendedSizes.{few-changes}
 use Rattle.trust.specs.Mending.{mended, changes_from, changes}
-
-abbrev pub list_of : List Change → ℕ → Changes
-list_of cs n = record { listed = cs; used = n }
-
--- a list with one more change; as often as before is none
-
-abbrev pub with_change : Changes → Change → Changes
-with_change list c = when (eqb c.before c.after) list (list_of (set list.listed list.used c) (list.used + 1))
-
-pub changes-kept : (list : Changes) (c : Change) (cs : List Change) (n : ℕ) → c.before ≡ c.after → cs ≡ list.listed → n ≡ list.used
-    → list_of cs n ≡ with_change list c
-changes-kept list c cs n same held used = rw (eq-eqb c.before c.after same, held, used)
-
-pub change-stored : (list : Changes) (c : Change) (cs : List Change) (n : ℕ) → (c.before ≡ c.after → ⊥) → cs ≡ set list.listed list.used c
-    → n ≡ list.used + 1 → list_of cs n ≡ with_change list c
-change-stored list c cs n other held used = rw (ne_eqb c.before c.after other, held, used)
-
-pub listed-one : (c : Change) → (c.before ≡ c.after → ⊥) → length (listed c) ≡ 1
-listed-one c h = rw (ne_eqb c.before c.after h)
 
 with-one : (cs : List Change) (c : Change) → length cs + length (listed c) ≤ 128 → with_change (changes_of cs) c ≡ changes_of (cs ++ listed c)
 with-one cs c h =

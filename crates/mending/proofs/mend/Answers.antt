@@ -1,62 +1,48 @@
 -- The checks, the length of the mended pattern, it, and the list of its changes.
-use mathlib.Core.Path.{◌≡◌, sym, ◌∙◌}
+use mathlib.Core.Path.{sym, ◌∙◌}
 use mir.Syntax.{w32}
 use mir.ValLaws.{to_z-of_z}
 use native.Mathlib.Omega.{arith}
+use Rattle.std.proofs.lemmas.Result.{err_from_is_err_and}
 use Rattle.laws.proofs.Told.{by_whole}
-use Rattle.meaning.specs.Trust.{trust_check}
-use Rattle.meaning.specs.declared.Checked.TheVariants.{Fine}
 use Rattle.trust.specs.Mending.{mended, changes}
 use Rattle.mending.proofs.Answers.{checked-short, check-refused, too_long, no_room, with-room, mended-with}
 use Rattle.mending.proofs.mend.Goals as goal
 
-pub returns-in-Refused : goal.returns-in-Refused
-returns-in-Refused c =
+pub returns-in_err-trust_check : goal.returns-in_err-trust_check
+returns-in_err-trust_check c =
     let a = c.args in
-    let same-year = to_z-of_z w32 a.year c.ranges.year in
-    let ensured = c.trust_check.ensures in
-    let checked : c.trust_check.result ≡ trust_check a.edition a.pattern.now a.year = cc in
-    let m = check-refused a.edition a.pattern.now a.year a.out.now (sym checked ∙ c.in-Refused.is) in
-    (by_whole (c.refused.ensures ∙ sym m.0), sym m.1)
+    let checked = rw (to_z-of_z w32 a.year c.ranges.year) at c.trust_check.ensures in
+    let refused = err_from_is_err_and c.from_residual.result c.from_residual.ensures.1 in
+    let m = check-refused a.edition a.pattern.now a.year a.out.now (sym checked ∙ c.in_err-trust_check.was) in
+    rw (refused.1, refused.2) (by_whole (sym m.0), sym m.1)
 
 pub mended_length-n-requires : goal.mended_length-n-requires
 mended_length-n-requires c =
     let a = c.args in
-    let same-year = to_z-of_z w32 a.year c.ranges.year in
-    let ensured = c.trust_check.ensures in
-    let is = c.in_default.is in
-    let fine : trust_check a.edition a.pattern.now a.year ≡ Fine = cc in
+    let fine = sym (rw (to_z-of_z w32 a.year c.ranges.year) at c.trust_check.ensures) ∙ c.in_ok-trust_check.was in
     checked-short a.edition a.pattern.now a.year fine
 
 pub returns-then-n-gt256 : goal.returns-then-n-gt256
 returns-then-n-gt256 c =
     let a = c.args in
-    let same-year = to_z-of_z w32 a.year c.ranges.year in
-    let ensured = c.trust_check.ensures in
-    let is = c.in_default.is in
-    let fine : trust_check a.edition a.pattern.now a.year ≡ Fine = cc in
+    let fine = sym (rw (to_z-of_z w32 a.year c.ranges.year) at c.trust_check.ensures) ∙ c.in_ok-trust_check.was in
     let n = c.mended_length-n.ensures in
     let m = too_long a.edition a.pattern.now a.year a.out.now fine (omega (arith, n, c.if-n-gt256.true)) in
-    (by_whole (c.refused-then-n-gt256.ensures ∙ sym m.0), sym m.1)
+    (by_whole (sym m.0), sym m.1)
 
 pub returns-then-out-n : goal.returns-then-out-n
 returns-then-out-n c =
     let a = c.args in
-    let same-year = to_z-of_z w32 a.year c.ranges.year in
-    let ensured = c.trust_check.ensures in
-    let is = c.in_default.is in
-    let fine : trust_check a.edition a.pattern.now a.year ≡ Fine = cc in
+    let fine = sym (rw (to_z-of_z w32 a.year c.ranges.year) at c.trust_check.ensures) ∙ c.in_ok-trust_check.was in
     let n = c.mended_length-n.ensures in
     let m = no_room a.edition a.pattern.now a.year a.out.now fine (omega (arith, n, c.if-n-gt256.false)) (omega (arith, n, c.if-out-n.true)) in
-    (by_whole (c.refused-then-out-n.ensures ∙ rw n (sym m.0)), sym m.1)
+    (by_whole (rw n (sym m.0)), sym m.1)
 
 pub put_mended-requires : goal.put_mended-requires
 put_mended-requires c =
     let a = c.args in
-    let same-year = to_z-of_z w32 a.year c.ranges.year in
-    let ensured = c.trust_check.ensures in
-    let is = c.in_default.is in
-    let fine : trust_check a.edition a.pattern.now a.year ≡ Fine = cc in
+    let fine = sym (rw (to_z-of_z w32 a.year c.ranges.year) at c.trust_check.ensures) ∙ c.in_ok-trust_check.was in
     record {
       pattern_len_bound = checked-short a.edition a.pattern.now a.year fine;
       pattern_in_bounds = omega (arith, c.mended_length-n.ensures, c.if-out-n.false);
@@ -65,10 +51,7 @@ put_mended-requires c =
 pub list_changes-requires : goal.list_changes-requires
 list_changes-requires c =
     let a = c.args in
-    let same-year = to_z-of_z w32 a.year c.ranges.year in
-    let ensured = c.trust_check.ensures in
-    let is = c.in_default.is in
-    let fine : trust_check a.edition a.pattern.now a.year ≡ Fine = cc in
+    let fine = sym (rw (to_z-of_z w32 a.year c.ranges.year) at c.trust_check.ensures) ∙ c.in_ok-trust_check.was in
     record {
       pattern_len_bound = checked-short a.edition a.pattern.now a.year fine;
       pattern_len_bound_2 = omega (arith, c.mended_length-n.ensures, c.if-n-gt256.false);
@@ -77,10 +60,7 @@ list_changes-requires c =
 pub returns : goal.returns
 returns c =
     let a = c.args in
-    let same-year = to_z-of_z w32 a.year c.ranges.year in
-    let ensured = c.trust_check.ensures in
-    let is = c.in_default.is in
-    let fine : trust_check a.edition a.pattern.now a.year ≡ Fine = cc in
+    let fine = sym (rw (to_z-of_z w32 a.year c.ranges.year) at c.trust_check.ensures) ∙ c.in_ok-trust_check.was in
     let n = c.mended_length-n.ensures in
     let laid = c.put_mended.ensures in
     let m = with-room a.edition a.pattern.now a.year a.out.now fine (omega (arith, n, c.if-n-gt256.false)) (omega (arith, n, c.if-out-n.false)) in

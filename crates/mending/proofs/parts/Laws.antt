@@ -1,4 +1,5 @@
 -- A part of the pattern and its own change: its bytes are the pattern's, and the change adds its byte behind them.
+use Rattle.std.specs.Prelude.{Option, Some, None}
 use mathlib.Core.Bool.{Bool, true}
 use mathlib.Core.List.{List, ◌∷◌, ◌++◌, append-nil}
 use mathlib.Core.Path.{◌≡◌, refl, sym, ap, ◌∙◌}
@@ -34,7 +35,6 @@ use Rattle.trust.specs.Check.{meets, first_unmet}
 use Rattle.trust.specs.Mending.{spaces_for, spaces_before, gap}
 use Rattle.trust.specs.Needs.{step_need}
 use Rattle.trust.specs.declared.Unmet.{Unmet}
-use Rattle.trust.specs.declared.Unmet.TheVariants.{Nowhere, At}
 
 replicate-add : (b n k : ℕ) → replicate (n + k) b ≡ replicate n b ++ replicate k b
 replicate-add b zero k = let e : 0 + k ≡ k = omega arith in rw e
@@ -191,9 +191,9 @@ gap-asked edition c q =
 
 -- the answer of the check for this one part
 
-abbrev pub spaces_of : Unmet → ℕ
-spaces_of Nowhere = 0
-spaces_of (At part need) = spaces_for need
+abbrev pub spaces_of : Option Unmet → ℕ
+spaces_of None = 0
+spaces_of (Some unmet) = spaces_for unmet.need
 
 one-unmet : (edition : Edition) (n : ℕ) (c : Content) (q : List ℕ) → 0 < n → n ≤ length_of c
     → spaces_of (first_unmet edition n 0 (c ∷ contents q)) ≡ spaces_before (step_need edition (step_of Full c)) (steps Full q)
@@ -206,7 +206,7 @@ one-unmet edition n c q some one =
 
 -- and so of any part, by what was passed over and what was found
 module _ (edition : Edition) {p : List ℕ} {part : Part} (n : Next p part.start part) where
-  pub gap-found : (passed : ℕ) → passed ≡ passed_over (get_or p part.start 0) part.length → (unmet : Unmet)
+  pub gap-found : (passed : ℕ) → passed ≡ passed_over (get_or p part.start 0) part.length → (unmet : Option Unmet)
       → unmet ≡ first_unmet edition (part.start + part.length - (part.start + passed)) 0 (contents (drop (part.start + passed) p))
       → gap edition (content_of p part) (contents (drop (part.start + part.length) p)) ≡ spaces_of unmet
   gap-found passed told unmet found =

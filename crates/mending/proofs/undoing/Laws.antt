@@ -2,21 +2,21 @@
 use mathlib.Core.Bool.{true, false}
 use mathlib.Core.List.{List, [], ◌∷◌, ◌++◌}
 use mathlib.Core.Path.{◌≡◌, refl, sym, ap, ◌∙◌}
-use Prim.Native.Nat.{ℕ, suc, ◌+◌, ◌-◌, ◌≤◌, ◌<◌}
+use Prim.Native.Nat.{ℕ, zero, suc, ◌+◌, ◌-◌, ◌≤◌, ◌<◌}
 use native.Mathlib.Numerals.{add-one}
 use native.Mathlib.Omega.{arith}
 use lib.Dec.{eqb, leb}
-use lib.ListN.{length, get_or, take, drop, replicate, length-take, length-drop, length-replicate, length-append, drop_of_length-le}
-use lib.Seq.{drop-cons, get_or-take, length-take-le}
-use borrow.Author.Tests.{eq-eqb, ne_eqb, leb-true}
+use Rattle.std.specs.List.{list_all}
+use lib.ListN.{length, get_or, take, drop, replicate, length-drop, length-replicate, length-append, drop_of_length-le}
+use lib.Seq.{drop-cons, length-take-le}
+use borrow.Author.Tests.{eq-eqb, ne_eqb, eqb-true, leb-true}
 use Rattle.laws.proofs.Checks.{within-is}
 use Rattle.laws.proofs.Tests.{by-test, true-is-not-false, both_true}
 use Rattle.meaning.specs.Answers.{within}
 use Rattle.meaning.specs.Bytes.{both}
-use Rattle.meaning.specs.Mending.{no_change, changes_in, fits, all_fit, undone_from}
+use Rattle.meaning.specs.Mending.{no_change, fits, all_fit, undone_from}
 use Rattle.meaning.specs.Readers.{begins}
 use Rattle.meaning.specs.declared.Change.{Change}
-use Rattle.meaning.specs.declared.Changes.{Changes}
 
 -- a byte that stands so often
 
@@ -32,24 +32,14 @@ begins-long [] t h = omega arith
 begins-long (a ∷ s) [] h = true-is-not-false (sym h)
 begins-long (a ∷ s) (b ∷ t) h = let rest = begins-long s t (both_true (eqb a b) (begins s t) h).1 in omega (arith, rest)
 
-module _ (p : List ℕ) (place b times j : ℕ) (h : j < times) (inside : place + times ≤ length p) where
-  next-stands : begins (replicate (times - j) b) (drop (place + j) p) ≡ both (eqb b (get_or p (place + j) 0)) (begins (replicate (times - (j + 1)) b) (drop (place + (j + 1)) p))
-  unfolding begins
-  next-stands =
-      let k : times - j ≡ suc (times - (j + 1)) = omega arith in
-      let e : place + (j + 1) ≡ suc (place + j) = omega arith in
-      let here : place + j < length p = omega arith in
-      rw (k, e, drop-cons p (place + j) 0 here)
-
-  pub stands_on : get_or p (place + j) 0 ≡ b → begins (replicate (times - (j + 1)) b) (drop (place + (j + 1)) p) ≡ begins (replicate (times - j) b) (drop (place + j) p)
-  stands_on e = sym (next-stands ∙ rw (e, eq-eqb b b refl))
-
-  pub stands-not : (get_or p (place + j) 0 ≡ b → ⊥) → begins (replicate (times - j) b) (drop (place + j) p) ≡ false
-  stands-not e = next-stands ∙ rw (ne_eqb b (get_or p (place + j) 0) (λ d. e (sym d)))
-
-pub stands-done : (p : List ℕ) (place b times j : ℕ) → times ≤ j → begins (replicate (times - j) b) (drop (place + j) p) ≡ true
+pub all_stand : (b times : ℕ) (s : List ℕ) → times ≤ length s → list_all (λ x. eqb x b) (take times s) ≡ begins (replicate times b) s
 unfolding begins
-stands-done p place b times j h = let e : times - j ≡ 0 = omega arith in rw e
+all_stand b zero s h = refl
+all_stand b (suc n) [] h = absurd (omega arith)
+all_stand b (suc n) (x ∷ s) h =
+    by-test (eqb x b)
+    (λ e. rw (e, eqb-true x b e, eq-eqb b b refl) (all_stand b n s (omega arith)))
+    (λ e. rw (e, ne_eqb b x (λ d. true-is-not-false (sym (eq-eqb x b (sym d)) ∙ e))))
 
 -- a change that fits
 
@@ -73,58 +63,47 @@ fits-is p at c h =
 
 -- listed changes, one by one
 
-pub count-used : (used : ℕ) (l : List Change) → length l ≡ 128 → used < 128 → length (take used l) ≡ used
-count-used used l e h = length-take-le used l (omega (arith, e))
+pub change-next : (cs : List Change) (i : ℕ) → i < length cs → drop i cs ≡ get_or cs i no_change ∷ drop (i + 1) cs
+change-next cs i h = drop-cons cs i no_change h ∙ rw (add-one i)
 
-pub count-all : (used : ℕ) (l : List Change) → length l ≡ 128 → 128 ≤ used → length (take used l) ≡ 128
-count-all used l e h = length-take used l ∙ omega (arith, e)
-
-pub count-few : (changes : Changes) → length changes.listed ≡ 128 → length (changes_in changes) ≤ 128
-count-few changes e = omega (arith, e, length-take changes.used changes.listed)
-
-pub change-next : (changes : Changes) (i : ℕ) → i < length (changes_in changes) → drop i (changes_in changes) ≡ get_or changes.listed i no_change ∷ drop (i + 1) (changes_in changes)
-change-next changes i h =
-    let few : i < changes.used = omega (arith, h, length-take changes.used changes.listed) in
-    drop-cons (changes_in changes) i no_change h ∙ rw (get_or-take changes.used changes.listed i no_change few, add-one i)
-
-module _ (p : List ℕ) (at : ℕ) (changes : Changes) (i : ℕ) (h : i < length (changes_in changes)) where
+module _ (p : List ℕ) (at : ℕ) (cs : List Change) (i : ℕ) (h : i < length cs) where
   abbrev this : Change
-  this = get_or changes.listed i no_change
+  this = get_or cs i no_change
 
-  pub fits_not : fits p at this ≡ false → all_fit p at (drop i (changes_in changes)) ≡ false
+  pub fits_not : fits p at this ≡ false → all_fit p at (drop i cs) ≡ false
   unfolding all_fit
-  fits_not e = rw (change-next changes i h, e)
+  fits_not e = rw (change-next cs i h, e)
 
-  pub fits_on : fits p at this ≡ true → all_fit p (this.place + this.after) (drop (i + 1) (changes_in changes)) ≡ all_fit p at (drop i (changes_in changes))
+  pub fits_on : fits p at this ≡ true → all_fit p (this.place + this.after) (drop (i + 1) cs) ≡ all_fit p at (drop i cs)
   unfolding all_fit
-  fits_on e = rw (change-next changes i h, e)
+  fits_on e = rw (change-next cs i h, e)
 
-  pub fits-here : all_fit p at (drop i (changes_in changes)) ≡ true → Fitting p at this
+  pub fits-here : all_fit p at (drop i cs) ≡ true → Fitting p at this
   unfolding all_fit
   fits-here e =
-      let all : all_fit p at (this ∷ drop (i + 1) (changes_in changes)) ≡ true = rw (change-next changes i h) at e in
-      fits-is p at this (both_true (fits p at this) (all_fit p (this.place + this.after) (drop (i + 1) (changes_in changes))) all).0
+      let all : all_fit p at (this ∷ drop (i + 1) cs) ≡ true = rw (change-next cs i h) at e in
+      fits-is p at this (both_true (fits p at this) (all_fit p (this.place + this.after) (drop (i + 1) cs)) all).0
 
-  pub fits-later : all_fit p at (drop i (changes_in changes)) ≡ true → all_fit p (this.place + this.after) (drop (i + 1) (changes_in changes)) ≡ true
+  pub fits-later : all_fit p at (drop i cs) ≡ true → all_fit p (this.place + this.after) (drop (i + 1) cs) ≡ true
   unfolding all_fit
   fits-later e =
-      let all : all_fit p at (this ∷ drop (i + 1) (changes_in changes)) ≡ true = rw (change-next changes i h) at e in
-      (both_true (fits p at this) (all_fit p (this.place + this.after) (drop (i + 1) (changes_in changes))) all).1
+      let all : all_fit p at (this ∷ drop (i + 1) cs) ≡ true = rw (change-next cs i h) at e in
+      (both_true (fits p at this) (all_fit p (this.place + this.after) (drop (i + 1) cs)) all).1
 
-  pub undone-next : undone_from p at (drop i (changes_in changes))
-      ≡ take (this.place - at) (drop at p) ++ replicate this.before this.byte ++ undone_from p (this.place + this.after) (drop (i + 1) (changes_in changes))
+  pub undone-next : undone_from p at (drop i cs)
+      ≡ take (this.place - at) (drop at p) ++ replicate this.before this.byte ++ undone_from p (this.place + this.after) (drop (i + 1) cs)
   unfolding undone_from
-  undone-next = rw (change-next changes i h)
+  undone-next = rw (change-next cs i h)
 
   pub kept-long : Fitting p at this → length (take (this.place - at) (drop at p)) ≡ this.place - at
   kept-long f = length-take-le (this.place - at) (drop at p) (omega (arith, f.inside, f.behind, length-drop at p))
 
-  pub undone-long : Fitting p at this → length (undone_from p at (drop i (changes_in changes)))
-      ≡ this.place - at + this.before + length (undone_from p (this.place + this.after) (drop (i + 1) (changes_in changes)))
+  pub undone-long : Fitting p at this → length (undone_from p at (drop i cs))
+      ≡ this.place - at + this.before + length (undone_from p (this.place + this.after) (drop (i + 1) cs))
   undone-long f =
       let kept = take (this.place - at) (drop at p) in
       let stood = replicate this.before this.byte in
-      let rest = undone_from p (this.place + this.after) (drop (i + 1) (changes_in changes)) in
+      let rest = undone_from p (this.place + this.after) (drop (i + 1) cs) in
       ap length undone-next ∙ omega (arith, length-append (kept ++ stood) rest, length-append kept stood, kept-long f, length-replicate this.before this.byte)
 
 pub fits_all : (p : List ℕ) (at : ℕ) (cs : List Change) (i : ℕ) → length cs ≤ i → all_fit p at (drop i cs) ≡ true

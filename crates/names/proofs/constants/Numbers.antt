@@ -1,5 +1,4 @@
 -- The numbers of the tables, gone through one after the other.
-use mathlib.Core.List.{List}
 use mathlib.Core.Path.{◌≡◌, refl}
 use Prim.Native.Nat.{ℕ, ◌≤◌, ◌<◌}
 use native.Mathlib.Omega.{arith}
@@ -7,8 +6,7 @@ use borrow.Author.Tests.{eqb-true, eqb-false}
 use lib.Dec.{eqb}
 use Rattle.laws.proofs.Tests.{by-test}
 use Rattle.meaning.specs.Names.{Book, names, english}
-use Rattle.names.specs.Lists.{list_at, most_at}
-use Rattle.names.specs.Table.{IsTable, Weekdays, Months, IsEnglish}
+use Rattle.names.specs.Lists.{list_at}
 
 -- the first of those from k on, or a later one
 pub first-or : (P : ℕ → Type 0) (k n : ℕ) → k ≤ n → P k → (k < n → P n) → P n
@@ -25,19 +23,3 @@ fixed-names book n h =
     let next = first-or (Fixed book) in
     next 0 n (omega arith) refl (λ m. next 1 n m refl (λ m. next 2 n m refl (λ m. next 3 n m refl (λ m. next 4 n m refl (λ m.
     next 5 n m refl (λ m. next 6 n m refl (λ m. next 7 n m refl (λ m. next 8 n m refl (λ m. next 9 n m refl (λ m. absurd (omega arith)))))))))))
-
--- the English weekdays' and months' names are in their rows
-
-abbrev Held : ℕ → List ℕ → ℕ → Type 0
-Held count rows n = IsTable (most_at n) count rows (names english (list_at n))
-
-pub weekday-table : {rows : List ℕ} {n most : ℕ} → Weekdays rows → IsEnglish n most → n < 14 → IsTable most 7 rows (names english (list_at n))
-weekday-table {rows} {n} w e k =
-    let next = first-or (Held 7 rows) in
-    rw e.short
-    (next 10 n e.from w.wide (λ m. next 11 n m w.abbreviated (λ m. next 12 n m w.short (λ m. next 13 n m w.narrow (λ m. absurd (omega arith))))))
-
-pub month-table : {rows : List ℕ} {n most : ℕ} → Months rows → IsEnglish n most → 14 ≤ n → IsTable most 12 rows (names english (list_at n))
-month-table {rows} {n} w e h =
-    let next = first-or (Held 12 rows) in
-    rw e.short (next 14 n h w.wide (λ m. next 15 n m w.abbreviated (λ m. next 16 n m w.narrow (λ m. absurd (omega arith)))))

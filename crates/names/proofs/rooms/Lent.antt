@@ -1,11 +1,13 @@
 -- A lent row: the book that it stands for, and the rooms of a list in the part of it from where they begin.
 use mathlib.Core.List.{List}
 use mathlib.Core.Path.{◌≡◌, sym, ◌∙◌}
-use Prim.Native.Nat.{ℕ, ◌-◌, ◌<◌}
+use Prim.Native.Nat.{ℕ, ◌-◌, ◌≤◌, ◌<◌}
 use native.Mathlib.Omega.{arith}
-use borrow.Author.Tests.{eq-eqb, ne_eqb}
+use borrow.Author.Tests.{eq-eqb, ne_eqb, ltb-true, ltb-false}
+use lib.Dec.{ltb}
 use lib.ListN.{length, take, drop, length-drop}
 use lib.Seq.{take_all}
+use Rattle.laws.proofs.Tests.{by-test}
 use Rattle.meaning.specs.Names.{names, english}
 use Rattle.meaning.specs.OpenedBooks.{opened_size, opened_book, book_in}
 use Rattle.meaning.specs.declared.NameList.{NameList}
@@ -37,3 +39,7 @@ module _ {n : ℕ} {list : NameList} (t : Numbered n list) (row : List ℕ) wher
 
   pub opened-list : names (book_in row) list ≡ names (book_in row) (list_at n)
   opened-list = sym (t.same (book_in row))
+
+  -- one that is the same in every book, or where none is lent
+  pub unlent-list : (10 ≤ n → length row ≡ opened_size → ⊥) → names (book_in row) list ≡ names english (list_at n)
+  unlent-list h = by-test (ltb n 10) (λ e. fixed-list (ltb-true n 10 e)) (λ e. english-list (h (ltb-false n 10 e)))

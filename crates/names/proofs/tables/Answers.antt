@@ -1,5 +1,6 @@
 -- What a caller learns from the answer of a matcher: the match of the definitions, and its bounds.
 use mathlib.Core.Bool.{true}
+use Rattle.std.specs.Prelude.{Some, None}
 use mathlib.Core.List.{List, [], ◌∷◌}
 use mathlib.Core.Path.{◌≡◌, refl, sym, ◌∙◌}
 use Prim.Native.Nat.{ℕ, suc, ◌+◌, ◌≤◌, ◌<◌}
@@ -11,21 +12,21 @@ use Rattle.laws.proofs.Tests.{by-test, true-is-not-false, when-is}
 use Rattle.meaning.specs.Readers.{Got, got, stopped, begins, first_name, match_name}
 use Rattle.meaning.specs.declared.Trouble.TheVariants.{NoName}
 use Rattle.names.specs.Table.{found_in}
-use Rattle.names.specs.declared.tables.Found.TheVariants.{Name, Nothing}
+use Rattle.names.specs.declared.tables.Found.{Found}
 use Rattle.names.proofs.tables.Laws.{too_long}
 
-pub found_name : (g : Got ℕ) {index n : ℕ} → found_in g ≡ Name index n → g ≡ got n index
+pub found_name : (g : Got ℕ) {f : Found} → found_in g ≡ Some f → g ≡ got f.length f.index
 found_name (got n index) e = cc
 found_name (stopped why place) e = absurd (let z : ◌≡◌ {A = ℕ} 0 1 = cc in omega arith)
 
-nothing-from : (i : ℕ) (names : List (List ℕ)) (s : List ℕ) → found_in (first_name i names s) ≡ Nothing → first_name i names s ≡ stopped NoName 0
+nothing-from : (i : ℕ) (names : List (List ℕ)) (s : List ℕ) → found_in (first_name i names s) ≡ None → first_name i names s ≡ stopped NoName 0
 unfolding first_name
 nothing-from i [] s = λ e. refl
 nothing-from i (name ∷ names) s =
-    when-is (λ (g : Got ℕ). found_in g ≡ Nothing → g ≡ stopped NoName 0) (begins name s)
+    when-is (λ (g : Got ℕ). found_in g ≡ None → g ≡ stopped NoName 0) (begins name s)
     (λ t e. absurd (let z : ◌≡◌ {A = ℕ} 0 1 = cc in omega arith)) (λ t. nothing-from (suc i) names s)
 
-pub found_nothing : (names : List (List ℕ)) (s : List ℕ) → found_in (match_name names s) ≡ Nothing → match_name names s ≡ stopped NoName 0
+pub found_nothing : (names : List (List ℕ)) (s : List ℕ) → found_in (match_name names s) ≡ None → match_name names s ≡ stopped NoName 0
 unfolding match_name
 found_nothing names s = nothing-from 0 names s
 

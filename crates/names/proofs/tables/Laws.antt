@@ -1,7 +1,8 @@
 -- Laws of rooms and matches, for the loops of the matcher and of the writer and for the calls over them: what a room holds, rooms
 -- that hold some names, a turn over the bytes of a name, its first letter, and a turn over names.
 use mathlib.Core.Bool.{Bool, true, false}
-use mathlib.Core.List.{List, [], ◌∷◌}
+use Rattle.std.specs.Prelude.{Option}
+use mathlib.Core.List.{List, [], ◌∷◌, append_assoc}
 use mathlib.Core.Path.{◌≡◌, refl, ap, sym, ◌∙◌}
 use Prim.Native.Nat.{ℕ, zero, suc, ◌+◌, ◌*◌, ◌≤◌, ◌<◌, min}
 use native.Mathlib.Numerals.{add-one}
@@ -9,7 +10,9 @@ use native.Mathlib.Omega.{arith}
 use borrow.Author.Tests.{eq-eqb, ne_eqb}
 use lib.Dec.{eqb}
 use lib.ListN.{length, take, drop, get_or, length-take, length-drop, drop_of_length-le}
-use lib.Seq.{drop-cons, drop-drop, get_or-take, get_or-drop}
+use borrow.Rule.Slice.PartMut.{put_mid}
+use Rattle.std.proofs.lemmas.List.Edits.{sets-eq}
+use lib.Seq.{sets, drop-cons, drop-drop, get_or-take, get_or-drop}
 use Rattle.laws.proofs.OpenedBooks.{count_at}
 use Rattle.laws.proofs.Tests.{true-is-not-false, when_true, when_false}
 use Rattle.meaning.specs.Bytes.{both, when}
@@ -44,6 +47,18 @@ room most rows i short h =
           rw (e, get_or-take, get_or-drop, p);
     }
 
+-- the letters, as a part of the rows
+pub room-part : (most : ℕ) (rows : List ℕ) (i n : ℕ) → most ≤ 20 → i * name_room + name_room ≤ length rows → n ≡ length (name_in most rows i)
+    → take n (drop (i * name_room + 1) rows) ≡ name_in most rows i
+room-part most rows i n short h e =
+    let m : n ≡ min (get_or rows (i * name_room) 0) most = e ∙ (room most rows i short h).size in
+    let p : i * name_room + 1 ≡ suc (i * name_room) = omega arith in
+    rw (m, p) (sym (room-name most rows i (omega arith)))
+
+-- what is copied to a part of the output lies over it
+pub put_mid-sets : (at k : ℕ) (xs ys : List ℕ) → length ys ≡ k → at + k ≤ length xs → put_mid at k xs ys ≡ sets xs at ys
+put_mid-sets at k xs ys h room = rw (sets-eq ys xs at (omega arith), h, drop-drop, append_assoc)
+
 -- ---- rooms, one after the other
 
 pub names-at : (most count : ℕ) (rows : List ℕ) (i : ℕ) → i < count → get_or (names_at most count rows) i [] ≡ name_in most rows i
@@ -76,7 +91,7 @@ module _ {most count : ℕ} {rows : List ℕ} {these : List (List ℕ)} (t : IsT
   pub put-told : {old new : List ℕ} {at next : ℕ} (i : ℕ) → i < length these → Laid old new at next (name_in most rows i) → Laid old new at next (get_or these i [])
   put-told i h l = rw (name-told i h) at l
 
-  pub match-told : {r : Found} (s : List ℕ) → r ≡ found_in (match_name (names_at most count rows) s) → r ≡ found_in (match_name these s)
+  pub match-told : {r : Option Found} (s : List ℕ) → r ≡ found_in (match_name (names_at most count rows) s) → r ≡ found_in (match_name these s)
   match-told s l = rw t.held at l
 
 -- ---- a turn over the bytes of a name

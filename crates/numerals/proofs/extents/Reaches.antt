@@ -5,7 +5,7 @@ use mathlib.Core.Path.{◌≡◌}
 use Prim.Native.Nat.{ℕ, suc, ◌+◌, ◌-◌, ◌≤◌, ◌<◌}
 use native.Mathlib.Numerals.{add-one}
 use native.Mathlib.Omega.{arith}
-use lib.ListN.{length, get_or, drop, get_or-eq_default}
+use lib.ListN.{get_or, drop}
 use lib.Seq.{get_or-drop}
 use Rattle.laws.proofs.Readers.{reach-on, reach-ends}
 use Rattle.meaning.specs.Bytes.{is_digit, digit_at}
@@ -29,7 +29,3 @@ module _ (s : List ℕ) (at k most : ℕ) where
   pub reach-done : most ≤ k → reach (most - k) k (drop at s) ≡ k
   unfolding reach
   reach-done h = let none_left : most - k ≡ 0 = omega arith in rw (none_left)
-
-  -- behind the text there is no digit
-  pub no_digit : length s ≤ at + k → is_digit (get_or s (at + k) 0) ≡ false
-  no_digit h = rw (get_or-eq_default s 0 h)

@@ -1,5 +1,4 @@
 -- By what the first byte is: a plus, or what it says of the sign.
-use borrow.Author.Rules.{rules}
 use lib.Seq.{length-take-le}
 use mathlib.Core.Path.{sym, ◌∙◌}
 use native.Mathlib.Omega.{arith}

@@ -1,56 +1,44 @@
-use Prim.Native.Nat.{◌-◌, ◌≤◌}
-use borrow.Author.Rules.{rules}
-use lib.ListN.{length, drop}
-use mathlib.Core.Path.{◌≡◌, refl, sym, ◌∙◌}
+use mathlib.Core.Path.{refl, sym, ◌∙◌}
 use native.Mathlib.Omega.{arith}
-use Rattle.laws.proofs.Digits.{digit-yes, digit-below, digit-above}
-use Rattle.numerals.proofs.Sizing.{sized_from, largest-fits, sized-none, sized-some, no_digit, digit-more, digit-too-many, digits-done}
+use Rattle.numerals.proofs.Sizing.{largest-fits, sized-none, sized-some, no_digit, digit-more, digit-too-many, digits-done}
 use Rattle.numerals.proofs.sized.Goals as goal
 
-pub returns-then-digits-eq0 : goal.returns-then-digits-eq0
-returns-then-digits-eq0 c = sym (sized-none c.args.kind c.args.negative c.args.digits.now c.if-digits-eq0.true)
+pub returns-then-is_empty : goal.returns-then-is_empty
+returns-then-is_empty c = sym (sized-none c.args.kind c.args.negative c.args.digits.now (grind arith))
 
-pub loop-i-init : goal.loop-i-init
-loop-i-init c =
+pub loop-d-init : goal.loop-d-init
+loop-d-init c =
     let a = c.args in
     (refl, omega arith, omega (arith, c.largest-most.ensures, largest-fits a.kind a.negative))
 
-pub returns-then-d-lt48 : goal.returns-then-d-lt48
-returns-then-d-lt48 c =
+pub returns-then-not-is_digit : goal.returns-then-not-is_digit
+returns-then-not-is_digit c =
     let a = c.args in
     let s = a.digits.now in
-    let L = c.loop-i in
+    let L = c.loop-d in
     sym
-    (sized-some a.kind a.negative s c.if-digits-eq0.false ∙ rw (← c.largest-most.ensures) (sym L.invariant.0 ∙ no_digit c.largest-most.result a.negative L.size s L.i c.loop-i-test.true (digit-below _ c.if-d-lt48.true)))
-
-pub returns-then-d-gt57 : goal.returns-then-d-gt57
-returns-then-d-gt57 c =
-    let a = c.args in
-    let s = a.digits.now in
-    let L = c.loop-i in
-    sym
-    (sized-some a.kind a.negative s c.if-digits-eq0.false ∙ rw (← c.largest-most.ensures) (sym L.invariant.0 ∙ no_digit c.largest-most.result a.negative L.size s L.i c.loop-i-test.true (digit-above _ c.if-d-gt57.true)))
+    (sized-some a.kind a.negative s (grind arith) ∙ rw (← c.largest-most.ensures) (sym L.invariant.0 ∙ no_digit c.largest-most.result a.negative L.size s L.d-index c.loop-d-test.true (sym c.is_digit.ensures ∙ c.if-not-is_digit.true)))
 
 pub returns-then-most-size : goal.returns-then-most-size
 returns-then-most-size c =
     let a = c.args in
     let s = a.digits.now in
-    let L = c.loop-i in
+    let L = c.loop-d in
     sym
-    (sized-some a.kind a.negative s c.if-digits-eq0.false ∙ rw (← c.largest-most.ensures) (sym L.invariant.0 ∙ digit-too-many c.largest-most.result a.negative L.size s L.i c.loop-i-test.true (digit-yes _ c.if-d-lt48.false c.if-d-gt57.false) c.if-most-size.true))
+    (sized-some a.kind a.negative s (grind arith) ∙ rw (← c.largest-most.ensures) (sym L.invariant.0 ∙ digit-too-many c.largest-most.result a.negative L.size s L.d-index c.loop-d-test.true (sym c.is_digit.ensures ∙ c.if-not-is_digit.false) c.if-most-size.true))
 
-pub loop-i-preserved : goal.loop-i-preserved
-loop-i-preserved c =
+pub loop-d-preserved : goal.loop-d-preserved
+loop-d-preserved c =
     let a = c.args in
     let s = a.digits.now in
-    let L = c.loop-i in
-    let more = digit-more c.largest-most.result a.negative L.size s L.i c.loop-i-test.true (digit-yes _ c.if-d-lt48.false c.if-d-gt57.false) in
+    let L = c.loop-d in
+    let more = digit-more c.largest-most.result a.negative L.size s L.d-index c.loop-d-test.true (sym c.is_digit.ensures ∙ c.if-not-is_digit.false) in
     (sym more ∙ L.invariant.0, omega arith, L.invariant.2)
 
 pub returns : goal.returns
 returns c =
     let a = c.args in
     let s = a.digits.now in
-    let L = c.loop-i in
+    let L = c.loop-d in
     sym
-    (sized-some a.kind a.negative s c.if-digits-eq0.false ∙ rw (← c.largest-most.ensures) (sym L.invariant.0 ∙ digits-done c.largest-most.result a.negative L.size s L.i c.loop-i-test.false L.invariant.1))
+    (sized-some a.kind a.negative s (grind arith) ∙ rw (← c.largest-most.ensures) (sym L.invariant.0 ∙ digits-done c.largest-most.result a.negative L.size s L.d-index c.loop-d-test.false L.invariant.1))

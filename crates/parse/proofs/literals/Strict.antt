@@ -2,8 +2,10 @@
 -- first byte that differs from what the part stands for.
 use mathlib.Core.Bool.{Bool, true, false}
 use mathlib.Core.List.{List, [], ◌∷◌}
+use Rattle.std.specs.Prelude.{Some, None, Result, Ok, Err}
+use Rattle.std.specs.Prelude as std
 use mathlib.Core.Option.{Option, none, some}
-use mathlib.Core.Path.{◌≡◌, refl, sym, ◌∙◌}
+use mathlib.Core.Path.{◌≡◌, refl, sym, ap, ◌∙◌}
 use Prim.Native.Nat.{ℕ, suc, ◌+◌, ◌-◌, ◌≤◌}
 use native.Mathlib.Nat.{add-zero, add-suc}
 use native.Mathlib.Omega.{arith}
@@ -27,21 +29,19 @@ use Rattle.meaning.specs.declared.Rule.{Rule}
 use Rattle.meaning.specs.declared.Trouble.TheVariants.{TooFew, LiteralDiffers}
 use Rattle.parse.specs.Literals.{Ended, compared_by, compared}
 use Rattle.parse.specs.Steps.{part_at, plain_read}
-use Rattle.parse.specs.declared.cursor.Cursor.{Cursor}
-use Rattle.parse.specs.declared.cursor.PartRead.{PartRead}
-use Rattle.parse.specs.declared.cursor.PartRead.TheVariants as part
-use Rattle.parse.specs.declared.literals.Compared.{Compared}
-use Rattle.parse.specs.declared.literals.Compared.TheVariants.{Same, Differs}
+use Rattle.parse.specs.declared.cursor.Read.{Read}
+use Rattle.parse.specs.declared.cursor.Stop.{Stop}
+use Rattle.parse.proofs.cursor.Moves.{stop, same_ok}
 
-abbrev pub part_by : Compared → Carried → Cursor → PartRead
-part_by Same carried next = part.Got carried next
-part_by (Differs place) carried next = part.Stopped LiteralDiffers place
+abbrev pub part_by : std.Option ℕ → Read Carried → Result (Read Carried) Stop
+part_by None read = Ok read
+part_by (Some place) read = Err (stop LiteralDiffers place)
 
-abbrev pub strict_by : Bool → Step → List ℕ → PartRead → PartRead
-strict_by strict step text (part.Stopped why place) = part.Stopped why place
-strict_by strict step text (part.Got carried next) = part_by (when strict (compared step text next.at) Same) carried next
+abbrev pub strict_by : Bool → Step → List ℕ → Result (Read Carried) Stop → Result (Read Carried) Stop
+strict_by strict step text (Err stopped') = Err stopped'
+strict_by strict step text (Ok read) = part_by (when strict (compared step text read.next.at) None) read
 
-pub same-either : (strict : Bool) → when strict Same Same ≡ Same
+pub same-either : (strict : Bool) → ◌≡◌ {A = std.Option ℕ} (when strict None None) None
 same-either true = refl
 same-either false = refl
 
@@ -60,7 +60,7 @@ differing-later at i (a ∷ w) (b ∷ s) =
     (λ e. rw (other_byte (at + i) a w b s e, other_byte i a w b s e))
 
 by_difference : (at k : ℕ) (s : List ℕ) (d : Option ℕ)
-    → part_at at (go_on (same_by k d) (λ _. done Nothing) s) ≡ part_by (compared_by (later at d)) Nothing (record { at = at + k })
+    → part_at at (go_on (same_by k d) (λ _. done Nothing) s) ≡ part_by (compared_by (later at d)) (record { value = Nothing; next = record { at = at + k } })
 by_difference at k s none = rw add-zero
 by_difference at k s (some i) = refl
 
@@ -69,10 +69,10 @@ module _ (text : List ℕ) (at : ℕ) where
   rest = drop at text
 
   -- so many bytes passed over, where there are too few and where they are there
-  passed-stops : (k : ℕ) → ltb (length rest) k ≡ true → part_at at (passed k rest) ≡ part.Stopped TooFew at
+  passed-stops : (k : ℕ) → ltb (length rest) k ≡ true → part_at at (passed k rest) ≡ Err (stop TooFew at)
   passed-stops k e = rw (skip-stops k rest (ltb-true (length rest) k e), add-zero)
 
-  passed_on : (k : ℕ) → ltb (length rest) k ≡ false → part_at at (passed k rest) ≡ part.Got Nothing (record { at = at + k })
+  passed_on : (k : ℕ) → ltb (length rest) k ≡ false → part_at at (passed k rest) ≡ Ok (record { value = Nothing; next = record { at = at + k } })
   passed_on k e = rw (skip_goes_on k rest (ltb-false (length rest) k e), add-zero)
 
   literal-read : (strict : Bool) (w : List ℕ) (lost : Bool)
@@ -88,9 +88,9 @@ module _ (text : List ℕ) (at : ℕ) where
   literal-read false w lost =
       by-test (ltb (length rest) (length w)) (λ e. rw (passed-stops (length w) e)) (λ e. rw (passed_on (length w) e))
 
-  field-read : (strict : Bool) (rule : Rule) (g : PartRead) → g ≡ strict_by strict (field rule) text g
-  field-read strict rule (part.Stopped why place) = refl
-  field-read strict rule (part.Got carried next) = rw (same-either strict)
+  field-read : (strict : Bool) (rule : Rule) (g : Result (Read Carried) Stop) → g ≡ strict_by strict (field rule) text g
+  field-read strict rule (Err stopped') = refl
+  field-read strict rule (Ok read) = rw (same-either strict)
 
   pub compared-read : (choices : Choices) (book : Book) (current : ℕ) (step : Step)
       → part_at at (read_step choices book current step rest) ≡ strict_by choices.strict step text (part_at at (plain_read choices.edition book current step rest))
@@ -99,22 +99,22 @@ module _ (text : List ℕ) (at : ℕ) where
   compared-read choices book current (field rule) = field-read choices.strict rule (part_at at (plain_read choices.edition book current (field rule) rest))
 
   -- a literal that was passed over carries nothing, and ended behind its bytes
-  passed-ended : (k : ℕ) {c : Carried} {next : Cursor} → part_at at (passed k rest) ≡ part.Got c next
-      → (Nothing ≡ c) × (at + k ≡ next.at) × (k ≤ length rest)
+  passed-ended : (k : ℕ) {read : Read Carried} → part_at at (passed k rest) ≡ Ok read
+      → (Nothing ≡ read.value) × (at + k ≡ read.next.at) × (k ≤ length rest)
   passed-ended k e =
       by-test (ltb (length rest) k)
       (λ t. let none = sym (passed-stops k t) ∙ e in absurd (let z : ◌≡◌ {A = ℕ} 0 1 = cc in omega arith))
-      (λ t. let on = sym (passed_on k t) ∙ e in (cc, cc, ltb-false (length rest) k t))
+      (λ t. let on = same_ok (sym (passed_on k t) ∙ e) in (ap (λ (r : Read Carried). r.value) on, ap (λ (r : Read Carried). r.next.at) on, ltb-false (length rest) k t))
 
-  pub value_same : (edition : Edition) (book : Book) (current : ℕ) (step : Step) {u : ParseUnit} {z : ℤ} {next : Cursor}
-      → part_at at (plain_read edition book current step rest) ≡ part.Got (Value u z) next → compared step text next.at ≡ Same
+  pub value_same : (edition : Edition) (book : Book) (current : ℕ) (step : Step) {read : Read Carried} {u : ParseUnit} {z : ℤ}
+      → part_at at (plain_read edition book current step rest) ≡ Ok read → read.value ≡ Value u z → compared step text read.next.at ≡ None
   unfolding read_step
-  value_same edition book current (literal w lost) e =
+  value_same edition book current (literal w lost) e v =
       let none = (passed-ended (length w) e).0 in absurd (let z : ◌≡◌ {A = ℕ} 0 1 = cc in omega arith)
-  value_same edition book current (field rule) e = refl
+  value_same edition book current (field rule) e v = refl
 
-  pub ended : (edition : Edition) (book : Book) (current : ℕ) (step : Step) {c : Carried} {next : Cursor} → part_at at (plain_read edition book current step rest) ≡ part.Got c next
-      → at ≤ length text → Ended step (length text) next.at
+  pub ended : (edition : Edition) (book : Book) (current : ℕ) (step : Step) {read : Read Carried} → part_at at (plain_read edition book current step rest) ≡ Ok read
+      → at ≤ length text → Ended step (length text) read.next.at
   unfolding read_step
   ended edition book current (literal w lost) e h =
       let past = passed-ended (length w) e in (omega (arith, past.1), omega (arith, past.1, past.2, length-drop at text))

@@ -1,4 +1,5 @@
 -- One digit or two in front of a text are the number that its rule reads.
+use Rattle.std.specs.Prelude.{Option, Some, None}
 use mathlib.Core.Bool.{true, false}
 use mathlib.Core.List.{List, [], ◌∷◌}
 use mathlib.Core.Path.{◌≡◌, refl}
@@ -7,7 +8,7 @@ use native.Mathlib.Omega.{arith}
 use lib.Dec.{eqb, leb}
 use lib.IntN.{pos}
 use lib.ListN.{length, drop, drop_of_length-le}
-use borrow.Author.Tests.{lt-ltb, ne_eqb, eqb-true, eqb-false, leb-true, leb-false}
+use borrow.Author.Tests.{eqb-true, eqb-false, leb-true, leb-false}
 use Rattle.laws.proofs.Digits.{digit-bounds}
 use Rattle.laws.proofs.Numbers.{taken-comes-back}
 use Rattle.laws.proofs.Tests.{by-test}
@@ -21,60 +22,66 @@ use Rattle.parse.specs.ShortReads.{digit_first, found, second_digits, short_digi
 use Rattle.parse.specs.declared.short.Digits.{Digits}
 
 -- the digit in front
-pub first_small : (s : List ℕ) → (digit_first s ≡ 100 → ⊥) → digit_first s < 10
-first_small [] h = absurd (h refl)
-first_small (b ∷ s) h =
-    by-test (is_digit b) (λ e. rw e (omega (arith, (digit-bounds b e).1))) (λ e. absurd (h (rw e)))
+pub first_small : (s : List ℕ) {a : ℕ} → digit_first s ≡ Some a → a < 10
+first_small [] h = absurd (let z : ◌≡◌ {A = ℕ} 0 1 = cc in omega arith)
+first_small (b ∷ s) {a} h =
+    by-test (is_digit b)
+    (λ e. let d : b - 48 ≡ a = let t = rw e at h in cc in omega (arith, (digit-bounds b e).1))
+    (λ e. absurd (let t = rw e at h in let z : ◌≡◌ {A = ℕ} 0 1 = cc in omega arith))
 
-pub first-within : (at : ℕ) (s : List ℕ) → (digit_first (drop at s) ≡ 100 → ⊥) → at < length s
+pub first-within : (at : ℕ) (s : List ℕ) {a : ℕ} → digit_first (drop at s) ≡ Some a → at < length s
 first-within at s h =
-    by-test (leb (length s) at) (λ e. absurd (h (rw (drop_of_length-le s (leb-true (length s) at e)))))
+    by-test (leb (length s) at)
+    (λ e. absurd (let t = rw (drop_of_length-le s (leb-true (length s) at e)) at h in let z : ◌≡◌ {A = ℕ} 0 1 = cc in omega arith))
     (λ e. leb-false (length s) at e)
 
 none-for-zero : (n : ℕ) → zero_for 0 n ≡ n
 none-for-zero n = by-test (eqb n 0) (λ e. rw (e, eqb-true n 0 e)) (λ e. rw e)
+
+abbrev digits : ℕ → ℕ → Digits
+digits n k = record { size = n; taken = k }
 
 -- a number read from one digit or two
 module _ (u : ParseUnit) (least most : ℕ) (some' : 0 < least) (order : least ≤ most) (few : most ≤ 2) where
   abbrev Reads : List ℕ → Digits → Type 0
   Reads s d = taken_unit u 0 (reach (most - least) least s) s ≡ got d.taken (Value u (pos d.size))
 
-  one-read : (a : ℕ) (s : List ℕ) → is_digit a ≡ true → least ≤ 1 → (1 < most → digit_at 0 s ≡ false) → Reads (a ∷ s) (found (a - 48) 1)
+  one-read : (a : ℕ) (s : List ℕ) → is_digit a ≡ true → least ≤ 1 → (1 < most → digit_at 0 s ≡ false) → Reads (a ∷ s) (digits (a - 48) 1)
   unfolding decimal all_digits
   one-read a s d from free =
       let size : 0 * 10 + (a - 48) ≡ a - 48 = omega arith in
       rw (size, none-for-zero (a - 48)) at (taken-comes-back least most (a ∷ []) s from (omega arith) (omega arith) (rw d) free u 0 (omega (arith, (digit-bounds a d).1)))
 
-  two-read : (a b : ℕ) (s : List ℕ) → is_digit a ≡ true → is_digit b ≡ true → 1 < most → Reads (a ∷ b ∷ s) (found ((a - 48) * 10 + (b - 48)) 2)
+  two-read : (a b : ℕ) (s : List ℕ) → is_digit a ≡ true → is_digit b ≡ true → 1 < most → Reads (a ∷ b ∷ s) (digits ((a - 48) * 10 + (b - 48)) 2)
   unfolding decimal all_digits
   two-read a b s d e two =
       let first : 0 * 10 + (a - 48) ≡ a - 48 = omega arith in
       rw (first, none-for-zero ((a - 48) * 10 + (b - 48))) at (taken-comes-back least most (a ∷ b ∷ []) s (omega arith) (omega arith) two (rw (d, e)) (λ h. absurd (omega arith)) u 0 (omega (arith, (digit-bounds a d).1, (digit-bounds b e).1)))
 
-  alone-read : (a : ℕ) (s : List ℕ) → is_digit a ≡ true → digit_at 0 s ≡ false → (when (eqb least 1) (found (a - 48) 1) (found 100 0)).size < 100
-      → Reads (a ∷ s) (when (eqb least 1) (found (a - 48) 1) (found 100 0))
-  alone-read a s d free h =
-      by-test (eqb least 1) (λ e. rw e (one-read a s d (omega (arith, eqb-true least 1 e)) (λ _. free)))
-      (λ e. let z : 100 < 100 = rw e at h in absurd (omega arith))
+  abbrev pub ReadsAny : List ℕ → Option Digits → Type 0
+  ReadsAny s (Some d) = Reads s d
+  ReadsAny s None = Unit
 
-  second-read : (a : ℕ) (s : List ℕ) → is_digit a ≡ true → 1 < most → (second_digits (a - 48) least s).size < 100
-      → Reads (a ∷ s) (second_digits (a - 48) least s)
-  unfolding second_digits digit_at
-  second-read a [] d two h = alone-read a [] d refl h
-  second-read a (b ∷ s) d two h =
-      by-test (is_digit b)
-      (λ e. rw (e, lt-ltb (b - 48) 10 (omega (arith, (digit-bounds b e).1))) (two-read a b s d e two))
-      (λ e. rw e (alone-read a (b ∷ s) d e (rw e at h)))
+  alone-read : (a : ℕ) (s : List ℕ) → is_digit a ≡ true → digit_at 0 s ≡ false → ReadsAny (a ∷ s) (when (eqb least 1) (found (a - 48) 1) None)
+  alone-read a s d free =
+      by-test (eqb least 1) (λ e. rw e (one-read a s d (omega (arith, eqb-true least 1 e)) (λ _. free))) (λ e. rw e tt)
 
-  pub digits-read : (s : List ℕ) → (short_digits least most s).size < 100 → Reads s (short_digits least most s)
+  second-read : (a : ℕ) (s : List ℕ) → is_digit a ≡ true → 1 < most → ReadsAny (a ∷ s) (second_digits (a - 48) least s)
+  unfolding digit_at
+  second-read a [] d two = alone-read a [] d refl
+  second-read a (b ∷ s) d two = by-test (is_digit b) (λ e. rw e (two-read a b s d e two)) (λ e. rw e (alone-read a (b ∷ s) d e))
+
+  any-read : (s : List ℕ) → ReadsAny s (short_digits least most s)
   unfolding short_digits
-  digits-read [] h = absurd (omega (arith, h))
-  digits-read (a ∷ s) h =
+  any-read [] = tt
+  any-read (a ∷ s) =
       by-test (is_digit a)
       (λ e.
-      let digit = ne_eqb (a - 48) 100 (λ z. omega (arith, z, (digit-bounds a e).1)) in
-      rw (e, digit)
+      rw e
       (by-test (eqb most 1)
       (λ one. let single = eqb-true most 1 one in rw one (one-read a s e (omega (arith, single)) (λ k. absurd (omega (arith, single)))))
-      (λ more. rw more (second-read a s e (omega (arith, eqb-false most 1 more)) (rw (e, digit, more) at h)))))
-      (λ e. let z : 100 < 100 = rw e at h in absurd (omega arith))
+      (λ more. rw more (second-read a s e (omega (arith, eqb-false most 1 more))))))
+      (λ e. rw e tt)
+
+  pub digits-read : (s : List ℕ) {d : Digits} → short_digits least most s ≡ Some d → Reads s d
+  digits-read s h = rw h at (any-read s)

@@ -1,7 +1,8 @@
 -- What steps read that need no rule looked up: years, and the numbers that patterns have most.
+use Rattle.std.specs.Prelude.{Some, None}
 use mathlib.Core.List.{List, [], ◌∷◌}
-use mathlib.Core.Path.{◌≡◌, refl}
-use Prim.Native.Nat.{ℕ, ◌≤◌, ◌<◌}
+use mathlib.Core.Path.{◌≡◌, refl, sym}
+use Prim.Native.Nat.{ℕ, ◌≤◌}
 use native.Mathlib.Omega.{arith}
 use lib.Dec.{leb}
 use lib.IntN.{pos}
@@ -18,7 +19,7 @@ use Rattle.meaning.specs.declared.Edition.TheVariants.{First, Second}
 use Rattle.meaning.specs.declared.ParseUnit.TheVariants.{DayOfMonth}
 use Rattle.parse.proofs.rule.Within.{within_step}
 use Rattle.parse.proofs.short.Taken.{digits-read}
-use Rattle.parse.specs.ShortReads.{found, quick_digits, quick_unit}
+use Rattle.parse.specs.ShortReads.{quick_digits, quick_unit}
 use Rattle.parse.specs.Steps.{unseen, plain_read}
 use Rattle.parse.specs.Years.{long_year_read}
 use Rattle.parse.specs.declared.short.Digits.{Digits}
@@ -38,7 +39,7 @@ year-read edition book current c s = by-test (leb c 4) (λ e. rw e) (λ e. rw e)
 abbrev others : List ℕ
 others = 0 ∷ 1 ∷ 2 ∷ 4 ∷ 5 ∷ 6 ∷ 7 ∷ 8 ∷ []
 
-pub none-quick : (k : Step) → OneOf others (tag_of the_type k) → ((edition : Edition) (s : List ℕ) → quick_digits edition k s ≡ found 100 0) × (quick_unit k ≡ DayOfMonth)
+pub none-quick : (k : Step) → OneOf others (tag_of the_type k) → ((edition : Edition) (s : List ℕ) → quick_digits edition k s ≡ None) × (quick_unit k ≡ DayOfMonth)
 none-quick (step.Times b n) h = (λ edition s. refl, refl)
 none-quick (step.Quoted from to) h = (λ edition s. refl, refl)
 none-quick (step.Open from) h = (λ edition s. refl, refl)
@@ -57,35 +58,31 @@ most-bounds First short.Day c few = (few, omega arith)
 most-bounds First short.Hour c few = (few, omega arith)
 most-bounds First short.Minute c few = (few, omega arith)
 most-bounds First short.Second c few = (few, omega arith)
-most-bounds First short.Other c few = (few, omega arith)
 most-bounds Second short.Month c few = (few, omega arith)
 most-bounds Second short.Day c few = (few, omega arith)
 most-bounds Second short.Hour c few = (few, omega arith)
 most-bounds Second short.Minute c few = (few, omega arith)
 most-bounds Second short.Second c few = (few, omega arith)
-most-bounds Second short.Other c few = (few, omega arith)
 
-none-there : {A : Type 0} {d : Digits} → d ≡ found 100 0 → d.size < 100 → A
-none-there told small = let none : 100 < 100 = rw told at small in absurd (omega arith)
+none-there : {A : Type 0} {d : Digits} → Some d ≡ None → A
+none-there told = absurd (let z : ◌≡◌ {A = ℕ} 0 1 = cc in omega arith)
 
 -- where the digits are there, they are what the step reads
 module _ (p s : List ℕ) where
-  pub quick-read : (edition : Edition) (book : Book) (current : ℕ) (k : Step) {d : Digits} → Held p k → d ≡ quick_digits edition k s → d.size < 100
+  pub quick-read : (edition : Edition) (book : Book) (current : ℕ) (k : Step) {d : Digits} → Held p k → Some d ≡ quick_digits edition k s
       → plain_read edition book current (means p k) s ≡ got d.taken (Value (quick_unit k) (pos d.size))
   unfolding read_step read_rule
-  quick-read edition book current (step.Times b n) held told small = none-there told small
-  quick-read edition book current (step.Quoted from to) held told small = none-there told small
-  quick-read edition book current (step.Open from) held told small = none-there told small
-  quick-read edition book current (step.Short number c) held told small =
-      let most = most-bounds edition number c held.2 in
-      let digits = rw held.0 at told in
-      rw digits
-      (digits-read (short_unit number) c (most_read edition (short_quantity number) (short_most number c)) held.1 most.0 most.1 s (rw digits at small))
-  quick-read edition book current (step.Year c) held told small = none-there told small
-  quick-read edition book current step.MonthAbbreviated held told small = none-there told small
-  quick-read edition book current step.MonthWide held told small = none-there told small
-  quick-read edition book current step.WdayWide held told small = none-there told small
-  quick-read edition book current (step.Run role b n) held told small = none-there told small
+  quick-read edition book current (step.Times b n) held told = none-there told
+  quick-read edition book current (step.Quoted from to) held told = none-there told
+  quick-read edition book current (step.Open from) held told = none-there told
+  quick-read edition book current (step.Short number c) held told =
+      let most = most-bounds edition number c held.1 in
+      digits-read (short_unit number) c (most_read edition (short_quantity number) (short_most number c)) held.0 most.0 most.1 s (sym told)
+  quick-read edition book current (step.Year c) held told = none-there told
+  quick-read edition book current step.MonthAbbreviated held told = none-there told
+  quick-read edition book current step.MonthWide held told = none-there told
+  quick-read edition book current step.WdayWide held told = none-there told
+  quick-read edition book current (step.Run role b n) held told = none-there told
 
-  pub quick-within : (edition : Edition) (k : Step) {d : Digits} → Held p k → d ≡ quick_digits edition k s → d.size < 100 → d.taken ≤ length s
-  quick-within edition k held told small = rw (quick-read edition english 0 k held told small) at (within_step (unseen edition) english 0 (means p k) s)
+  pub quick-within : (edition : Edition) (k : Step) {d : Digits} → Held p k → Some d ≡ quick_digits edition k s → d.taken ≤ length s
+  quick-within edition k held told = rw (quick-read edition english 0 k held told) at (within_step (unseen edition) english 0 (means p k) s)

@@ -1,4 +1,5 @@
 -- Laws of what a part gives, from what its one step gave: a step and then a value made of its answer.
+use Rattle.std.specs.Prelude.{Result, Ok, Err}
 use mathlib.Core.List.{List}
 use mathlib.Core.Path.{◌≡◌, refl}
 use Prim.Native.Nat.{ℕ}
@@ -11,13 +12,11 @@ use Rattle.meaning.specs.declared.Carried.{Carried}
 use Rattle.meaning.specs.declared.Carried.TheVariants.{Nothing, Value}
 use Rattle.meaning.specs.declared.Numeral.TheVariants.{Count}
 use Rattle.meaning.specs.declared.ParseUnit.{ParseUnit}
+use Rattle.numerals.specs.declared.Number.{Number}
 use Rattle.parse.specs.Steps.{taken_at, skipped_at, part_at}
-use Rattle.parse.specs.declared.cursor.PartRead.{PartRead}
-use Rattle.parse.specs.declared.cursor.PartRead.TheVariants as part
-use Rattle.parse.specs.declared.cursor.Skipped.{Skipped}
-use Rattle.parse.specs.declared.cursor.Skipped.TheVariants as skipped
-use Rattle.parse.specs.declared.cursor.Taken.{Taken}
-use Rattle.parse.specs.declared.cursor.Taken.TheVariants as taken
+use Rattle.parse.specs.declared.cursor.Cursor.{Cursor}
+use Rattle.parse.specs.declared.cursor.Read.{Read}
+use Rattle.parse.specs.declared.cursor.Stop.{Stop}
 
 -- a step whose answer is made into something else takes the same bytes
 abbrev pub made_of : {A B : Type 0} → (A → B) → Got A → Got B
@@ -37,9 +36,9 @@ made-twice f h (stopped why i) = refl
 
 -- bytes passed over
 
-abbrev pub passed_by : Skipped → PartRead
-passed_by (skipped.Stopped why place) = part.Stopped why place
-passed_by (skipped.Past next) = part.Got Nothing next
+abbrev pub passed_by : Result Cursor Stop → Result (Read Carried) Stop
+passed_by (Err stop) = Err stop
+passed_by (Ok next) = Ok (record { value = Nothing; next = next })
 
 passed-got : (at : ℕ) (g : Got Unit) → part_at at (made_of (λ _. Nothing) g) ≡ passed_by (skipped_at at g)
 passed-got at (got n u) = refl
@@ -50,9 +49,12 @@ part-passed at k s = rw (made (λ (_ : Unit). Nothing) (skip k) s) (passed-got a
 
 -- a number
 
-abbrev pub number_by : (Signed → Carried) → Taken → PartRead
-number_by f (taken.Stopped why place) = part.Stopped why place
-number_by f (taken.Value negative size next) = part.Got (f (record { negative = negative; size = size })) next
+abbrev pub signed_in : Number → Signed
+signed_in n = record { negative = n.negative; size = n.size }
+
+abbrev pub number_by : (Signed → Carried) → Result (Read Number) Stop → Result (Read Carried) Stop
+number_by f (Err stop) = Err stop
+number_by f (Ok read) = Ok (record { value = f (signed_in read.value); next = read.next })
 
 pub number-got : (f : Signed → Carried) (at : ℕ) (g : Got Signed) → part_at at (made_of f g) ≡ number_by f (taken_at at g)
 number-got f at (got n a) = refl

@@ -1,7 +1,9 @@
 -- No step takes more than there is, and none stops behind it; nor do steps one after the other. So a cursor that moves on stays in its text.
+use Rattle.std.specs.Prelude.{Ok}
 use mathlib.Core.List.{List}
 use mathlib.Core.Option.{Option, none, some}
-use mathlib.Core.Path.{◌≡◌}
+use mathlib.Core.Path.{◌≡◌, ap}
+use Rattle.parse.proofs.cursor.Moves.{same_ok}
 use Prim.Native.Nat.{ℕ, ◌+◌, ◌≤◌}
 use native.Mathlib.Omega.{arith}
 use borrow.Author.Tests.{ltb-false}
@@ -12,10 +14,9 @@ use Rattle.meaning.specs.Numerals.{Signed, plus_first, number_of}
 use Rattle.meaning.specs.Readers.{Got, got, stopped, Reader, behind, go_on, skip, taken_number, take_number, take_count}
 use Rattle.meaning.specs.declared.Carried.{Carried}
 use Rattle.meaning.specs.declared.Numeral.{Numeral}
-use Rattle.parse.specs.Steps.{skipped_at, part_at}
+use Rattle.parse.specs.Steps.{read_at, skipped_at, part_at}
 use Rattle.parse.specs.declared.cursor.Cursor.{Cursor}
-use Rattle.parse.specs.declared.cursor.PartRead.TheVariants as part
-use Rattle.parse.specs.declared.cursor.Skipped.TheVariants as skipped
+use Rattle.parse.specs.declared.cursor.Read.{Read}
 
 abbrev pub Within : {A : Type 0} → ℕ → Got A → Type 0
 Within room (got n a) = n ≤ room
@@ -55,12 +56,16 @@ within_count k s = within_on (take_number _ k s) _ s (within-take _ k s) (λ n t
 -- the moved cursor
 
 module _ (at : ℕ) (text : List ℕ) where
-  pub part_stays : (g : Got Carried) {c : Carried} {next : Cursor} → at ≤ length text → Within (length (drop at text)) g
-      → part_at at g ≡ part.Got c next → next.at ≤ length text
-  part_stays (got n c) {next = next} h k e = let d : at + n ≡ next.at = cc in omega (arith, length-drop at text)
-  part_stays (stopped why i) h k e = absurd (let z : ◌≡◌ {A = ℕ} 0 1 = cc in omega arith)
+  pub read_stays : {A : Type 0} (g : Got A) {read : Read A} → at ≤ length text → Within (length (drop at text)) g
+      → read_at at g ≡ Ok read → read.next.at ≤ length text
+  read_stays {A} (got n c) {read = read} h k e = let d : at + n ≡ read.next.at = ap (λ (r : Read A). r.next.at) (same_ok e) in omega (arith, length-drop at text)
+  read_stays (stopped why i) h k e = absurd (let z : ◌≡◌ {A = ℕ} 0 1 = cc in omega arith)
+
+  pub part_stays : (g : Got Carried) {read : Read Carried} → at ≤ length text → Within (length (drop at text)) g
+      → part_at at g ≡ Ok read → read.next.at ≤ length text
+  part_stays = read_stays
 
   pub skipped-stays : (g : Got Unit) {next : Cursor} → at ≤ length text → Within (length (drop at text)) g
-      → skipped_at at g ≡ skipped.Past next → next.at ≤ length text
+      → skipped_at at g ≡ Ok next → next.at ≤ length text
   skipped-stays (got n u) {next = next} h k e = let d : at + n ≡ next.at = cc in omega (arith, length-drop at text)
   skipped-stays (stopped why i) h k e = absurd (let z : ◌≡◌ {A = ℕ} 0 1 = cc in omega arith)

@@ -1,4 +1,6 @@
 -- Laws of what so many bytes of a year give, counted from one, and that the sum fits.
+use Rattle.std.specs.Prelude.{Err}
+use Rattle.parse.proofs.cursor.Moves.{stop}
 use mathlib.Core.Bool.{Bool, true, false}
 use mathlib.Core.List.{List}
 use mathlib.Core.Path.{◌≡◌, refl, sym, ◌∙◌}
@@ -22,7 +24,6 @@ use Rattle.meaning.specs.declared.Numeral.TheVariants.{Year}
 use Rattle.meaning.specs.declared.Trouble.TheVariants.{TooFew}
 use Rattle.parse.proofs.steps.Parts.{made_of, made, made-twice, number_by, number-got}
 use Rattle.parse.specs.Steps.{taken_at, part_at}
-use Rattle.parse.specs.declared.cursor.PartRead.TheVariants as part
 use Rattle.parse.specs.Years.{counted, year_since, short_since}
 
 abbrev counted_year : Edition → ℕ → ℤ → Carried
@@ -52,7 +53,7 @@ unfolding two_digits_mean
 two_digits First current s = refl
 two_digits Second current s = refl
 
-pub year-few : (k at : ℕ) (s : List ℕ) → length s < k → part_at at (taken_year k s) ≡ part.Stopped TooFew at
+pub year-few : (k at : ℕ) (s : List ℕ) → length s < k → part_at at (taken_year k s) ≡ Err (stop TooFew at)
 year-few k at s h = rw (take-stops Year k s h, add-zero)
 
 pub sum_fits : (negative : Bool) (n since : ℕ) → n < 2 ^ 32 → since < 2 ^ 32

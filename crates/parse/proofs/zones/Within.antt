@@ -1,7 +1,9 @@
 -- No step of a zone takes more than there is, and none stops behind it. So a cursor that moves on stays in its text.
+use Rattle.std.specs.Prelude.{Ok}
 use mathlib.Core.Bool.{Bool}
 use mathlib.Core.List.{List, [], ◌∷◌}
-use mathlib.Core.Path.{◌≡◌}
+use mathlib.Core.Path.{◌≡◌, ap}
+use Rattle.parse.proofs.cursor.Moves.{same_ok}
 use Prim.Native.Char.{code}
 use Prim.Native.Nat.{ℕ, suc, ◌+◌, ◌≤◌}
 use native.Mathlib.Omega.{arith}
@@ -13,12 +15,10 @@ use Rattle.meaning.specs.Readers.{Got, got, stopped, take_count, skip, ZoneSign,
 use Rattle.meaning.specs.Reading.{zone_behind, zone_size_with, zone_size, zone_group, take_group, colon_length}
 use Rattle.meaning.specs.declared.Group.{Group}
 use Rattle.meaning.specs.declared.Group.TheVariants.{Never, NotZero, Always}
-use Rattle.parse.proofs.steps.Within.{Within, within_on, within-skip, within_count}
-use Rattle.parse.specs.declared.cursor.Cursor.{Cursor}
+use Rattle.parse.proofs.steps.Within.{Within, within_on, within-skip, within_count, read_stays}
+use Rattle.parse.specs.declared.cursor.Read.{Read}
+use Rattle.parse.specs.declared.zones.ZoneSign as sign
 use Rattle.parse.specs.Zones.{counted_at, sign_at}
-use Rattle.parse.specs.declared.zones.Counted.TheVariants as counted
-use Rattle.parse.specs.declared.zones.SignRead.{SignRead}
-use Rattle.parse.specs.declared.zones.SignRead.TheVariants as sign
 
 pub within-sign : (z : Bool) (s : List ℕ) → Within (length s) (zone_sign z s)
 unfolding zone_sign
@@ -51,21 +51,13 @@ within-zone c minutes seconds behind_utc s = within_on (zone_size c minutes seco
 
 -- the moved cursor
 
-abbrev pub EndsBy : ℕ → SignRead → Type 0
-EndsBy n (sign.Stopped why place) = Unit
-EndsBy n (sign.Utc next) = next.at ≤ n
-EndsBy n (sign.Ahead next) = next.at ≤ n
-EndsBy n (sign.BehindUtc next) = next.at ≤ n
-
 module _ (at : ℕ) (text : List ℕ) where
-  pub counted-stays : (g : Got ℕ) {n : ℕ} {next : Cursor} → at ≤ length text → Within (length (drop at text)) g
-      → counted_at at g ≡ counted.Number n next → next.at ≤ length text
-  counted-stays (got n m) {next = next} h k e = let d : at + n ≡ next.at = cc in omega (arith, length-drop at text)
-  counted-stays (stopped why i) h k e = absurd (let z : ◌≡◌ {A = ℕ} 0 1 = cc in omega arith)
+  pub counted-stays : (g : Got ℕ) {read : Read ℕ} → at ≤ length text → Within (length (drop at text)) g
+      → counted_at at g ≡ Ok read → read.next.at ≤ length text
+  counted-stays = read_stays at text
 
   -- behind a sign, if there is one
-  pub sign-stays : (g : Got ZoneSign) → at ≤ length text → Within (length (drop at text)) g → EndsBy (length text) (sign_at at g)
-  sign-stays (got n utc) h k = omega (arith, length-drop at text)
-  sign-stays (got n ahead) h k = omega (arith, length-drop at text)
-  sign-stays (got n behind_utc) h k = omega (arith, length-drop at text)
-  sign-stays (stopped why i) h k = tt
+  pub sign-stays : (g : Got ZoneSign) {read : Read sign.ZoneSign} → at ≤ length text → Within (length (drop at text)) g
+      → sign_at at g ≡ Ok read → read.next.at ≤ length text
+  sign-stays (got n s) {read = read} h k e = let d : at + n ≡ read.next.at = ap (λ (r : Read sign.ZoneSign). r.next.at) (same_ok e) in omega (arith, length-drop at text)
+  sign-stays (stopped why i) h k e = absurd (let z : ◌≡◌ {A = ℕ} 0 1 = cc in omega arith)

@@ -1,4 +1,5 @@
 -- Laws of zones: what each step gives at a cursor, from what the step before it gave.
+use Rattle.std.specs.Prelude.{Result, Ok, Err}
 use mathlib.Core.Bool.{Bool, true, false}
 use mathlib.Core.List.{List}
 use mathlib.Core.Path.{◌≡◌, refl, sym, ap, ◌∙◌}
@@ -7,8 +8,8 @@ use Prim.Native.Nat.{ℕ, ◌+◌, ◌≤◌, ◌<◌}
 use native.Mathlib.Nat.{add-zero}
 use native.Mathlib.Omega.{arith}
 use lib.IntN.{ℤ, pos, neg_ℤ}
-use lib.Dec.{eqb}
-use lib.ListN.{length, get_or, drop, drop_of_length-le}
+use lib.Dec.{eqb, ltb}
+use lib.ListN.{length, get_or, drop, length-drop, drop_of_length-le}
 use lib.Seq.{drop-cons, drop-drop}
 use Rattle.meaning.specs.Bytes.{when, both, plus, minus}
 use Rattle.meaning.specs.Numerals.{Signed}
@@ -21,18 +22,17 @@ use Rattle.meaning.specs.declared.Numeral.TheVariants.{Count}
 use Rattle.meaning.specs.declared.ParseUnit.TheVariants as unit
 use Rattle.meaning.specs.declared.Trouble.TheVariants.{TooFew, NoSign}
 use Rattle.parse.proofs.steps.Parts.{made_of, made}
+use Rattle.numerals.specs.declared.Number.{Number}
+use borrow.Author.Tests.{ltb-true, ltb-false}
+use Rattle.laws.proofs.Tests.{by-test}
+use Rattle.parse.proofs.cursor.Moves.{stop, same_err, skipped-few, skipped-past}
 use Rattle.parse.specs.Steps.{taken_at, skipped_at, part_at}
+use Rattle.parse.specs.declared.cursor.Cursor.{Cursor}
+use Rattle.parse.specs.declared.cursor.Read.{Read}
+use Rattle.parse.specs.declared.cursor.Stop.{Stop}
+use Rattle.parse.specs.declared.zones.ZoneSign as sign
+use Rattle.parse.specs.declared.zones.ZoneSign.TheVariants.{Utc, Ahead, BehindUtc}
 use Rattle.parse.specs.Zones.{counted_at, sign_at, offset, zone_from}
-use Rattle.parse.specs.declared.cursor.PartRead.{PartRead}
-use Rattle.parse.specs.declared.cursor.PartRead.TheVariants as part
-use Rattle.parse.specs.declared.cursor.Skipped.{Skipped}
-use Rattle.parse.specs.declared.cursor.Skipped.TheVariants as skipped
-use Rattle.parse.specs.declared.cursor.Taken.{Taken}
-use Rattle.parse.specs.declared.cursor.Taken.TheVariants as taken
-use Rattle.parse.specs.declared.zones.Counted.{Counted}
-use Rattle.parse.specs.declared.zones.Counted.TheVariants as counted
-use Rattle.parse.specs.declared.zones.SignRead.{SignRead}
-use Rattle.parse.specs.declared.zones.SignRead.TheVariants as sign
 
 -- what starts n bytes later
 
@@ -50,7 +50,7 @@ counted-behind at n (stopped why i) = rw (further at n i)
 -- the sign
 
 module _ (z : Bool) (text : List ℕ) (at : ℕ) where
-  pub sign-none : length text ≤ at → sign_at at (zone_sign z (drop at text)) ≡ sign.Stopped TooFew at
+  pub sign-none : length text ≤ at → sign_at at (zone_sign z (drop at text)) ≡ Err (stop TooFew at)
   unfolding zone_sign
   sign-none h = rw (drop_of_length-le text h, add-zero)
 
@@ -61,11 +61,26 @@ module _ (z : Bool) (text : List ℕ) (at : ℕ) where
   unfolding zone_sign
   sign-here h = rw (drop-cons text at 0 h)
 
+  -- of none, where none is left
+  pub sign-skipped : {e : Stop} → skipped_at at (skip 1 (drop at text)) ≡ Err e → sign_at at (zone_sign z (drop at text)) ≡ Err e
+  sign-skipped {e} h =
+      let s = drop at text in
+      by-test (ltb (length s) 1)
+      (λ t.
+      let few = ltb-true (length s) 1 t in
+      let same = same_err (sym (skipped-few at 1 s few) ∙ h) in
+      rw (← same) (sign-none (omega (arith, length-drop at text))))
+      (λ t. absurd (let on = sym (skipped-past at 1 s (ltb-false (length s) 1 t)) ∙ h in let zz : ◌≡◌ {A = ℕ} 0 1 = cc in omega arith))
+
+pub not_z : (z : Bool) → both z false ≡ false
+not_z true = refl
+not_z false = refl
+
 -- a number
 
-abbrev pub count_by : Taken → Counted
-count_by (taken.Stopped why place) = counted.Stopped why place
-count_by (taken.Value negative size next) = counted.Number size next
+abbrev pub count_by : Result (Read Number) Stop → Result (Read ℕ) Stop
+count_by (Err stopped') = Err stopped'
+count_by (Ok read) = Ok (record { value = read.value.size; next = read.next })
 
 count-got : (at k : ℕ) (s : List ℕ) (g : Got Signed) → counted_at at (go_on g (λ n. done n.size) s) ≡ count_by (taken_at at g)
 count-got at k s (got n a) = rw add-zero
@@ -80,9 +95,9 @@ pub colon-short : (c : Bool) → colon_length c ≤ 1
 colon-short true = omega arith
 colon-short false = omega arith
 
-abbrev pub group_by : List ℕ → Skipped → Counted
-group_by text (skipped.Stopped why place) = counted.Stopped why place
-group_by text (skipped.Past next) = counted_at next.at (take_count 2 (drop next.at text))
+abbrev pub group_by : List ℕ → Result Cursor Stop → Result (Read ℕ) Stop
+group_by text (Err stopped') = Err stopped'
+group_by text (Ok next) = counted_at next.at (take_count 2 (drop next.at text))
 
 group-on : (at : ℕ) (text : List ℕ) (g : Got Unit)
     → counted_at at (go_on g (λ _. take_count 2) (drop at text)) ≡ group_by text (skipped_at at g)
@@ -95,9 +110,9 @@ group-taken at c text = group-on at text (skip (colon_length c) (drop at text))
 
 -- what follows a number
 
-abbrev pub counted_by : (ℕ → Reader Carried) → List ℕ → Counted → PartRead
-counted_by next text (counted.Stopped why place) = part.Stopped why place
-counted_by next text (counted.Number n cursor) = part_at cursor.at (next n (drop cursor.at text))
+abbrev pub counted_by : (ℕ → Reader Carried) → List ℕ → Result (Read ℕ) Stop → Result (Read Carried) Stop
+counted_by next text (Err stopped') = Err stopped'
+counted_by next text (Ok read) = part_at read.next.at (next read.value (drop read.next.at text))
 
 pub counted-then : (at : ℕ) (text : List ℕ) (g : Got ℕ) (next : ℕ → Reader Carried)
     → part_at at (go_on g next (drop at text)) ≡ counted_by next text (counted_at at g)
@@ -124,13 +139,14 @@ zone-made negative c minutes seconds s =
     (λ mm u. made-goes-on (offset negative) (zone_group c seconds u) _ _ (λ ss v. refl) u) t)
     s
 
-abbrev pub signed_by : Bool → Group → Group → List ℕ → SignRead → PartRead
-signed_by c minutes seconds text (sign.Stopped why place) = part.Stopped why place
-signed_by c minutes seconds text (sign.Utc next) = part.Got (Value unit.Offset (pos 0)) next
-signed_by c minutes seconds text (sign.Ahead next) =
-    part_at next.at (zone_from false c minutes seconds (drop next.at text))
-signed_by c minutes seconds text (sign.BehindUtc next) =
-    part_at next.at (zone_from true c minutes seconds (drop next.at text))
+abbrev pub behind_sign : Bool → Group → Group → List ℕ → Cursor → sign.ZoneSign → Result (Read Carried) Stop
+behind_sign c minutes seconds text next Utc = Ok (record { value = Value unit.Offset (pos 0); next = next })
+behind_sign c minutes seconds text next Ahead = part_at next.at (zone_from false c minutes seconds (drop next.at text))
+behind_sign c minutes seconds text next BehindUtc = part_at next.at (zone_from true c minutes seconds (drop next.at text))
+
+abbrev pub signed_by : Bool → Group → Group → List ℕ → Result (Read sign.ZoneSign) Stop → Result (Read Carried) Stop
+signed_by c minutes seconds text (Err stopped') = Err stopped'
+signed_by c minutes seconds text (Ok read) = behind_sign c minutes seconds text read.next read.value
 
 -- a size, its sign and its unit
 sized-as : (negative : Bool) (f : ℕ → ℤ) → ((m : ℕ) → Value unit.Offset (f m) ≡ offset negative m) → (g : Got ℕ)

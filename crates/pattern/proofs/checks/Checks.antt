@@ -1,4 +1,5 @@
 -- Refusals 1 and 2: the search for a byte that is not allowed, place by place, and the limit on a pattern's length.
+use Rattle.std.specs.Prelude.{Ok, Err}
 use mathlib.Core.Bool.{true, false}
 use mathlib.Core.List.{List}
 use mathlib.Core.Path.{◌≡◌}
@@ -7,7 +8,6 @@ use native.Mathlib.Numerals.{add-one}
 use lib.ListN.{length, get_or, drop, drop_of_length-le}
 use borrow.Author.Tests.{le-leb, lt-leb}
 use Rattle.meaning.specs.Answers.{within, byte_check, bytes_check}
-use Rattle.meaning.specs.declared.Checked.TheVariants.{Fine, Refused}
 use Rattle.meaning.specs.declared.Refusal.{Refusal}
 use Rattle.meaning.specs.declared.Refusal.TheVariants.{PatternTooLong, PatternByte}
 use Rattle.pattern.proofs.parts.Scans.{from-here}
@@ -27,15 +27,15 @@ module _ (why : ℕ → Refusal) (low high : ℕ) (p : List ℕ) (i : ℕ) where
   unfolding byte_check
   bytes-more h e = rw (from-here p i h, e, byte_check, add-one i)
 
-  pub bytes-stop : i < length p → within low high (get_or p i 0) ≡ false → byte_check why low high i (drop i p) ≡ Refused (why i)
+  pub bytes-stop : i < length p → within low high (get_or p i 0) ≡ false → byte_check why low high i (drop i p) ≡ Err (why i)
   unfolding byte_check
   bytes-stop h e = rw (from-here p i h, e, byte_check)
 
-  pub bytes-done : length p ≤ i → byte_check why low high i (drop i p) ≡ Fine
+  pub bytes-done : length p ≤ i → byte_check why low high i (drop i p) ≡ Ok tt
   unfolding byte_check
   bytes-done h = rw (drop_of_length-le p h)
 
-pub long-pattern : (p : List ℕ) → 256 < length p → bytes_check p ≡ Refused (PatternTooLong (length p))
+pub long-pattern : (p : List ℕ) → 256 < length p → bytes_check p ≡ Err (PatternTooLong (length p))
 unfolding bytes_check
 long-pattern p h = rw (lt-leb (length p) 256 h)
 

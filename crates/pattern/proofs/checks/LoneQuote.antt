@@ -1,5 +1,6 @@
 -- Refusal 3: whether the last part is a quote that opens and has nothing behind it, walked part by part to the last place;
 -- and the whole check of a pattern.
+use Rattle.std.specs.Prelude.{Ok, Err}
 use mathlib.Core.Bool.{Bool, true, false}
 use mathlib.Core.List.{List, [], ◌∷◌}
 use mathlib.Core.Path.{◌≡◌, refl, sym, ◌∙◌}
@@ -13,8 +14,7 @@ use Rattle.laws.proofs.Tests.{by-test, true-is-not-false}
 use Rattle.meaning.specs.Answers.{◌else◌, bytes_check, ends_in_lone_quote, pattern_check}
 use Rattle.meaning.specs.Bytes.{when, both, quote}
 use Rattle.meaning.specs.Splitting.{Content, unclosed, contents, inside_length, length_of}
-use Rattle.meaning.specs.declared.Checked.{Checked}
-use Rattle.meaning.specs.declared.Checked.TheVariants.{Fine, Refused}
+use Rattle.meaning.specs.Results.{Checked}
 use Rattle.meaning.specs.declared.Part.{Part}
 use Rattle.meaning.specs.declared.Refusal.{Refusal}
 use Rattle.meaning.specs.declared.Refusal.TheVariants.{LoneQuote}
@@ -97,34 +97,34 @@ lone-some (b ∷ p) e = omega arith
 
 -- the whole check
 module _ (p : List ℕ) where
-  pub check-refused : (why : Refusal) → bytes_check p ≡ Refused why → pattern_check p ≡ Refused why
+  pub check-refused : (why : Refusal) → bytes_check p ≡ Err why → pattern_check p ≡ Err why
   unfolding pattern_check
   check-refused why e = rw e
 
-  pub check-lone : bytes_check p ≡ Fine → ends_in_lone_quote (contents p) ≡ true → pattern_check p ≡ Refused (LoneQuote (length p - 1))
+  pub check-lone : bytes_check p ≡ Ok tt → ends_in_lone_quote (contents p) ≡ true → pattern_check p ≡ Err (LoneQuote (length p - 1))
   unfolding pattern_check
   check-lone e f = rw (e, f)
 
-  pub check-fine : bytes_check p ≡ Fine → ends_in_lone_quote (contents p) ≡ false → pattern_check p ≡ Fine
+  pub check-fine : bytes_check p ≡ Ok tt → ends_in_lone_quote (contents p) ≡ false → pattern_check p ≡ Ok tt
   unfolding pattern_check
   check-fine e f = rw (e, f)
 
-fine-behind : (c : Checked) → (c else Fine) ≡ c
-fine-behind Fine = refl
-fine-behind (Refused why) = refl
+fine-behind : (c : Checked) → (c else (Ok tt)) ≡ c
+fine-behind (Ok _) = refl
+fine-behind (Err why) = refl
 
 -- a pattern whose last byte is no quote is checked by its bytes alone
 pub check-plain : (p : List ℕ) → eqb (get_or p (length p - 1) 0) quote ≡ false → pattern_check p ≡ bytes_check p
 unfolding pattern_check
 check-plain p e = rw (no-lone p (eqb-false (get_or p (length p - 1) 0) quote e)) (fine-behind (bytes_check p))
 
-both-fine : (c : Checked) (t : Bool) (why : Refusal) → (c else when t (Refused why) Fine) ≡ Fine → (c ≡ Fine) × (t ≡ false)
-both-fine Fine true why e = absurd (let z : ◌≡◌ {A = ℕ} 0 1 = cc in omega arith)
-both-fine Fine false why e = (refl, refl)
-both-fine (Refused r) t why e = absurd (let z : ◌≡◌ {A = ℕ} 0 1 = cc in omega arith)
+both-fine : (c : Checked) (t : Bool) (why : Refusal) → (c else when t (Err why) (Ok tt)) ≡ Ok tt → (c ≡ Ok tt) × (t ≡ false)
+both-fine (Ok _) true why e = absurd (let z : ◌≡◌ {A = ℕ} 0 1 = cc in omega arith)
+both-fine (Ok _) false why e = (refl, refl)
+both-fine (Err r) t why e = absurd (let z : ◌≡◌ {A = ℕ} 0 1 = cc in omega arith)
 
 -- what a caller knows of a pattern that passes
-pub fine-pattern : (p : List ℕ) → pattern_check p ≡ Fine → (length p ≤ 256) × (ends_in_lone_quote (contents p) ≡ false)
+pub fine-pattern : (p : List ℕ) → pattern_check p ≡ Ok tt → (length p ≤ 256) × (ends_in_lone_quote (contents p) ≡ false)
 unfolding pattern_check
 fine-pattern p e =
     let f = both-fine (bytes_check p) (ends_in_lone_quote (contents p)) (LoneQuote (length p - 1)) e in

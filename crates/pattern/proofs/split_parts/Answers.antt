@@ -1,31 +1,38 @@
 use native.Mathlib.Omega.{arith}
-use Rattle.pattern.proofs.parts.Next.{next}
+use mathlib.Core.Path.{◌∙◌}
+use Rattle.pattern.proofs.parts.Walks.{found_in}
 use Rattle.pattern.proofs.Splits.{filled-start, filled-turn, filled-split}
 use Rattle.pattern.proofs.split_parts.Goals as goal
 
-pub loop-at-init : goal.loop-at-init
-loop-at-init c = filled-start c.args.pattern.now c.no_part-empty.result c.no_part-empty.ensures
+pub loop-part-init : goal.loop-part-init
+loop-part-init c =
+    let starts = c.parts_of-part-items.ensures.starts in
+    rw (c.into_iter-part-iterator.ensures.into_iter_gives, starts.1) (starts.0, filled-start c.args.pattern.now c.no_part-empty.result c.no_part-empty.ensures)
 
-pub overflow_add-at : goal.overflow_add-at
-overflow_add-at c =
-    let l = c in
-    let found = c.next_part-part in
-    let n = next l.args.pattern.now l.loop-at.at found.result (omega arith) found.ensures in
-    omega arith
+pub offset_bounds-parts-used : goal.offset_bounds-parts-used
+offset_bounds-parts-used c =
+    let n = found_in c.loop-part.invariant.0 c.in-Some.ensures.steps.2.0 in
+    omega (arith, n.fits, n.some, c.loop-part.invariant.1.few, c.requires)
 
-pub loop-at-smaller : goal.loop-at-smaller
-loop-at-smaller c =
-    let l = c in
-    let found = c.next_part-part in
-    let n = next l.args.pattern.now l.loop-at.at found.result (omega arith) found.ensures in
-    omega arith
+pub bounds-parts-used : goal.bounds-parts-used
+bounds-parts-used c =
+    let n = found_in c.loop-part.invariant.0 c.in-Some.ensures.steps.2.0 in
+    omega (arith, n.fits, n.some, c.loop-part.invariant.1.few, c.requires)
 
-pub loop-at-preserved : goal.loop-at-preserved
-loop-at-preserved c =
-    let l = c in
-    let found = c.next_part-part in
-    let n = next l.args.pattern.now l.loop-at.at found.result (omega arith) found.ensures in
-    filled-turn (omega arith) (omega arith) l.loop-at.invariant n
+pub overflow_add-used : goal.overflow_add-used
+overflow_add-used c =
+    let n = found_in c.loop-part.invariant.0 c.in-Some.ensures.steps.2.0 in
+    omega (arith, n.fits, n.some, c.loop-part.invariant.1.few, c.requires)
+
+pub loop-part-preserved : goal.loop-part-preserved
+loop-part-preserved c =
+    let L = c.loop-part in
+    let turn = c.in-Some.ensures.steps in
+    let n = found_in c.loop-part.invariant.0 c.in-Some.ensures.steps.2.0 in
+    (turn.1 ∙ L.invariant.0, rw turn.2.1 (filled-turn (omega arith) (omega (arith, n.fits, n.some)) L.invariant.1 n))
 
 pub returns : goal.returns
-returns c = filled-split (omega arith) c.loop-at-test.false c.loop-at.invariant
+returns c =
+    let L = c.loop-part in
+    let end = rw L.invariant.0 at c.in-None.ensures.steps.2 in
+    filled-split (omega arith) end L.invariant.1

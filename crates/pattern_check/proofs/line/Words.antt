@@ -1,4 +1,5 @@
 -- The words for a verdict are few bytes, and two lines that may be printed for a pattern are the same.
+use Rattle.std.specs.Prelude.{Result, Ok, Err}
 use mathlib.Core.Bool.{false}
 use mathlib.Core.List.{List, [], ◌∷◌, ◌++◌}
 use mathlib.Core.Path.{◌≡◌, refl, sym, ap, ◌∙◌}
@@ -20,7 +21,7 @@ use Rattle.meaning.specs.declared.Refusal.TheVariants.{PatternTooLong, PatternBy
 use Rattle.meaning.specs.declared.Trouble.{Trouble}
 use Rattle.meaning.specs.declared.Trouble.TheVariants.{TooFew, NoNumber, NoName, NoSign, LiteralDiffers, PlusSign}
 use Rattle.meaning.specs.declared.Verdict.{Verdict}
-use Rattle.meaning.specs.declared.Verdict.TheVariants.{Yes, No, Refused}
+use Rattle.meaning.specs.declared.Verdict.TheVariants.{Yes, No}
 use Rattle.pattern.proofs.parts.Few.{few-steps}
 use Rattle.pattern_check.specs.Line.{PartFits, verdict_text, Printed}
 use Rattle.trust.proofs.Agreement.{Told, trusted, fails_at, refused, told, answers-coincide}
@@ -66,29 +67,29 @@ small-number StampYear = omega arith
 small-number StampOffset = omega arith
 small-number MendedTooLong = omega arith
 
-pub few_words : (v : Verdict) → PartFits v → length (verdict_text v) ≤ 10
+pub few_words : (v : Result Verdict Refusal) → PartFits v → length (verdict_text v) ≤ 10
 unfolding verdict_text bytes
-few_words Yes h = omega arith
-few_words (No part f) h = omega (arith, few-digits 5 part (omega arith) (omega (arith, h)))
-few_words (Refused why) h = omega (arith, few-digits 2 (number why) (omega arith) (small-number why))
+few_words (Ok Yes) h = omega arith
+few_words (Ok (No part f)) h = omega (arith, few-digits 5 part (omega arith) (omega (arith, h)))
+few_words (Err why) h = omega (arith, few-digits 2 (number why) (omega arith) (small-number why))
 
-pub part-fits : (p : List ℕ) (current : ℤ) (v : Verdict) → length p ≤ 65536 → Says First p current v → PartFits v
+pub part-fits : (p : List ℕ) (current : ℤ) (v : Result Verdict Refusal) → length p ≤ 65536 → Says First p current v → PartFits v
 unfolding SaysOf
-part-fits p current Yes h s = tt
-part-fits p current (No part f) h s = omega (arith, (s english english-valid false).1.there, few-steps Full p)
-part-fits p current (Refused why) h s = tt
+part-fits p current (Ok Yes) h s = tt
+part-fits p current (Ok (No part f)) h s = omega (arith, (s english english-valid false).1.there, few-steps Full p)
+part-fits p current (Err why) h s = tt
 
 -- what an answer in words asks and gives, for each verdict
 
-pub yes-text : verdict_text Yes ≡ 121 ∷ 101 ∷ 115 ∷ []
+pub yes-text : verdict_text (Ok Yes) ≡ 121 ∷ 101 ∷ 115 ∷ []
 unfolding verdict_text bytes
 yes-text = refl
 
-pub no_text : (part : ℕ) (f : Fields) → verdict_text (No part f) ≡ 110 ∷ 111 ∷ 32 ∷ num 1 part
+pub no_text : (part : ℕ) (f : Fields) → verdict_text (Ok (No part f)) ≡ 110 ∷ 111 ∷ 32 ∷ num 1 part
 unfolding verdict_text bytes
 no_text part f = refl
 
-pub refused-text : (why : Refusal) → verdict_text (Refused why) ≡ 114 ∷ 101 ∷ 102 ∷ 117 ∷ 115 ∷ 101 ∷ 100 ∷ 32 ∷ num 1 (number why)
+pub refused-text : (why : Refusal) → verdict_text (Err why) ≡ 114 ∷ 101 ∷ 102 ∷ 117 ∷ 115 ∷ 101 ∷ 100 ∷ 32 ∷ num 1 (number why)
 unfolding verdict_text bytes
 refused-text why = refl
 
@@ -99,11 +100,11 @@ told_text trusted = bytes "yes"
 told_text (fails_at part) = bytes "no " ++ num 1 part
 told_text (refused why) = bytes "refused " ++ num 1 (number why)
 
-text-told : (v : Verdict) → verdict_text v ≡ told_text (told v)
+text-told : (v : Result Verdict Refusal) → verdict_text v ≡ told_text (told v)
 unfolding verdict_text told_text
-text-told Yes = refl
-text-told (No part f) = refl
-text-told (Refused why) = refl
+text-told (Ok Yes) = refl
+text-told (Ok (No part f)) = refl
+text-told (Err why) = refl
 
 pub lines-coincide : (p old : List ℕ) {new new' : List ℕ} {r r' : ℕ} → Printed p old new r → Printed p old new' r' → (r ≡ r') × (new ≡ new')
 lines-coincide p old a b =

@@ -7,7 +7,7 @@ use borrow.Author.Tests.{le-leb, lt-leb}
 use lib.ListN.{length, take, drop, length-drop}
 use lib.Seq.{take-take, take-add, drop-drop, drop_at, length-take-le}
 use Rattle.prepared.specs.Opened.{opened, accepted_by, refused_by}
-use Rattle.prepared.specs.declared.opening.Opened.TheVariants.{Nothing}
+use Rattle.std.specs.Prelude.{None}
 use Rattle.words.specs.Rows.{xor_from, found, held_from, held_words, tail, mark, used, tag}
 
 pub steps-there : (n : ℕ) (row : List ℕ) → n ≤ 256 → take (3 + n - 3) (drop 3 row) ≡ take n (take 256 (drop 3 row))
@@ -33,11 +33,11 @@ all_words n row few small long e d = rw (d, e, steps-there n row small, held-the
 
 -- what a row is, by its length and its mark
 module _ (row : List ℕ) where
-  pub opened-short : length row < 259 → opened row ≡ Nothing
+  pub opened-short : length row < 259 → opened row ≡ None
   unfolding opened
   opened-short h = rw (lt-leb _ _ h)
 
-  pub opened-unmarked : 259 ≤ length row → mark row < tag → opened row ≡ Nothing
+  pub opened-unmarked : 259 ≤ length row → mark row < tag → opened row ≡ None
   unfolding opened
   opened-unmarked h k = rw (le-leb _ _ h, lt-leb _ _ k)
 

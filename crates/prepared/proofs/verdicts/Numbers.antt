@@ -1,15 +1,13 @@
 -- The answers come back from their numbers, and those of a pattern are below 2,048: it has at most 256 parts.
-use mathlib.Core.Bool.{true, false}
+use Rattle.std.specs.Prelude.{Option, Some, None}
 use mathlib.Core.List.{List, [], ◌∷◌, map}
-use mathlib.Core.Path.{◌≡◌, refl, ◌∙◌, ap, sym}
+use mathlib.Core.Path.{◌≡◌, refl}
 use Prim.Native.Nat.{ℕ, suc, ◌+◌, ◌-◌, ◌*◌, ◌/◌, ◌%◌, ◌≤◌, ◌<◌}
 use native.Mathlib.Omega.{arith}
-use borrow.Author.Tests.{eq-eqb, ne_eqb, ltb-true, ltb-false}
-use lib.Dec.{eqb, ltb}
+use borrow.Author.Tests.{ne_eqb, ltb-true, ltb-false}
+use lib.Dec.{ltb}
 use lib.ListN.{length, length-map}
 use Rattle.laws.proofs.Tests.{by-test}
-use Rattle.meaning.specs.Answers.{pattern_check}
-use Rattle.meaning.specs.Bytes.{when}
 use Rattle.meaning.specs.Splitting.{Content, contents, length_of}
 use Rattle.meaning.specs.Writing.{step_of, steps}
 use Rattle.meaning.specs.declared.Edition.{Edition}
@@ -22,7 +20,6 @@ use Rattle.trust.specs.Needs.{step_need}
 use Rattle.trust.specs.declared.Need.{Need}
 use Rattle.trust.specs.declared.Need.TheVariants.{Nothing, NoDigit, NoSecondDigit, Broken, LosesYear}
 use Rattle.trust.specs.declared.Unmet.{Unmet}
-use Rattle.trust.specs.declared.Unmet.TheVariants.{Nowhere, At}
 use Rattle.prepared.specs.Verdicts.{need_number, need_in, unmet_number, unmet_in, found_with, answer_number}
 
 need-back : (need : Need) → need_in (need_number need) ≡ need
@@ -39,16 +36,16 @@ need-small NoSecondDigit = omega arith
 need-small Broken = omega arith
 need-small LosesYear = omega arith
 
-pub unmet-back : (u : Unmet) → unmet_in (unmet_number u) ≡ u
-unmet-back Nowhere = refl
-unmet-back (At part need) =
-    let n = 8 * part + 1 + need_number need in
-    let small = need-small need in
-    let which : (n - 1) % 8 ≡ need_number need = omega arith in
-    let at : (n - 1) / 8 ≡ part = omega arith in
-    rw (ne_eqb n 0 (omega arith), which, at, need-back need)
+pub unmet-back : (u : Option Unmet) → unmet_in (unmet_number u) ≡ u
+unmet-back None = refl
+unmet-back (Some u) =
+    let n = 8 * u.part + 1 + need_number u.need in
+    let small = need-small u.need in
+    let which : (n - 1) % 8 ≡ need_number u.need = omega arith in
+    let at : (n - 1) / 8 ≡ u.part = omega arith in
+    rw (ne_eqb n 0 (omega arith), which, at, need-back u.need)
 
-pub answer_back : (edition : Edition) (held : ℕ) (of : Edition → Unmet) → held < 512 → ((e : Edition) → unmet_number (of e) < 2048)
+pub answer_back : (edition : Edition) (held : ℕ) (of : Edition → Option Unmet) → held < 512 → ((e : Edition) → unmet_number (of e) < 2048)
     → answer_number edition (found_with held (of First) (of Second)) ≡ unmet_number (of edition)
 answer_back First held of h small = omega (arith, small First)
 answer_back Second held of h small = omega (arith, small First, small Second)

@@ -1,4 +1,5 @@
 -- Laws of parse_offset: what it answers from two numbers taken, and test by test, and seconds behind UTC.
+use Rattle.std.specs.Prelude.{Result, Ok, Err}
 use mathlib.Core.Bool.{Bool, true, false}
 use mathlib.Core.List.{List, [], ◌∷◌}
 use mathlib.Core.Path.{◌≡◌, refl, ◌∙◌}
@@ -18,21 +19,20 @@ use Rattle.meaning.specs.Bytes.{plus}
 use Rattle.meaning.specs.Numerals.{Signed}
 use Rattle.meaning.specs.Readers.{Got, got, stopped}
 use Rattle.meaning.specs.Whole.{seconds, hour_and_minute, two_at, parse_offset}
-use Rattle.meaning.specs.declared.Checked.TheVariants as checked
-use Rattle.meaning.specs.declared.Offset.{Offset}
-use Rattle.meaning.specs.declared.Offset.TheVariants.{Seconds, Refused}
+use Rattle.meaning.specs.Results.{Offset}
 use Rattle.meaning.specs.declared.Refusal.{Refusal}
 use Rattle.meaning.specs.declared.Refusal.TheVariants.{InPart, OffsetLength}
 use Rattle.parse.specs.Steps.{taken_at}
-use Rattle.parse.specs.declared.cursor.Taken.{Taken}
-use Rattle.parse.specs.declared.cursor.Taken.TheVariants as taken
+use Rattle.parse.specs.Steps.{Number}
+use Rattle.parse.specs.declared.cursor.Read.{Read}
+use Rattle.parse.specs.declared.cursor.Stop.{Stop}
 
 -- what the hour and the minute answer, from what the cursor took at 1 and at 4
 
-abbrev pub offset_taken : Bool → Taken → Taken → Offset
-offset_taken ahead (taken.Stopped why place) minute = Refused (InPart why 0 place)
-offset_taken ahead (taken.Value negative hour next) (taken.Stopped why place) = Refused (InPart why 0 place)
-offset_taken ahead (taken.Value negative hour next) (taken.Value negative' minute next') = seconds ahead hour minute
+abbrev pub offset_taken : Bool → Result (Read Number) Stop → Result (Read Number) Stop → Offset
+offset_taken ahead (Err stop) minute = Err (InPart stop.trouble 0 stop.place)
+offset_taken ahead (Ok hour) (Err stop) = Err (InPart stop.trouble 0 stop.place)
+offset_taken ahead (Ok hour) (Ok minute) = seconds ahead hour.value.size minute.value.size
 
 offset-taken : (ahead : Bool) (hour minute : Got Signed)
     → hour_and_minute ahead hour minute ≡ offset_taken ahead (taken_at 1 hour) (taken_at 4 minute)
@@ -47,7 +47,7 @@ six-taken s = offset-taken (eqb (get_or s 0 0) plus) (two_at 1 s) (two_at 4 s)
 
 -- the answer, by what the checks and the first byte say
 
-pub refused-offset : (s : List ℕ) (why : Refusal) → text_check s ≡ checked.Refused why → parse_offset s ≡ Refused why
+pub refused-offset : (s : List ℕ) (why : Refusal) → text_check s ≡ Err why → parse_offset s ≡ Err why
 unfolding parse_offset
 refused-offset s why e = rw e
 
@@ -55,12 +55,12 @@ pub no-first : (s : List ℕ) → length s ≤ 0 → eqb (get_or s 0 0) (code "Z
 no-first [] h = refl
 no-first (b ∷ s) h = absurd (omega arith)
 
-module _ (s : List ℕ) (fine : text_check s ≡ checked.Fine) where
-  pub z-offset : eqb (get_or s 0 0) (code "Z") ≡ true → parse_offset s ≡ Seconds (pos 0)
+module _ (s : List ℕ) (fine : text_check s ≡ Ok tt) where
+  pub z-offset : eqb (get_or s 0 0) (code "Z") ≡ true → parse_offset s ≡ Ok (pos 0)
   unfolding parse_offset
   z-offset z = rw (fine, z)
 
-  pub other_length : eqb (get_or s 0 0) (code "Z") ≡ false → (length s ≡ 6 → ⊥) → parse_offset s ≡ Refused (OffsetLength (length s))
+  pub other_length : eqb (get_or s 0 0) (code "Z") ≡ false → (length s ≡ 6 → ⊥) → parse_offset s ≡ Err (OffsetLength (length s))
   unfolding parse_offset
   other_length z h = rw (fine, z, ne_eqb (length s) 6 h)
 

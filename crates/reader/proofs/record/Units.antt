@@ -17,7 +17,6 @@ use Rattle.meaning.specs.Bytes.{when}
 use Rattle.laws.proofs.Marks.{entries, get-entry, half, odd, marked-bits}
 use Rattle.meaning.specs.Whole.{Gave, unit_number, value_in, last_of, was_read, value_of, began_at, ended_at, fifteen, bits, how_many, marked, reading_of}
 use Rattle.meaning.specs.declared.Carried.TheVariants.{Nothing, Value}
-use Rattle.meaning.specs.declared.Checked.TheVariants.{Fine}
 use Rattle.meaning.specs.declared.ParseUnit.{ParseUnit}
 use Rattle.meaning.specs.declared.ParseUnit.TheVariants as unit
 use Rattle.meaning.specs.declared.Reading.{Reading}
@@ -147,6 +146,6 @@ module _ {gave : List Gave} {values : List ℤ} {starts ends : List ℕ} {mask :
 
 pub holds-reading : {gave : List Gave} {values : List ℤ} {starts ends : List ℕ} {mask : ℕ} → Holds gave values starts ends mask → (taken : ℕ)
     → ◌≡◌ {A = Reading}
-    (record { checked = Fine; taken = taken; values = values; mask = mask; units = ones mask; starts = starts; ends = ends })
-    (reading_of Fine taken gave)
+    (record { taken = taken; values = values; mask = mask; units = ones mask; starts = starts; ends = ends })
+    (reading_of taken gave)
 holds-reading {gave} h taken = rw (h.values-are, h.starts-are, h.ends-are, h.mask_is, units-counted gave)

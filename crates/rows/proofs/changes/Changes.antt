@@ -6,7 +6,7 @@ use Prim.Native.Nat.{ℕ, zero, suc, ◌+◌, ◌*◌, ◌%◌, ◌≤◌, ◌<�
 use native.Mathlib.Numerals.{add-one}
 use native.Mathlib.Omega.{arith}
 use lib.IntN.{ℤ, pos}
-use lib.ListN.{length, get_or, take, drop, set, length-drop, drop_of_length-le}
+use lib.ListN.{length, get_or, take, drop, set, drop_of_length-le}
 use lib.Seq.{sets, drop-cons, take-suc-set, append_snoc}
 use Rattle.laws.proofs.Laid.{sets-append}
 use Rattle.laws.proofs.Tests.{by-test, true-is-not-false, both_true}
@@ -67,25 +67,22 @@ module _ (row : List ℤ) (at : ℕ) (h : at + 4 ≤ length row) where
   unfolding changes_held
   held_next = ap changes_held four
 
-are-four : (zs : List ℤ) → are_changes zs ≡ true → length zs % 4 ≡ 0
+pub are_whole : (zs : List ℤ) → are_changes zs ≡ true → length zs % 4 ≡ 0
 unfolding are_changes
-are-four [] e = refl
-are-four (a ∷ []) e = true-is-not-false (sym e)
-are-four (a ∷ b ∷ []) e = true-is-not-false (sym e)
-are-four (a ∷ b ∷ c ∷ []) e = true-is-not-false (sym e)
-are-four (a ∷ b ∷ c ∷ d ∷ zs) e = omega (arith, are-four zs (both_true (is_change a b c d) (are_changes zs) e).1)
+are_whole [] e = refl
+are_whole (a ∷ []) e = true-is-not-false (sym e)
+are_whole (a ∷ b ∷ []) e = true-is-not-false (sym e)
+are_whole (a ∷ b ∷ c ∷ []) e = true-is-not-false (sym e)
+are_whole (a ∷ b ∷ c ∷ d ∷ zs) e = omega (arith, are_whole zs (both_true (is_change a b c d) (are_changes zs) e).1)
 
 pub not-four : (zs : List ℤ) → (length zs % 4 ≡ 0 → ⊥) → are_changes zs ≡ false
-not-four zs h = by-test (are_changes zs) (λ e. absurd (h (are-four zs e))) (λ e. e)
+not-four zs h = by-test (are_changes zs) (λ e. absurd (h (are_whole zs e))) (λ e. e)
 
 pub are_all : (zs : List ℤ) (at : ℕ) → length zs ≤ at → are_changes (drop at zs) ≡ true
 unfolding are_changes
 are_all zs at h = rw (drop_of_length-le zs h)
 
 -- read into a list
-
-pub four-left : (row : List ℤ) (at : ℕ) → are_changes (drop at row) ≡ true → at < length row → at + 4 ≤ length row
-four-left row at e h = omega (arith, are-four (drop at row) e, length-drop at row)
 
 pub held-turn : {X : List Change} (listed : List Change) (used : ℕ) (c : Change) (cs : List Change) → used < length listed
     → take used listed ++ c ∷ cs ≡ X → take (used + 1) (set listed used c) ++ cs ≡ X

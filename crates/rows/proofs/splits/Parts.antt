@@ -1,4 +1,5 @@
 -- The loop that lays the parts of a pattern: one turn, and the row at its end.
+use Rattle.std.specs.Prelude.{Ok, Err}
 use mathlib.Core.List.{List, [], ◌∷◌, ◌++◌}
 use mathlib.Core.Path.{◌≡◌, refl}
 use Prim.Native.Nat.{ℕ, zero, suc, ◌+◌, ◌*◌, ◌-◌, ◌≤◌}
@@ -9,7 +10,6 @@ use lib.Seq.{sets}
 use Rattle.meaning.specs.Answers.{accepted, refused, split_answer, bytes_check}
 use Rattle.meaning.specs.Splitting.{contents, parts_from, parts, no_part}
 use Rattle.meaning.specs.Whole.{split}
-use Rattle.meaning.specs.declared.Checked.TheVariants.{Fine, Refused}
 use Rattle.meaning.specs.declared.Part.{Part}
 use Rattle.meaning.specs.declared.Refusal.{Refusal}
 use Rattle.pattern.specs.Next.{Next}
@@ -57,12 +57,12 @@ parts-end {p} {old} {row} {used} {at} h k l =
 
 -- a pattern that the checks pass, and one that they refuse
 module _ (p : List ℕ) where
-  pub split-fine : bytes_check p ≡ Fine
+  pub split-fine : bytes_check p ≡ Ok tt
       → (split_answer (split p) ≡ accepted (pos (length (parts p)) ∷ []))
       × (split_numbers (split p) ≡ part_numbers (parts p ++ replicate (256 - length (parts p)) no_part))
   unfolding split
   split-fine e = rw e (refl, refl)
 
-  pub split-refused : (why : Refusal) → bytes_check p ≡ Refused why → (split_answer (split p) ≡ refused why) × (split_numbers (split p) ≡ [])
+  pub split-refused : (why : Refusal) → bytes_check p ≡ Err why → (split_answer (split p) ≡ refused why) × (split_numbers (split p) ≡ [])
   unfolding split
   split-refused why e = rw e (refl, refl)

@@ -1,4 +1,5 @@
 -- The loop that lays what the parts of a pattern are: one turn, and the row at its end; and the entries by the checks.
+use Rattle.std.specs.Prelude.{Ok, Err}
 use mathlib.Core.List.{List, [], ◌∷◌, ◌++◌, map}
 use mathlib.Core.Path.{◌≡◌, refl, sym, ap, ◌∙◌}
 use Prim.Native.Nat.{ℕ, suc, ◌+◌, ◌-◌, ◌≤◌}
@@ -9,7 +10,6 @@ use lib.Seq.{sets}
 use Rattle.meaning.specs.Answers.{bytes_check}
 use Rattle.meaning.specs.Splitting.{Content, length_of, contents, parts_from, parts}
 use Rattle.meaning.specs.Writing.{step_of, steps}
-use Rattle.meaning.specs.declared.Checked.TheVariants.{Fine, Refused}
 use Rattle.meaning.specs.declared.Pair.TheVariants.{Full}
 use Rattle.meaning.specs.declared.Part.{Part}
 use Rattle.meaning.specs.declared.Refusal.{Refusal}
@@ -50,11 +50,11 @@ entries-end {p} {old} {row} {used} {at} h k l =
 
 -- a pattern that the checks pass, and one that they refuse
 module _ (p : List ℕ) where
-  pub units-fine : bytes_check p ≡ Fine
+  pub units-fine : bytes_check p ≡ Ok tt
       → unit_entries p ≡ map step_entry (steps Full p) ++ replicate (256 - length (parts p)) (negsuc 0)
   unfolding unit_entries
   units-fine e = rw (e, entries-length p)
 
-  pub units-refused : (why : Refusal) → bytes_check p ≡ Refused why → unit_entries p ≡ []
+  pub units-refused : (why : Refusal) → bytes_check p ≡ Err why → unit_entries p ≡ []
   unfolding unit_entries
   units-refused why e = rw e

@@ -1,7 +1,6 @@
 -- The check in the first edition.
 use mir.Syntax.{w32}
 use mir.ValLaws.{to_z-of_z}
-use borrow.Author.Rules.{rules}
 use Rattle.sheet.proofs.sheet_check.Goals as goal
 
 pub returns : goal.returns

@@ -1,10 +1,8 @@
 -- The check in the edition of a number, where it stands for choices of a check.
 use Prim.Native.Nat.{◌%◌}
-use borrow.Author.Rules.{rules}
-use borrow.Author.Tests.{eq-eqb, eqb-true, eqb-false, le-leb, lt-leb}
+use borrow.Author.Tests.{eq-eqb, le-leb, lt-leb}
 use lib.Dec.{leb}
 use mathlib.Core.Bool.{true, false}
-use mathlib.Core.Logic.{⊎_elim}
 use mathlib.Core.Path.{◌≡◌}
 use mir.Syntax.{w32}
 use mir.ValLaws.{to_z-of_z}

@@ -4,7 +4,6 @@ use mir.Syntax.{w32}
 use mir.ValLaws.{to_z-of_z}
 use Rattle.meaning.specs.Answers.{day_answer}
 use Rattle.sheet.proofs.Rooms.{room, no_room}
-use borrow.Author.Rules.{rules}
 use Rattle.sheet.proofs.sheet_day.Goals as goal
 
 pub returns-then-answer-lt6 : goal.returns-then-answer-lt6

@@ -14,8 +14,8 @@ returns-then-answer-le1 c =
     let a = c.args in
     no_room 2 a.answer.now (day_number_answer (day_number a.year a.month a.day)) (omega arith)
 
-pub give_day_number-requires : goal.give_day_number-requires
-give_day_number-requires c =
+pub give_integer-requires : goal.give_integer-requires
+give_integer-requires c =
     let s = c in
     (search rules, rw c.day_number.ensures.whole (day-number-fits _ s.args.month s.args.day))
 
@@ -25,4 +25,4 @@ returns c =
     let a = s.args in
     let answered = rw (to_z-of_z w32 a.year s.ranges.year) at c.day_number.ensures.whole in
     room 2 a.answer.now (day_number_answer (day_number a.year a.month a.day)) (omega (arith, c.if-answer-le1.false))
-    (rw (← answered) c.give_day_number.ensures)
+    (rw (← answered) c.give_integer.ensures)

@@ -12,8 +12,8 @@ returns-then-answer-lt2 c =
     let a = c.args in
     no_room 2 a.answer.now (offset_answer (parse_offset a.text.now)) (omega arith)
 
-pub give_offset-requires : goal.give_offset-requires
-give_offset-requires c =
+pub give_integer-requires : goal.give_integer-requires
+give_integer-requires c =
     let s = c in
     (search rules, rw c.parse_offset.ensures.whole (offset-fits s.args.text.now (omega arith)))
 
@@ -21,4 +21,4 @@ pub returns : goal.returns
 returns c =
     let a = c.args in
     room 2 a.answer.now (offset_answer (parse_offset a.text.now)) (omega (arith, c.if-answer-lt2.false))
-    (rw (← c.parse_offset.ensures.whole) c.give_offset.ensures)
+    (rw (← c.parse_offset.ensures.whole) c.give_integer.ensures)

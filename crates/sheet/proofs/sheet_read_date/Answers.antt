@@ -2,7 +2,6 @@
 use mir.Syntax.{w32}
 use mir.ValLaws.{to_z-of_z}
 use Rattle.meaning.proofs.Books.{english-unopened}
-use borrow.Author.Rules.{rules}
 use Rattle.sheet.proofs.sheet_read_date.Goals as goal
 
 pub returns : goal.returns

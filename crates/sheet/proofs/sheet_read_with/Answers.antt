@@ -8,7 +8,6 @@ use Rattle.meaning.specs.Names.{english}
 use Rattle.sheet.proofs.Rooms.{chosen, no-choices}
 use Rattle.sheet.specs.Numbers.{choices_of, of_reading}
 use Rattle.sheet.specs.Sheet.{read_of}
-use borrow.Author.Rules.{rules}
 use Rattle.sheet.proofs.sheet_read_with.Goals as goal
 
 pub returns-then-choices-gt7 : goal.returns-then-choices-gt7

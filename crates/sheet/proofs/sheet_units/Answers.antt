@@ -1,6 +1,4 @@
 -- What the parts are, where there is room for it in both rows.
-use borrow.Author.Rules.{rules}
-use borrow.Author.Tests.{ltb-true, ltb-false}
 use mathlib.Core.Logic.{⊎_elim}
 use native.Mathlib.Omega.{arith}
 use Rattle.meaning.specs.Answers.{split_answer}

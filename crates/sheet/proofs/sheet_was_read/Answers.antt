@@ -1,7 +1,6 @@
 -- The bit as a number.
 use mir.Syntax.{w64}
 use mir.ValLaws.{to_z-of_z}
-use borrow.Author.Rules.{rules}
 use Rattle.sheet.proofs.sheet_was_read.Goals as goal
 
 pub returns-then-is_marked : goal.returns-then-is_marked

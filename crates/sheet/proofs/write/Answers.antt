@@ -12,8 +12,8 @@ returns-then-row-lt2 c =
     let a = c.args in
     rw (lt-leb 2 (length a.row.now) (omega arith)) (record { number = refl; row = refl }, refl)
 
-pub give_wrote-requires : goal.give_wrote-requires
-give_wrote-requires c =
+pub give_counted-requires : goal.give_counted-requires
+give_counted-requires c =
     let s = c in
     let a = s.args in
     let wrote = c.format_with.ensures in
@@ -23,4 +23,4 @@ pub returns : goal.returns
 returns c =
     let s = c in
     let wrote = c.format_with.ensures in
-    rw (le-leb 2 (length s.args.row.now) (omega (arith, c.if-row-lt2.false)), ← wrote.0.whole) (c.give_wrote.ensures, wrote.1)
+    rw (le-leb 2 (length s.args.row.now) (omega (arith, c.if-row-lt2.false)), ← wrote.0.whole) (c.give_counted.ensures, wrote.1)

@@ -1,7 +1,7 @@
 -- A date-time by its bytes: the nineteen at fixed places, and then what the fraction, the offset and the end give.
 use mathlib.Core.Bool.{true, false}
 use mathlib.Core.List.{List}
-use mathlib.Core.Path.{◌≡◌, refl, sym, ap, ◌∙◌}
+use mathlib.Core.Path.{◌≡◌, refl, sym, ◌∙◌}
 use Prim.Native.Nat.{ℕ, ◌+◌, ◌-◌, ◌*◌, ◌≤◌, ◌<◌}
 use native.Mathlib.Numerals.{add-one}
 use native.Mathlib.Omega.{arith}
@@ -17,12 +17,12 @@ use Rattle.numerals.specs.Numbers.{pair_at}
 use Rattle.stamps.proofs.grammar.Fractions.{some-run, no_run, nanos-weighed}
 use Rattle.stamps.proofs.grammar.Prefixes.{Begins, all-taken, not_taken, begins-then, begins-on, begins-done, begins-byte, begins-pair, begins-hour}
 use Rattle.stamps.proofs.shape.Wrongs.{taken_at}
-use Rattle.stamps.specs.Found.{fraction_by, shift_of, zone_by, offset_of}
+use Rattle.stamps.specs.Found.{fraction_by, zone_by, offset_of}
 use Rattle.stamps.specs.Fractions.{weighted}
 use Rattle.stamps.specs.Shape.{takes, first_wrong}
-use Rattle.stamps.specs.declared.grammar.Fraction.TheVariants as fraction
 use Rattle.stamps.specs.declared.grammar.Shift.{Shift}
-use Rattle.stamps.specs.declared.grammar.Zone.TheVariants as zone
+use Rattle.std.specs.Prelude.{Result, Ok, Err}
+use Rattle.stamps.specs.declared.grammar.Halted.{Halted}
 
 module _ (s : List ℕ) where
   abbrev pub year_in : ℕ
@@ -187,21 +187,18 @@ pair_small at s d = omega (arith, digit-bounds (get_or s at 0) d.0, digit-bounds
 
 -- what the answers of the code stand for
 
-pub fraction-halted : (x : Ruled ℕ) {place : ℕ} → fraction_by x ≡ fraction.Halted place → x ≡ halts place
-fraction-halted (reads n at) e = absurd (let z : ◌≡◌ {A = ℕ} 0 1 = cc in omega arith)
-fraction-halted (halts at) e = cc
+abbrev pub fraction_back : Result (ℕ × ℕ) Halted → Ruled ℕ
+fraction_back (Ok p) = reads p.0 p.1
+fraction_back (Err h) = halts h.place
 
-pub fraction-nanos : (x : Ruled ℕ) {n at : ℕ} → fraction_by x ≡ fraction.Nanos n at → x ≡ reads n at
-fraction-nanos (reads n at) e = cc
-fraction-nanos (halts at) e = absurd (let z : ◌≡◌ {A = ℕ} 0 1 = cc in omega arith)
+pub fraction-is : (x : Ruled ℕ) → fraction_back (fraction_by x) ≡ x
+fraction-is (reads n at) = refl
+fraction-is (halts at) = refl
 
-pub zone-halted : (x : Ruled NumOffset) {place : ℕ} → zone_by x ≡ zone.Halted place → x ≡ halts place
-zone-halted (reads o at) e = absurd (let z : ◌≡◌ {A = ℕ} 0 1 = cc in omega arith)
-zone-halted (halts at) e = cc
+abbrev pub zone_back : Result (Shift × ℕ) Halted → Ruled NumOffset
+zone_back (Ok p) = reads (offset_of p.0) p.1
+zone_back (Err h) = halts h.place
 
-pub zone-shifted : (x : Ruled NumOffset) {h : Shift} {at : ℕ} → zone_by x ≡ zone.Shifted h at → x ≡ reads (offset_of h) at
-zone-shifted (reads o p) {h} {at} e =
-    let shift : shift_of o ≡ h = cc in
-    let place : p ≡ at = cc in
-    ap (λ (q : ℕ). reads o q) place ∙ ap (λ (k : Shift). reads (offset_of k) at) shift
-zone-shifted (halts p) e = absurd (let z : ◌≡◌ {A = ℕ} 0 1 = cc in omega arith)
+pub zone-is : (x : Ruled NumOffset) → zone_back (zone_by x) ≡ x
+zone-is (reads o at) = refl
+zone-is (halts at) = refl

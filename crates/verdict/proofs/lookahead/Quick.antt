@@ -8,7 +8,7 @@ use Rattle.laws.specs.Widths.{most_digits}
 use Rattle.rules.specs.ShortRules.{short_quantity, short_rule}
 use Rattle.rules.specs.Steps.{long_year}
 use Rattle.rules.specs.declared.short.Short.{Short}
-use Rattle.rules.specs.declared.short.Short.TheVariants.{Month, Day, Hour, Minute, Second, Other}
+use Rattle.rules.specs.declared.short.Short.TheVariants.{Month, Day, Hour, Minute, Second}
 use Rattle.trust.specs.Ahead.{rule_first, rule_second}
 
 two_digits : (number : Short) → most_digits (short_quantity number) ≡ 2
@@ -18,16 +18,15 @@ two_digits Day = refl
 two_digits Hour = refl
 two_digits Minute = refl
 two_digits Second = refl
-two_digits Other = refl
 
-pub short-second : (number : Short) (c : ℕ) (behind : Bool) → rule_second (short_rule number c) behind ≡ true
+pub short_second : (number : Short) (c : ℕ) (behind : Bool) → rule_second (short_rule number c) behind ≡ true
 unfolding rule_second
-short-second number c behind = rw (two_digits number) (by-test (ltb c 2) (λ e. rw e) (λ e. rw e))
+short_second number c behind = rw (two_digits number) (by-test (ltb c 2) (λ e. rw e) (λ e. rw e))
 
-pub year-first : (c : ℕ) → rule_first (long_year c) ≡ true
+pub year_first : (c : ℕ) → rule_first (long_year c) ≡ true
 unfolding rule_first
-year-first c = by-test (leb c 4) (λ e. rw e) (λ e. rw e)
+year_first c = by-test (leb c 4) (λ e. rw e) (λ e. rw e)
 
-pub year-second : (c : ℕ) (behind : Bool) → rule_second (long_year c) behind ≡ true
+pub year_second : (c : ℕ) (behind : Bool) → rule_second (long_year c) behind ≡ true
 unfolding rule_second
-year-second c behind = by-test (leb c 4) (λ e. rw e) (λ e. rw e)
+year_second c behind = by-test (leb c 4) (λ e. rw e) (λ e. rw e)

@@ -4,15 +4,12 @@ use mathlib.Core.Path.{◌≡◌}
 use Prim.Native.Nat.{ℕ, ◌*◌, ◌≤◌}
 use native.Mathlib.Omega.{arith}
 use lib.ListN.{length, take, length-append, length-map, length-take}
-use Rattle.meaning.specs.Answers.{details}
 use Rattle.meaning.specs.Names.{Book}
 use Rattle.meaning.specs.Whole.{Walk, refused_at, walk}
-use Rattle.meaning.specs.declared.Checked.TheVariants.{Refused}
 use Rattle.meaning.specs.declared.Choices.{Choices}
-use Rattle.meaning.specs.declared.Refusal.TheVariants.{InPart}
-use Rattle.meaning.specs.declared.Trouble.{Trouble}
+use Rattle.meaning.specs.declared.Refusal.{Refusal}
 use Rattle.rows.proofs.Fits.{WalkFits, walk-fits}
-use Rattle.rows.specs.Fits.{NumberFits}
+use Rattle.rows.specs.Fits.{NumberFits, WhyFits}
 use Rattle.words.proofs.pieces.Codes.{few-pieces}
 use Rattle.words.specs.Pieces.{pieces_in, piece_step, steps_in, steps_of}
 
@@ -27,6 +24,5 @@ pub walk-fit : (choices : Choices) (book : Book) (current : ℕ) (row s : List �
 walk-fit choices book current row s used h k =
     walk-fits choices book current 0 0 (steps_of row (take used row)) s [] (omega (arith, few-steps row (take used row), length-take used row)) (omega arith)
 
-pub part-fit : {w : Walk} {why : Trouble} {part place : ℕ} → WalkFits w → w ≡ refused_at (Refused (InPart why part place)) → NumberFits part × NumberFits place
-unfolding details
-part-fit fits e = let both' = rw e at fits in (both'.0, both'.1.0)
+pub why-fit : {w : Walk} {why : Refusal} → WalkFits w → w ≡ refused_at why → WhyFits why
+why-fit fits e = rw e at fits

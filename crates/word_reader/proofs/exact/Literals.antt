@@ -22,8 +22,8 @@ use Rattle.meaning.specs.declared.Trouble.TheVariants.{TooFew, LiteralDiffers}
 use Rattle.parse.proofs.literals.Strict.{strict_by, compared-read}
 use Rattle.parse.specs.Literals.{compared_from}
 use Rattle.parse.specs.Steps.{part_at}
-use Rattle.parse.specs.declared.cursor.PartRead.TheVariants as part
-use Rattle.parse.specs.declared.literals.Compared.TheVariants.{Same, Differs}
+use Rattle.parse.proofs.cursor.Moves.{stop}
+use Rattle.std.specs.Prelude.{Ok, Err, Some, None}
 use Rattle.words.specs.Pieces.{held_bytes}
 
 -- the bytes that words hold, one after the other
@@ -70,7 +70,7 @@ module _ (w text : List ℕ) (at k : ℕ) (long : length w ≡ k) where
   unfolding read_step
   read_by strict = rw (← long) (compared-read text at (record { pair = Full; strict = strict; edition = First }) english 0 (literal w false))
 
-  there : k ≤ length text - at → part_at at (passed k rest) ≡ part.Got Nothing (record { at = at + k })
+  there : k ≤ length text - at → part_at at (passed k rest) ≡ Ok (record { value = Nothing; next = record { at = at + k } })
   there h = rw (skip_goes_on k rest (rw length-drop h), add-zero)
 
   start : at + k - length w ≡ at
@@ -84,10 +84,10 @@ module _ (w text : List ℕ) (at k : ℕ) (long : length w ≡ k) where
 
   pub short-passes : (strict : Bool) → length text - at < k → Passes strict
   short-passes strict h =
-      let stops : part_at at (passed k rest) ≡ part.Stopped TooFew at = rw (skip-stops k rest (rw length-drop h), add-zero) in
+      let stops : part_at at (passed k rest) ≡ Err (stop TooFew at) = rw (skip-stops k rest (rw length-drop h), add-zero) in
       rw (read_by strict, stops)
 
-  pub same-passes : (strict : Bool) → k ≤ length text - at → compared_from at w text ≡ Same → Passes strict
+  pub same-passes : (strict : Bool) → k ≤ length text - at → compared_from at w text ≡ None → Passes strict
   same-passes true h e = rw (read_by true, there h, start, e)
   same-passes false h e = rw long
 
@@ -97,6 +97,6 @@ module _ (w text : List ℕ) (at k : ℕ) (long : length w ≡ k) where
       let none : w ≡ [] = nil-of w (omega (arith, long)) in
       same-passes strict (omega arith) (rw (none, no_byte at (drop at text)))
 
-  pub differs-stops : {strict : Bool} {place : ℕ} → strict ≡ true → k ≤ length text - at → compared_from at w text ≡ Differs place
-      → part.Stopped LiteralDiffers place ≡ part_at at (literal_read strict w rest)
+  pub differs-stops : {strict : Bool} {place : ℕ} → strict ≡ true → k ≤ length text - at → compared_from at w text ≡ Some place
+      → Err (stop LiteralDiffers place) ≡ part_at at (literal_read strict w rest)
   differs-stops s h e = rw (s, read_by true, there h, start, e)

@@ -1,4 +1,5 @@
 -- The walk over the pieces of words: a word is done, a piece more, and the end.
+use Rattle.std.specs.Prelude.{Err}
 use mathlib.Core.Bool.{false, true}
 use mathlib.Core.List.{List, [], ◌∷◌, ◌++◌}
 use mathlib.Core.Logic.{◌⊎◌}
@@ -13,16 +14,14 @@ use Rattle.meaning.specs.Reading.{read_step}
 use Rattle.meaning.specs.Whole.{Gave, Walk, walked, refused_at, walk}
 use Rattle.meaning.specs.Writing.{Step}
 use Rattle.meaning.specs.declared.Carried.{Carried}
-use Rattle.meaning.specs.declared.Checked.TheVariants.{Refused}
 use Rattle.meaning.specs.declared.Choices.{Choices}
 use Rattle.meaning.specs.declared.Refusal.TheVariants.{InPart, TextLeft}
-use Rattle.meaning.specs.declared.Trouble.{Trouble}
 use Rattle.parse.proofs.rule.Within.{within_step}
 use Rattle.parse.proofs.steps.Within.{part_stays}
 use Rattle.parse.specs.Steps.{part_at}
-use Rattle.parse.specs.declared.cursor.Cursor.{Cursor}
-use Rattle.parse.specs.declared.cursor.PartRead.{PartRead}
-use Rattle.parse.specs.declared.cursor.PartRead.TheVariants as read
+use Rattle.parse.specs.declared.cursor.Read.{Read}
+use Rattle.parse.specs.declared.cursor.Stop.{Stop}
+use Rattle.std.specs.Prelude.{Result, Ok, Err}
 use Rattle.reader.proofs.walk.Walks.{walk_by, walk-on, end-left, end-done}
 use Rattle.words.specs.Pieces.{once, piece_step, pieces_in, steps_in, steps_of}
 use Rattle.words.specs.declared.pieces.Piece.{Piece}
@@ -73,7 +72,7 @@ module _ (choices : Choices) (book : Book) (current : ℕ) (row text : List ℕ)
     word-ends e = rw (steps-past row (take used row) i inside k (rw (get_or-take used row i 0 there) e))
 
     module _ (more : k < length (pieces_in (get_or row i 0))) {piece : Piece} (is : piece ≡ get_or (pieces_in (get_or row i 0)) k (once 0)) where
-      abbrev Gives : PartRead → Type 0
+      abbrev Gives : Result (Read Carried) Stop → Type 0
       Gives g = part_at at (read_step choices book current (piece_step row piece) (drop at text)) ≡ g
 
       piece-here : drop k (steps_of row (drop i (take used row))) ≡ piece_step row piece ∷ drop (k + 1) (steps_of row (drop i (take used row)))
@@ -81,16 +80,16 @@ module _ (choices : Choices) (book : Book) (current : ℕ) (row text : List ℕ)
           rw (is, ← get_or-take used row i 0 there)
           (steps_next row (take used row) i inside k (rw (get_or-take used row i 0 there) more))
 
-      turn : {g : PartRead} → Gives g → Left (walk_by choices book current part text gave at (drop (k + 1) (steps_of row (drop i (take used row)))) g)
+      turn : {g : Result (Read Carried) Stop} → Gives g → Left (walk_by choices book current part text gave at (drop (k + 1) (steps_of row (drop i (take used row)))) g)
       turn e =
           rw (← e, piece-here)
           (walk-on choices book current part text gave at (piece_step row piece) (drop (k + 1) (steps_of row (drop i (take used row)))))
 
-      pub piece-stops : {why : Trouble} {place : ℕ} → Gives (read.Stopped why place) → Left (refused_at (Refused (InPart why part place)))
+      pub piece-stops : {stop : Stop} → Gives (Err stop) → Left (refused_at (InPart stop.trouble part stop.place))
       piece-stops e = turn e
 
-      pub piece-goes-on : {c : Carried} {next : Cursor} → Gives (read.Got c next)
-          → Left (walk_by choices book current part text gave at (drop (k + 1) (steps_of row (drop i (take used row)))) (read.Got c next))
+      pub piece-goes-on : {read : Read Carried} → Gives (Ok read)
+          → Left (walk_by choices book current part text gave at (drop (k + 1) (steps_of row (drop i (take used row)))) (Ok read))
       piece-goes-on e = turn e
 
   module _ (end : used ≤ i) where
@@ -98,14 +97,14 @@ module _ (choices : Choices) (book : Book) (current : ℕ) (row text : List ℕ)
     unfolding steps_of
     none_left = rw (drop_of_length-le (take used row) {i = i} (omega (arith, length-take used row)), drop-nil k)
 
-    pub words_left : choices.strict ≡ true → at < length text → Left (refused_at (Refused (TextLeft at)))
+    pub words_left : choices.strict ≡ true → at < length text → Left (refused_at (TextLeft at))
     words_left strict h = rw none_left (end-left choices book current part text gave at strict h)
 
     pub words-done : (choices.strict ≡ false) ⊎ (length text ≤ at) → Left (walked at gave)
     words-done ends = rw none_left (end-done choices book current part text gave at ends)
 
 -- a cursor that a piece moves on stays in the text
-pub piece_inside : (choices : Choices) (book : Book) (current : ℕ) (text : List ℕ) (at : ℕ) (step : Step) {c : Carried} {next : Cursor}
-    → part_at at (read_step choices book current step (drop at text)) ≡ read.Got c next → at ≤ length text → next.at ≤ length text
+pub piece_inside : (choices : Choices) (book : Book) (current : ℕ) (text : List ℕ) (at : ℕ) (step : Step) {read : Read Carried}
+    → part_at at (read_step choices book current step (drop at text)) ≡ Ok read → at ≤ length text → read.next.at ≤ length text
 piece_inside choices book current text at step e h =
     part_stays at text (read_step choices book current step (drop at text)) h (within_step choices book current step (drop at text)) e

@@ -1,4 +1,5 @@
 -- Steps read one after the other, and what they give kept in a row.
+use Rattle.std.specs.Prelude.{Ok}
 use mathlib.Core.List.{List, [], ◌∷◌, ◌++◌, map, append_assoc}
 use mathlib.Core.Path.{◌≡◌, refl, ap, ◌∙◌}
 use Prim.Native.Nat.{ℕ, zero, suc, ◌+◌, ◌*◌, ◌^◌, ◌%◌, ◌≤◌, ◌<◌}
@@ -15,15 +16,14 @@ use Rattle.meaning.specs.Whole.{Gave, unit_number, last_of, reading_of}
 use Rattle.meaning.specs.Writing.{Step}
 use Rattle.meaning.specs.declared.Carried.{Carried}
 use Rattle.meaning.specs.declared.Carried.TheVariants.{Nothing, Value}
-use Rattle.meaning.specs.declared.Checked.TheVariants.{Fine}
 use Rattle.meaning.specs.declared.Choices.{Choices}
 use Rattle.meaning.specs.declared.ParseUnit.{ParseUnit}
 use Rattle.meaning.specs.declared.Reading.{Reading}
 use Rattle.parse.proofs.rule.Within.{within_step}
 use Rattle.parse.proofs.steps.Within.{part_stays}
 use Rattle.parse.specs.Steps.{part_at}
-use Rattle.parse.specs.declared.cursor.Cursor.{Cursor}
-use Rattle.parse.specs.declared.cursor.PartRead.TheVariants as read
+use Rattle.parse.specs.declared.cursor.Read.{Read}
+use Rattle.std.specs.Prelude.{Ok}
 use Rattle.reader.proofs.record.Units.{Holds, holds-value, unit-below}
 use Rattle.reader.proofs.walk.Walks.{walk-on}
 use Rattle.word_reader.specs.Quick.{row_of, mask_of, gave_one, Moves, Kept}
@@ -33,9 +33,9 @@ module _ (choices : Choices) (book : Book) (current : ℕ) (text : List ℕ) whe
   pub moves-none : (at : ℕ) → at ≤ length text → Moves choices book current [] text at at []
   moves-none at h = record { inside = h; goes = λ i rest gave. rw add-zero }
 
-  pub moves-part : (at : ℕ) (step : Step) {c : Carried} {next : Cursor} → at ≤ length text
-      → part_at at (read_step choices book current step (drop at text)) ≡ read.Got c next
-      → Moves choices book current (step ∷ []) text at next.at (gave_one c at next.at)
+  pub moves-part : (at : ℕ) (step : Step) {read : Read Carried} → at ≤ length text
+      → part_at at (read_step choices book current step (drop at text)) ≡ Ok read
+      → Moves choices book current (step ∷ []) text at read.next.at (gave_one read.value at read.next.at)
   moves-part at step h e =
       record {
         inside = part_stays at text (read_step choices book current step (drop at text)) h (within_step choices book current step (drop at text)) e;
@@ -44,7 +44,7 @@ module _ (choices : Choices) (book : Book) (current : ℕ) (text : List ℕ) whe
 
   pub moves-one : (at : ℕ) (step : Step) {n : ℕ} {c : Carried} → at ≤ length text → read_step choices book current step (drop at text) ≡ got n c
       → Moves choices book current (step ∷ []) text at (at + n) (gave_one c at (at + n))
-  moves-one at step {n} {c} h e = moves-part at step {next = record { at = at + n }} h (rw e)
+  moves-one at step {n} {c} h e = moves-part at step {read = record { value = c; next = record { at = at + n } }} h (rw e)
 
   pub moves-to : (at next : ℕ) (step : Step) {n : ℕ} {c : Carried} → at ≤ length text → next ≡ at + n → read_step choices book current step (drop at text) ≡ got n c
       → Moves choices book current (step ∷ []) text at next (gave_one c at next)
@@ -137,10 +137,10 @@ module _ (u : ParseUnit) (z : ℤ) (from to : ℕ) {old : List ℤ} {mask : ℕ}
   k = unit_number u
 
   abbrev r : Reading
-  r = reading_of Fine 0 gave
+  r = reading_of 0 gave
 
   abbrev s : Reading
-  s = reading_of Fine 0 (gave_one (Value u z) from to ++ gave)
+  s = reading_of 0 (gave_one (Value u z) from to ++ gave)
 
   held : Holds gave r.values r.starts r.ends mask
   unfolding mask_of

@@ -1,4 +1,5 @@
 -- The row of a reading: zeros before the first part, the counts behind the last; and a row laid over a row.
+use Rattle.std.specs.Prelude.{Ok, Err}
 use mathlib.Core.Bool.{Bool}
 use mathlib.Core.List.{List, [], ◌++◌}
 use mathlib.Core.Path.{◌≡◌, refl, ap, sym, ◌∙◌}
@@ -11,8 +12,7 @@ use Rattle.meaning.specs.Answers.{refused, read_answer, details}
 use Rattle.meaning.specs.Names.{Book}
 use Rattle.meaning.specs.Whole.{Gave, Walk, walked, refused_at, last_of, bits, reading_of, read_by}
 use Rattle.meaning.specs.Writing.{Step}
-use Rattle.meaning.specs.declared.Checked.{Checked}
-use Rattle.meaning.specs.declared.Checked.TheVariants.{Fine, Refused}
+use Rattle.meaning.specs.Results.{Checked}
 use Rattle.meaning.specs.declared.Choices.{Choices}
 use Rattle.meaning.specs.declared.Refusal.{Refusal}
 use Rattle.reader.proofs.record.Units.{units-counted}
@@ -52,12 +52,12 @@ unfolding mask_of last_of bits
 no-mask = refl
 
 -- behind the last
-pub counted-row : (at : ℕ) (gave : List Gave) (rest : List ℤ) → counted at (mask_of gave) (row_of gave ++ rest) ≡ (read_answer (reading_of Fine at gave)).values ++ rest
+pub counted-row : (at : ℕ) (gave : List Gave) (rest : List ℤ) → counted at (mask_of gave) (row_of gave ++ rest) ≡ (read_answer (Ok (reading_of at gave))).values ++ rest
 unfolding row_of mask_of
 counted-row at gave rest = rw (units-counted gave)
 
-pub beyond-counted : (at : ℕ) (gave : List Gave) {row rest : List ℤ} → row ≡ (read_answer (reading_of Fine at gave)).values ++ rest → drop 48 row ≡ rest
-beyond-counted at gave {row} {rest} e = rw e (drop_at (read_answer (reading_of Fine at gave)).values rest 48 refl)
+pub beyond-counted : (at : ℕ) (gave : List Gave) {row rest : List ℤ} → row ≡ (read_answer (Ok (reading_of at gave))).values ++ rest → drop 48 row ≡ rest
+beyond-counted at gave {row} {rest} e = rw e (drop_at (read_answer (Ok (reading_of at gave))).values rest 48 refl)
 
 -- numbers laid over the start of a row
 laid-all : (v old : List ℤ) → length v ≡ 48 → 48 ≤ length old → laid v old ≡ v ++ drop 48 old
@@ -72,10 +72,9 @@ refused-long why =
     omega (arith, few-details why, length-append ds (replicate (48 - length ds) (pos 0)), length-replicate (48 - length ds) (pos 0))
 
 reading-long : (checked : Checked) (w : Walk) → length (in_row 48 (read_answer (read_by checked w))).values ≡ 48
-reading-long Fine (walked taken gave) = refl
-reading-long Fine (refused_at Fine) = refl
-reading-long Fine (refused_at (Refused why)) = refused-long why
-reading-long (Refused why) w = refused-long why
+reading-long (Ok _) (walked taken gave) = refl
+reading-long (Ok _) (refused_at why) = refused-long why
+reading-long (Err why) w = refused-long why
 
 pub given-over : (checked : Checked) (w : Walk) {old mid new : List ℤ} {r : ℕ} → 48 ≤ length old → length mid ≡ length old → drop 48 mid ≡ drop 48 old
     → Given (in_row 48 (read_answer (read_by checked w))) mid new r → Given (in_row 48 (read_answer (read_by checked w))) old new r
@@ -84,6 +83,10 @@ given-over checked w {old} {mid} h same beyond given =
     let long = reading-long checked w in
     record { number = given.number; row = given.row ∙ laid-all v mid long (omega (arith, same)) ∙ rw (beyond) (sym (laid-all v old long h)) }
 
-pub given-quick : (at : ℕ) (gave : List Gave) {old new : List ℤ} → 48 ≤ length old → new ≡ (read_answer (reading_of Fine at gave)).values ++ drop 48 old
-    → Given (in_row 48 (read_answer (reading_of Fine at gave))) old new 0
-given-quick at gave {old} h e = record { number = refl; row = e ∙ sym (laid-all (in_row 48 (read_answer (reading_of Fine at gave))).values old refl h) }
+pub refusal-over : (why : Refusal) {old mid new : List ℤ} {r : ℕ} → 48 ≤ length old → length mid ≡ length old → drop 48 mid ≡ drop 48 old
+    → Given (in_row 48 (refused why)) mid new r → Given (in_row 48 (refused why)) old new r
+refusal-over why = given-over (Err why) (refused_at why)
+
+pub given-quick : (at : ℕ) (gave : List Gave) {old new : List ℤ} → 48 ≤ length old → new ≡ (read_answer (Ok (reading_of at gave))).values ++ drop 48 old
+    → Given (in_row 48 (read_answer (Ok (reading_of at gave)))) old new 0
+given-quick at gave {old} h e = record { number = refl; row = e ∙ sym (laid-all (in_row 48 (read_answer (Ok (reading_of at gave)))).values old refl h) }

@@ -3,6 +3,8 @@ use mathlib.Core.Bool.{Bool, true, false}
 use mathlib.Core.List.{List, [], ◌++◌}
 use mathlib.Core.Logic.{⊎_elim}
 use mathlib.Core.Path.{◌≡◌, refl, sym, ap, ◌∙◌}
+use Rattle.std.specs.Prelude.{None, Some}
+use Rattle.std.proofs.lemmas.Option.{none-some}
 use Prim.Native.Nat.{ℕ, ◌+◌, ◌-◌, ◌≤◌, ◌<◌}
 use native.Mathlib.Nat.{add-zero}
 use native.Mathlib.Omega.{arith}
@@ -32,10 +34,10 @@ use Rattle.word_reader.specs.Quick.{gave_one, Kept, Named, Behind}
 use Rattle.word_reader.specs.declared.keeping.Moved.{Moved}
 
 module _ (w : ℕ) (text : List ℕ) (at : ℕ) (r : Spelled) where
-  -- what is told of a name where one is found
-  pub begun-told : {weekday : Bool} {most : ℕ} → weekday ≡ is_weekday w → most ≡ most_letters w → (0 < r.length → Begun weekday most (drop at text) r) → (r.length ≡ 0 → ⊥)
+  -- what is told of a name that is found
+  pub begun-told : {weekday : Bool} {most : ℕ} → weekday ≡ is_weekday w → most ≡ most_letters w → Begun weekday most (drop at text) r
       → Begun (is_weekday w) (most_letters w) (drop at text) r
-  begun-told e d told there = rw (e, d) at (told (omega (arith, there)))
+  begun-told e d told = rw (e, d) at told
 
   -- it ends inside the text
   pub name-inside : at ≤ length text → Begun (is_weekday w) (most_letters w) (drop at text) r → at + r.length ≤ length text
@@ -87,19 +89,19 @@ module _ (text : List ℕ) (r : Spelled) where
         (spelled-kinds w spelled)
 
 -- given up, with the row as it was
-pub named-lost : {choices : Choices} {book : Book} {w : ℕ} {text : List ℕ} {at mask : ℕ} {row : List ℤ} {r : Moved} → 2048 < r.next → Named choices book w text at mask row row r
-named-lost h =
-    record { lost = λ _. refl; quick = λ current row. record { beyond = refl; reads = λ k. absurd (omega arith) } }
+pub named-lost : {choices : Choices} {book : Book} {w : ℕ} {text : List ℕ} {at mask : ℕ} {row : List ℤ} → Named choices book w text at mask row row None
+named-lost =
+    record { lost = λ _. refl; quick = λ current row. record { beyond = refl; reads = tt } }
 
 -- a name, and the byte behind it
 pub named-read : (choices : Choices) (w : ℕ) (text : List ℕ) (at mask : ℕ) {old new : List ℤ} (r : Moved) (s : Spelled) {c : Carried}
     → code w ≡ 22 → (spelled : is_spelled w ≡ true) → at ≤ length text → (begun : Begun (is_weekday w) (most_letters w) (drop at text) s)
     → name_carries (list_in (item w)) (s.name - first_spelled w) ≡ c → Behind choices w text (at + s.length) r.next
-    → Kept (gave_one c at (at + s.length)) old new mask r.mask → drop 48 new ≡ drop 48 old → r.next ≤ 2048 → Named choices english w text at mask old new r
-named-read choices w text at mask r s e spelled h begun carries back kept beyond small =
+    → Kept (gave_one c at (at + s.length)) old new mask r.mask → drop 48 new ≡ drop 48 old → Named choices english w text at mask old new (Some r)
+named-read choices w text at mask r s e spelled h begun carries back kept beyond =
     record {
-      lost = λ k. absurd (omega arith);
+      lost = λ k. absurd (none-some r (sym k));
       quick = λ current row.
           let moves = moves-to choices english current text at (at + s.length) (field (rule_in w)) h refl (rw carries at (name-read (drop at text) s w spelled begun choices current)) in
-          quick-symbol choices english current w row text (rule-steps w row e) moves (λ _. back) kept beyond;
+          quick-symbol choices english current w row text (rule-steps w row e) moves back kept beyond;
     }

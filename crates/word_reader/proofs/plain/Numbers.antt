@@ -1,19 +1,18 @@
 -- Digits that stand at a place are the number that its rule reads there.
+use Rattle.std.specs.Prelude.{Some, None}
 use mathlib.Core.Bool.{true, false}
 use mathlib.Core.List.{List, [], ◌∷◌, ◌++◌}
 use mathlib.Core.Path.{◌≡◌, refl}
 use Prim.Native.Nat.{ℕ, suc, ◌+◌, ◌-◌, ◌*◌, ◌≤◌, ◌<◌}
 use native.Mathlib.Omega.{arith}
-use lib.Dec.{eqb}
 use lib.IntN.{pos}
 use lib.ListN.{length, get_or, drop, length-drop, drop_of_length-le}
 use lib.Seq.{drop-cons}
-use borrow.Author.Tests.{ne_eqb, lt-ltb, le-leb}
+use borrow.Author.Tests.{ne_eqb, le-leb}
 use Rattle.laws.proofs.Digits.{digit-bounds}
 use Rattle.laws.proofs.Numbers.{digits-come-back}
 use Rattle.laws.proofs.Years.{no_minus, run-of-digits, year-carried}
-use Rattle.laws.proofs.Tests.{by-test}
-use Rattle.meaning.specs.Bytes.{when, is_digit, digit_at}
+use Rattle.meaning.specs.Bytes.{is_digit, digit_at}
 use Rattle.meaning.specs.Names.{Book, english}
 use Rattle.meaning.specs.Numerals.{all_digits, decimal}
 use Rattle.meaning.specs.Readers.{got}
@@ -27,7 +26,7 @@ use Rattle.meaning.specs.declared.Numeral.TheVariants.{Year}
 use Rattle.meaning.specs.declared.ParseUnit.TheVariants as unit
 use Rattle.parse.proofs.rule.Within.{within_step}
 use Rattle.parse.proofs.short.Taken.{digits-read}
-use Rattle.parse.specs.ShortReads.{found, second_digits, short_digits}
+use Rattle.parse.specs.ShortReads.{found, short_digits}
 use Rattle.parse.specs.declared.short.Digits.{Digits}
 use Rattle.rules.specs.ShortRules.{short_quantity, short_unit, short_most, short_rule}
 use Rattle.rules.specs.Steps.{long_year}
@@ -48,13 +47,11 @@ two-small text at n two =
     omega (arith, two.2, (digit-bounds (get_or text at 0) two.0).1, (digit-bounds (get_or text (at + 1) 0) two.1).1)
 
 two-found : (text : List ℕ) (at n : ℕ) → at + 2 ≤ length text → Two text at n → short_digits 2 2 (drop at text) ≡ found n 2
-unfolding short_digits second_digits
+unfolding short_digits
 two-found text at n h two =
     let a = get_or text at 0 in
     let b = get_or text (at + 1) 0 in
-    let first = ne_eqb (a - 48) 100 (λ e. omega (arith, e, (digit-bounds a two.0).1)) in
-    let second = lt-ltb (b - 48) 10 (omega (arith, (digit-bounds b two.1).1)) in
-    rw (two-there text at h, two.0, first, two.1, second, two.2)
+    rw (two-there text at h, two.0, two.1, two.2)
 
 two-most : (edition : Edition) (s : Short) → most_read edition (short_quantity s) (short_most s 2) ≡ 2
 unfolding most_read
@@ -63,23 +60,18 @@ two-most First short.Day = refl
 two-most First short.Hour = refl
 two-most First short.Minute = refl
 two-most First short.Second = refl
-two-most First short.Other = refl
 two-most Second short.Month = refl
 two-most Second short.Day = refl
 two-most Second short.Hour = refl
 two-most Second short.Minute = refl
 two-most Second short.Second = refl
-two-most Second short.Other = refl
 
 module _ (choices : Choices) (book : Book) (current : ℕ) (s : Short) (text : List ℕ) (at : ℕ) where
   pub two-got : (n : ℕ) → at + 2 ≤ length text → Two text at n
       → read_step choices book current (field (short_rule s 2)) (drop at text) ≡ got 2 (Value (short_unit s) (pos n))
   unfolding read_step read_rule
   two-got n h two =
-      let digits = two-found text at n h two in
-      let small : (short_digits 2 2 (drop at text)).size < 100 = rw digits (two-small text at n two) in
-      rw (two-most choices.edition s)
-      (rw digits at (digits-read (short_unit s) 2 2 (omega arith) (omega arith) (omega arith) (drop at text) small))
+      rw (two-most choices.edition s) (digits-read (short_unit s) 2 2 (omega arith) (omega arith) (omega arith) (drop at text) (two-found text at n h two))
 
   -- one digit, or two if so many may be read
 
@@ -90,27 +82,24 @@ module _ (choices : Choices) (book : Book) (current : ℕ) (s : Short) (text : L
   few-most First short.Hour = (omega arith, omega arith)
   few-most First short.Minute = (omega arith, omega arith)
   few-most First short.Second = (omega arith, omega arith)
-  few-most First short.Other = (omega arith, omega arith)
   few-most Second short.Month = (omega arith, omega arith)
   few-most Second short.Day = (omega arith, omega arith)
   few-most Second short.Hour = (omega arith, omega arith)
   few-most Second short.Minute = (omega arith, omega arith)
   few-most Second short.Second = (omega arith, omega arith)
-  few-most Second short.Other = (omega arith, omega arith)
 
-  pub few-got : {d : Digits} → d ≡ short_digits 1 (most_read choices.edition (short_quantity s) (short_most s 1)) (drop at text) → d.size < 100
+  pub few-got : {d : Digits} → short_digits 1 (most_read choices.edition (short_quantity s) (short_most s 1)) (drop at text) ≡ Some d
       → read_step choices book current (field (short_rule s 1)) (drop at text) ≡ got d.taken (Value (short_unit s) (pos d.size))
   unfolding read_step read_rule
-  few-got told small =
+  few-got told =
       let most = few-most choices.edition s in
-      rw told
-      (digits-read (short_unit s) 1 (most_read choices.edition (short_quantity s) (short_most s 1)) (omega arith) most.0 most.1 (drop at text) (rw told at small))
+      digits-read (short_unit s) 1 (most_read choices.edition (short_quantity s) (short_most s 1)) (omega arith) most.0 most.1 (drop at text) told
 
 pub few-inside : (choices : Choices) (s : Short) (text : List ℕ) (at : ℕ) {d : Digits}
-    → d ≡ short_digits 1 (most_read choices.edition (short_quantity s) (short_most s 1)) (drop at text) → d.size < 100 → at ≤ length text
+    → short_digits 1 (most_read choices.edition (short_quantity s) (short_most s 1)) (drop at text) ≡ Some d → at ≤ length text
     → at + d.taken ≤ length text
-few-inside choices s text at told small h =
-    let within = rw (few-got choices english 0 s text at told small) at (within_step choices english 0 (field (short_rule s 1)) (drop at text)) in
+few-inside choices s text at told h =
+    let within = rw (few-got choices english 0 s text at told) at (within_step choices english 0 (field (short_rule s 1)) (drop at text)) in
     omega (arith, within, length-drop at text)
 
 -- a year of four digits
@@ -149,47 +138,37 @@ module _ (choices : Choices) (book : Book) (current k : ℕ) (few : k ≤ 4) (te
       = rw (no_minus digits rest all_digits_lem (omega arith)) (omega (arith, run-of-digits digits rest all_digits_lem four.5)) in
       rw (le-leb k 4 few, four-there text at there, ← value) (year-carried (λ z. z) _ digits rest _ long number)
 
--- one digit, as the code has it
-
-pub digit-there : (b : ℕ) {r : ℕ} → r ≡ when (is_digit b) (b - 48) 100 → r < 10 → (is_digit b ≡ true) × (r ≡ b - 48)
-digit-there b told small =
-    by-test (is_digit b) (λ e. (e, rw e at told)) (λ e. absurd (omega (arith, rw e at told)))
-
 -- none, one by itself, or what follows it too
 
 module _ (most : ℕ) (text : List ℕ) (at : ℕ) (there : at < length text) where
-  pub few-none : is_digit (get_or text at 0) ≡ false → found 100 0 ≡ short_digits 1 most (drop at text)
+  pub few-none : is_digit (get_or text at 0) ≡ false → None ≡ short_digits 1 most (drop at text)
   unfolding short_digits
   few-none e = rw (drop-cons text at 0 there, e)
 
   module _ (first : is_digit (get_or text at 0) ≡ true) where
-    some : eqb (get_or text at 0 - 48) 100 ≡ false
-    some = ne_eqb (get_or text at 0 - 48) 100 (λ e. omega (arith, e, (digit-bounds (get_or text at 0) first).1))
-
     pub few-one : most ≡ 1 → found (get_or text at 0 - 48) 1 ≡ short_digits 1 most (drop at text)
     unfolding short_digits
-    few-one e = rw (drop-cons text at 0 there, first, some, e)
+    few-one e = rw (drop-cons text at 0 there, first, e)
 
     module _ (more : most ≡ 1 → ⊥) where
       pub few-last : length text ≤ at + 1 → found (get_or text at 0 - 48) 1 ≡ short_digits 1 most (drop at text)
-      unfolding short_digits second_digits
+      unfolding short_digits
       few-last h =
           let next : suc at ≡ at + 1 = omega arith in
-          rw (drop-cons text at 0 there, first, some, ne_eqb most 1 more, next, drop_of_length-le text {i = at + 1} h)
+          rw (drop-cons text at 0 there, first, ne_eqb most 1 more, next, drop_of_length-le text {i = at + 1} h)
 
       pub few-alone : at + 1 < length text → is_digit (get_or text (at + 1) 0) ≡ false → found (get_or text at 0 - 48) 1 ≡ short_digits 1 most (drop at text)
-      unfolding short_digits second_digits
+      unfolding short_digits
       few-alone h e =
           let next : suc at ≡ at + 1 = omega arith in
-          rw (drop-cons text at 0 there, first, some, ne_eqb most 1 more, next, drop-cons text (at + 1) 0 h, e)
+          rw (drop-cons text at 0 there, first, ne_eqb most 1 more, next, drop-cons text (at + 1) 0 h, e)
 
       pub few-both : at + 1 < length text → is_digit (get_or text (at + 1) 0) ≡ true
           → found ((get_or text at 0 - 48) * 10 + (get_or text (at + 1) 0 - 48)) 2 ≡ short_digits 1 most (drop at text)
-      unfolding short_digits second_digits
+      unfolding short_digits
       few-both h e =
           let next : suc at ≡ at + 1 = omega arith in
-          let small = lt-ltb (get_or text (at + 1) 0 - 48) 10 (omega (arith, (digit-bounds (get_or text (at + 1) 0) e).1)) in
-          rw (drop-cons text at 0 there, first, some, ne_eqb most 1 more, next, drop-cons text (at + 1) 0 h, e, small)
+          rw (drop-cons text at 0 there, first, ne_eqb most 1 more, next, drop-cons text (at + 1) 0 h, e)
 
 pub free-there : (text : List ℕ) (at : ℕ) → at < length text → is_digit (get_or text at 0) ≡ false → digit_at 0 (drop at text) ≡ false
 unfolding digit_at

@@ -1,8 +1,10 @@
 -- Words that are read at once: their steps, and what is kept of them.
 use mathlib.Core.Bool.{false}
 use mathlib.Core.List.{List, [], ◌∷◌, ◌++◌, map}
-use mathlib.Core.Path.{◌≡◌, refl}
-use Prim.Native.Nat.{ℕ, ◌+◌, ◌≤◌, ◌<◌}
+use mathlib.Core.Path.{◌≡◌, refl, sym}
+use Rattle.std.specs.Prelude.{None, Some}
+use Rattle.std.proofs.lemmas.Option.{none-some}
+use Prim.Native.Nat.{ℕ, ◌+◌, ◌≤◌}
 use native.Mathlib.Omega.{arith}
 use lib.IntN.{ℤ}
 use lib.ListN.{length, drop}
@@ -58,20 +60,20 @@ module _ (w : ℕ) (row : List ℕ) where
   date-steps e = rw (of_code w e)
 
 -- given up, with the row as it was
-pub hot-lost : {choices : Choices} {w : ℕ} {text : List ℕ} {at mask : ℕ} {row : List ℤ} {r : Moved} → 2048 < r.next → Hot choices w text at mask row row r
-hot-lost h =
-    record { lost = λ _. refl; quick = λ book current row. record { beyond = refl; reads = λ k. absurd (omega arith) } }
+pub hot-lost : {choices : Choices} {w : ℕ} {text : List ℕ} {at mask : ℕ} {row : List ℤ} → Hot choices w text at mask row row None
+hot-lost =
+    record { lost = λ _. refl; quick = λ book current row. record { beyond = refl; reads = tt } }
 
 -- a byte by itself
-pub hot-alone : (choices : Choices) (w : ℕ) (text : List ℕ) (at mask : ℕ) (old : List ℤ) (r : Moved) → code w ≡ 1 → r.mask ≡ mask
-    → (r.next ≤ 2048 → (r.next ≡ at + 1) × Passed choices.strict (last_byte w) text at) → Hot choices w text at mask old old r
-hot-alone choices w text at mask old r e same p =
+pub hot-alone : (choices : Choices) (w : ℕ) (text : List ℕ) (at mask : ℕ) (old : List ℤ) (next : ℕ) → code w ≡ 1
+    → next ≡ at + 1 → Passed choices.strict (last_byte w) text at → Hot choices w text at mask old old (Some (record { next = next; mask = mask }))
+hot-alone choices w text at mask old next e is p =
     record {
       lost = λ _. refl;
       quick = λ book current row.
           record {
             beyond = refl;
-            reads = λ k. (gave_one Nothing at r.next, rw (byte-steps w row e) (moves-byte choices book current text at r.next (last_byte w) (p k).0 (p k).1), rw same kept-nothing);
+            reads = (gave_one Nothing at next, rw (byte-steps w row e) (moves-byte choices book current text at next (last_byte w) is p), kept-nothing);
           };
     }
 
@@ -79,15 +81,15 @@ hot-alone choices w text at mask old r e same p =
 pub hot-number : (choices : Choices) (w : ℕ) (text : List ℕ) (at end mask : ℕ) {old new : List ℤ} (r : Moved) (rule : Rule) {n : ℕ} {c : Carried}
     → ((row : List ℕ) → steps_in row w ≡ field rule ∷ map (piece_step row) (behind w)) → at ≤ length text → end ≡ at + n
     → ((book : Book) (current : ℕ) → read_step choices book current (field rule) (drop at text) ≡ got n c) → Behind choices w text end r.next
-    → Kept (gave_one c at end) old new mask r.mask → drop 48 new ≡ drop 48 old → r.next ≤ 2048 → Hot choices w text at mask old new r
-hot-number choices w text at end mask {old} {new} r rule {n} {c} steps h e reads back kept beyond small =
+    → Kept (gave_one c at end) old new mask r.mask → drop 48 new ≡ drop 48 old → Hot choices w text at mask old new (Some r)
+hot-number choices w text at end mask {old} {new} r rule {n} {c} steps h e reads back kept beyond =
     record {
-      lost = λ k. absurd (omega arith);
+      lost = λ k. absurd (none-some r (sym k));
       quick = λ book current row.
           let last = back book current row in
           record {
             beyond = beyond;
-            reads = λ k. (last.0 ++ gave_one c at end, rw (steps row) (moves-then choices book current text (moves-to choices book current text at end (field rule) h e (reads book current)) last.1), kept_then kept (last.2 new r.mask));
+            reads = (last.0 ++ gave_one c at end, rw (steps row) (moves-then choices book current text (moves-to choices book current text at end (field rule) h e (reads book current)) last.1), kept_then kept (last.2 new r.mask));
           };
     }
 
@@ -98,10 +100,10 @@ module _ (choices : Choices) (w : ℕ) (text : List ℕ) (a b c : Rule) (steps :
 
   pub hot-three : (at end mask : ℕ) {old new : List ℤ} (r : Moved) {n : ℕ} {c₁ c₂ c₃ : Carried} → end ≡ at + n → end + 6 ≤ length text
       → Reads a at n c₁ → Reads b (end + 1) 2 c₂ → Reads c (end + 4) 2 c₃ → Between choices.strict w text end (end + 3) → Behind choices w text (end + 6) r.next
-      → Kept (gave_three c₁ c₂ c₃ at end) old new mask r.mask → drop 48 new ≡ drop 48 old → r.next ≤ 2048 → Hot choices w text at mask old new r
-  hot-three at end mask {new = new} r {c₁ = c₁} {c₂ = c₂} {c₃ = c₃} e inside first second third between back kept beyond small =
+      → Kept (gave_three c₁ c₂ c₃ at end) old new mask r.mask → drop 48 new ≡ drop 48 old → Hot choices w text at mask old new (Some r)
+  hot-three at end mask {new = new} r {c₁ = c₁} {c₂ = c₂} {c₃ = c₃} e inside first second third between back kept beyond =
       record {
-        lost = λ k. absurd (omega arith);
+        lost = λ k. absurd (none-some r (sym k));
         quick = λ book current row.
             let last = back book current row in
             let m₁ = moves-to choices book current text at end (field a) (omega arith) e (first book current) in
@@ -113,6 +115,6 @@ module _ (choices : Choices) (w : ℕ) (text : List ℕ) (a b c : Rule) (steps :
             let all = moves-then choices book current text (moves-then choices book current text two b₂) m₃ in
             record {
               beyond = beyond;
-              reads = λ k. (last.0 ++ gave_three c₁ c₂ c₃ at end, rw (steps row) (moves-then choices book current text all last.1), kept_then kept (last.2 new r.mask));
+              reads = (last.0 ++ gave_three c₁ c₂ c₃ at end, rw (steps row) (moves-then choices book current text all last.1), kept_then kept (last.2 new r.mask));
             };
       }

@@ -14,7 +14,10 @@ use Rattle.meaning.specs.Writing.{field}
 use Rattle.meaning.specs.declared.Choices.{Choices}
 use Rattle.meaning.specs.declared.Rule.{Rule}
 use Rattle.parse.specs.Steps.{part_at}
-use Rattle.parse.specs.declared.cursor.PartRead.{PartRead}
+use Rattle.meaning.specs.declared.Carried.{Carried}
+use Rattle.parse.specs.declared.cursor.Read.{Read}
+use Rattle.parse.specs.declared.cursor.Stop.{Stop}
+use Rattle.std.specs.Prelude.{Result, Some}
 use Rattle.words.proofs.pieces.Codes.{of_code}
 use Rattle.words.specs.Coding.{rule_in}
 use Rattle.words.specs.Fields.{code}
@@ -40,7 +43,7 @@ module _ (row : List ℕ) (w k : ℕ) where
 
 -- a symbol, and the byte behind it
 
-pub rule-part : (choices : Choices) (book : Book) (current : ℕ) (text : List ℕ) (at : ℕ) (rule : Rule) {g : PartRead}
+pub rule-part : (choices : Choices) (book : Book) (current : ℕ) (text : List ℕ) (at : ℕ) (rule : Rule) {g : Result (Read Carried) Stop}
     → part_at at (read_rule choices.edition book current rule (drop at text)) ≡ g → part_at at (read_step choices book current (field rule) (drop at text)) ≡ g
 unfolding read_step
 rule-part choices book current text at rule e = e
@@ -51,13 +54,13 @@ rule-steps w row e = rw (of_code w e)
 
 pub quick-symbol : (choices : Choices) (book : Book) (current w : ℕ) (row text : List ℕ) {rule : Rule} {at end next mask more : ℕ} {gs : List Gave} {old new : List ℤ}
     → steps_in row w ≡ field rule ∷ map (piece_step row) (behind w) → Moves choices book current (field rule ∷ []) text at end gs
-    → (next ≤ 2048 → Behind choices w text end next) → Kept gs old new mask more → drop 48 new ≡ drop 48 old
-    → Quick choices book current (steps_in row w) text at mask old new (record { next = next; mask = more })
+    → Behind choices w text end next → Kept gs old new mask more → drop 48 new ≡ drop 48 old
+    → Quick choices book current (steps_in row w) text at mask old new (Some (record { next = next; mask = more }))
 quick-symbol choices book current w row text {more = more} {gs = gs} {new = new} steps moves back kept beyond =
     record {
       beyond = beyond;
-      reads = λ h.
-          let last = back h book current row in
+      reads =
+          let last = back book current row in
           (last.0 ++ gs, rw steps (moves-then choices book current text moves last.1), kept_then kept (last.2 new more));
     }
 

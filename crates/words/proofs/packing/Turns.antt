@@ -1,4 +1,5 @@
 -- What is left to be packed when a part of a pattern is: from the start of the pattern, part by part, to its end.
+use Rattle.std.specs.Prelude.{Ok}
 use mathlib.Core.List.{List, [], ◌∷◌, ◌++◌}
 use mathlib.Core.Path.{◌≡◌, refl, sym, ap, ◌∙◌}
 use Prim.Native.Nat.{ℕ, suc, ◌+◌, ◌-◌, ◌≤◌}
@@ -10,7 +11,6 @@ use Rattle.laws.proofs.Laid.{sets-append, set-sets}
 use Rattle.laws.specs.Laid.{Laid}
 use Rattle.meaning.specs.Answers.{pattern_check}
 use Rattle.meaning.specs.Splitting.{Content, elements, outside, contents}
-use Rattle.meaning.specs.declared.Checked.TheVariants.{Fine}
 use Rattle.meaning.specs.declared.Pair.{Pair}
 use Rattle.meaning.specs.declared.Part.{Part}
 use Rattle.pattern.specs.First.{content_of}
@@ -33,7 +33,7 @@ abbrev pub held_start : List ℕ → ℕ
 held_start p = 256 - length (held_by p)
 
 -- the words and the held bytes have room, and do not meet
-pub packed-fits : (pair : Pair) (p : List ℕ) → pattern_check p ≡ Fine → length (packed pair p) + length (held_by p) ≤ 256
+pub packed-fits : (pair : Pair) (p : List ℕ) → pattern_check p ≡ Ok tt → length (packed pair p) + length (held_by p) ≤ 256
 packed-fits pair p h = omega (arith, packed-short pair p h, (pattern-fine p h).short)
 
 -- what is laid, and the words and held bytes of what is left of the pattern, are all that the pattern is packed into
@@ -45,7 +45,7 @@ pub record Left (pair : Pair) (p row tail : List ℕ) (pending : Pending) (held 
       ≡ sets (sets row 0 (packed pair p)) (held_start p) (held_by p)
   pub long : length tail ≡ length row
 
-pub all_left : (pair : Pair) (p row : List ℕ) → pattern_check p ≡ Fine → Left pair p row row (record { used = 0; first = 0; second = 0 }) 256 0
+pub all_left : (pair : Pair) (p row : List ℕ) → pattern_check p ≡ Ok tt → Left pair p row row (record { used = 0; first = 0; second = 0 }) 256 0
 unfolding packed held_by
 all_left pair p row h =
     record {
@@ -60,7 +60,7 @@ all_left pair p row h =
 abbrev pub behind_part : List ℕ → ℕ → Part → List Content
 behind_part p place part = contents (drop (place + part.length) p)
 
-module _ {pair : Pair} {p row tail : List ℕ} {pending : Pending} {held place : ℕ} {part : Part} (fine : pattern_check p ≡ Fine)
+module _ {pair : Pair} {p row tail : List ℕ} {pending : Pending} {held place : ℕ} {part : Part} (fine : pattern_check p ≡ Ok tt)
     (left : Left pair p row tail pending held place) (next : Next p place part) where
   -- the part's words and those behind them, once it is known where its held bytes start
   pub words-next : (at : ℕ) → at ≡ held - length (held_in (content_of p part))
@@ -112,7 +112,7 @@ module _ {pair : Pair} {p row tail : List ℕ} {pending : Pending} {held place :
       }
 
 -- behind the last part the two words that are pending are final
-module _ {pair : Pair} {p row tail : List ℕ} {pending : Pending} {held place : ℕ} (fine : pattern_check p ≡ Fine)
+module _ {pair : Pair} {p row tail : List ℕ} {pending : Pending} {held place : ℕ} (fine : pattern_check p ≡ Ok tt)
     (left : Left pair p row tail pending held place) (done : length p ≤ place) where
   none_left : contents (drop place p) ≡ []
   unfolding contents elements outside

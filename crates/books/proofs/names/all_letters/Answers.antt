@@ -1,22 +1,12 @@
-use mathlib.Core.Path.{sym, ◌∙◌}
-use native.Mathlib.Omega.{arith}
-use Rattle.books.proofs.names.Laws.{letter-on, no-letter, letters-done}
+use mathlib.Core.Path.{◌∙◌}
+use Rattle.std.proofs.Common.{rules, tests}
+use Rattle.std.proofs.lemmas.Iterator.{YieldsList-from_slice}
+use Rattle.std.proofs.lemmas.Iterator.Search.{all_from_yields_List}
+use Rattle.std.specs.Char.{is_ascii_alphabetic}
+use Rattle.books.proofs.names.Laws.{letters-all}
 use Rattle.books.proofs.names.all_letters.Goals as goal
-
-pub returns-then-not-is_letter : goal.returns-then-not-is_letter
-returns-then-not-is_letter c =
-    let a = c.args in
-    let L = c.loop-i in
-    sym (no-letter a.name.now L.i (omega arith) (sym c.is_letter.ensures ∙ c.if-not-is_letter.true)) ∙ L.invariant
-
-pub loop-i-preserved : goal.loop-i-preserved
-loop-i-preserved c =
-    let a = c.args in
-    let L = c.loop-i in
-    sym (letter-on a.name.now L.i (omega arith) (sym c.is_letter.ensures ∙ c.if-not-is_letter.false)) ∙ L.invariant
 
 pub returns : goal.returns
 returns c =
-    let a = c.args in
-    let L = c.loop-i in
-    sym (letters-done a.name.now L.i c.loop-i-test.false) ∙ L.invariant
+    all_from_yields_List is_ascii_alphabetic _ _ c.all.result c.all.ensures.ran (YieldsList-from_slice c.args.name.now cc) (λ x b q k. search (rules, tests))
+    ∙ letters-all c.args.name.now

@@ -1,13 +1,9 @@
 -- The names of the places that are known, and those of the bytes that are left.
 use mathlib.Core.Path.{◌≡◌}
-use Prim.Native.Nat.{◌-◌}
 use lib.ListN.{length, drop}
 use Rattle.meaning.specs.Books.{names_in}
 use Rattle.books.proofs.places.Laws.{walked}
 use Rattle.books.proofs.places.find_names.Given as goal
 
 abbrev pub invariant-loop-i : goal.invariant-loop-i
-invariant-loop-i l = (length l.places ≡ length l.initial.places) × (walked l.bytes l.places l.i l.at ≡ names_in 64 (drop 5 l.bytes))
-
-abbrev pub decreases-loop-i : goal.decreases-loop-i
-decreases-loop-i l = 64 - l.i
+invariant-loop-i l = (length l.places ≡ 64) × (walked l.bytes l.places l.i l.at ≡ names_in 64 (drop 5 l.bytes))

@@ -1,44 +1,46 @@
 use mathlib.Core.Path.{refl, sym, ◌∙◌}
 use native.Mathlib.Omega.{arith}
-use Rattle.books.specs.Shelves.{meant}
-use Rattle.books.proofs.shelves.Laws.{total, counted, bad-list, good-list, lists-done}
+use Rattle.std.proofs.lemmas.Result.{err_from_is_err_and}
+use Rattle.books.proofs.shelves.Laws.{list_at, shelf-there, total, counted, bad-list, good-list, lists-done}
 use Rattle.books.proofs.shelves.check_names.Goals as goal
 
-pub loop-k-init : goal.loop-k-init
+pub loop-shelf-init : goal.loop-shelf-init
 unfolding total
-loop-k-init c = (refl, refl)
+loop-shelf-init c = (refl, refl)
 
-pub check_shelf-checked-requires : goal.check_shelf-checked-requires
-check_shelf-checked-requires c =
-    let L = c.loop-k in
-    let all = counted L.first L.k (meant c.shelf_at-shelf.result) c.shelf_at-shelf.ensures L.invariant.0 in
-    record { places_len = c.requires; count_bound = omega arith }
+pub check_shelf-requires : goal.check_shelf-requires
+check_shelf-requires c =
+    let L = c.loop-shelf in
+    let there = shelf-there L.shelf-index c.loop-shelf-test.true in
+    let all = counted L.first L.shelf-index (list_at L.shelf-index) there L.invariant.0 in
+    omega arith
 
-pub returns-in-Refused : goal.returns-in-Refused
-returns-in-Refused c =
-    let shelf = c.shelf_at-shelf in
+pub returns-in_err-check_shelf : goal.returns-in_err-check_shelf
+returns-in_err-check_shelf c =
     let a = c.args in
-    let L = c.loop-k in
-    let found = sym c.check_shelf-checked.ensures ∙ c.in-Refused.is in
-    sym (bad-list a.s.now a.places.now L.first L.k (meant shelf.result) shelf.ensures found) ∙ L.invariant.1
+    let L = c.loop-shelf in
+    let there = shelf-there L.shelf-index c.loop-shelf-test.true in
+    let found = sym c.check_shelf.ensures ∙ c.in_err-check_shelf.was in
+    let refused = err_from_is_err_and c.from_residual.result c.from_residual.ensures.1 in
+    rw (refused.1, refused.2) (sym (bad-list a.bytes.now a.places.now L.first L.shelf-index (list_at L.shelf-index) there found) ∙ L.invariant.1)
 
 pub overflow_add-first : goal.overflow_add-first
 overflow_add-first c =
-    let shelf = c.shelf_at-shelf in
-    let L = c.loop-k in
-    omega (arith, counted L.first L.k (meant shelf.result) shelf.ensures L.invariant.0)
+    let L = c.loop-shelf in
+    let there = shelf-there L.shelf-index c.loop-shelf-test.true in
+    omega (arith, counted L.first L.shelf-index (list_at L.shelf-index) there L.invariant.0)
 
-pub loop-k-preserved : goal.loop-k-preserved
-loop-k-preserved c =
-    let shelf = c.shelf_at-shelf in
+pub loop-shelf-preserved : goal.loop-shelf-preserved
+loop-shelf-preserved c =
     let a = c.args in
-    let L = c.loop-k in
-    let fine = sym c.check_shelf-checked.ensures ∙ c.in_default.is in (
-      counted L.first L.k (meant shelf.result) shelf.ensures L.invariant.0,
-      sym (good-list a.s.now a.places.now L.first L.k (meant shelf.result) shelf.ensures fine) ∙ L.invariant.1,
+    let L = c.loop-shelf in
+    let there = shelf-there L.shelf-index c.loop-shelf-test.true in
+    let fine = sym c.check_shelf.ensures ∙ c.in_ok-check_shelf.was in (
+      counted L.first L.shelf-index (list_at L.shelf-index) there L.invariant.0,
+      sym (good-list a.bytes.now a.places.now L.first L.shelf-index (list_at L.shelf-index) there fine) ∙ L.invariant.1,
     )
 
 pub returns : goal.returns
 returns c =
-    let L = c.loop-k in
-    sym (lists-done L.k _ _ c.loop-k-test.false) ∙ L.invariant.1
+    let L = c.loop-shelf in
+    sym (lists-done L.shelf-index _ _ c.loop-shelf-test.false) ∙ L.invariant.1

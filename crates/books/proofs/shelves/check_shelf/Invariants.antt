@@ -10,8 +10,5 @@ use Rattle.books.proofs.shelves.check_shelf.Given as goal
 
 abbrev pub invariant-loop-count : goal.invariant-loop-count
 invariant-loop-count l =
-    shelf_check (meant l.shelf) (l.shelf.count - l.count) (suc (l.first + l.count)) (earlier l.s l.places l.first l.count) (names_by l.s (drop (l.first + l.count) l.places))
-    ≡ shelf_check (meant l.shelf) l.shelf.count (suc l.first) [] (names_by l.s (drop l.first l.places))
-
-abbrev pub decreases-loop-count : goal.decreases-loop-count
-decreases-loop-count l = l.shelf.count - l.count
+    shelf_check (meant l.shelf) (l.shelf.count - l.count) (suc (l.first + l.count)) (earlier l.bytes l.places l.first l.count) (names_by l.bytes (drop (l.first + l.count) l.places))
+    ≡ shelf_check (meant l.shelf) l.shelf.count (suc l.first) [] (names_by l.bytes (drop l.first l.places))

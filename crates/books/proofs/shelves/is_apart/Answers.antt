@@ -1,36 +1,18 @@
-use Prim.Native.Nat.{◌-◌}
-use mathlib.Core.Path.{refl, sym, ◌∙◌}
+use mathlib.Core.Path.{◌∙◌}
+use lib.ListN.{take, drop}
 use native.Mathlib.Omega.{arith}
-use Rattle.books.proofs.shelves.Laws.{earlier-apart, earlier-begins, none-earlier}
+use Rattle.std.proofs.Common.{rules, tests}
+use Rattle.std.proofs.lemmas.Iterator.{YieldsList-from_slice}
+use Rattle.std.proofs.lemmas.Iterator.Search.{all_from_yields_List}
+use Rattle.books.specs.Places.{name_in}
+use Rattle.meaning.specs.Books.{apart}
+use Rattle.books.proofs.shelves.Laws.{all-apart}
 use Rattle.books.proofs.shelves.is_apart.Goals as goal
-
-pub loop-left-init : goal.loop-left-init
-loop-left-init c = (omega arith, refl)
-
-pub returns-then-not-are_apart : goal.returns-then-not-are_apart
-returns-then-not-are_apart c =
-    let a = c.args in
-    let L = c.loop-left in
-    let two = c.are_apart in
-    sym
-    (earlier-begins a.s.now a.places.now a.first a.name.now L.left (L.left - 1) (omega arith)
-    (rw (← c.name_at.ensures) (sym two.ensures ∙ c.if-not-are_apart.true)))
-    ∙ L.invariant.1
-
-pub loop-left-preserved : goal.loop-left-preserved
-loop-left-preserved c =
-    let a = c.args in
-    let L = c.loop-left in
-    let two = c.are_apart in (
-      omega arith,
-      sym
-          (earlier-apart a.s.now a.places.now a.first a.name.now L.left (L.left - 1) (omega arith)
-          (rw (← c.name_at.ensures) (sym two.ensures ∙ c.if-not-are_apart.false)))
-          ∙ L.invariant.1,
-    )
 
 pub returns : goal.returns
 returns c =
     let a = c.args in
-    let L = c.loop-left in
-    sym (none-earlier a.s.now a.places.now a.first a.name.now L.left c.loop-left-test.false) ∙ L.invariant.1
+    let s = a.bytes.now in
+    all_from_yields_List (λ at. apart (name_in s at) a.name.now) _ _ c.all.result c.all.ensures.ran
+    (YieldsList-from_slice (take a.count (drop a.first a.places.now)) (search rules)) (λ x b q k. search (rules, tests))
+    ∙ all-apart s a.places.now a.first a.count a.name.now (omega (arith, c.told-places))

@@ -13,9 +13,3 @@ returns-then-past-lt365 c =
     let day = c.args.day in
     let leap-is : c.is_leap-leap.result ≡ leap (suc ((4 * day + 3) / 1461)) = c.is_leap-leap.ensures ∙ ap leap (add-one ((4 * day + 3) / 1461)) in
     (guess-early day ((4 * day + 3) / 1461) (search rules) refl (omega (arith, c.if-past-lt365.true)), leap-is)
-
-pub year_by_table-requires : goal.year_by_table-requires
-year_by_table-requires c =
-    let day = c.args.day in
-    let leap-is : c.is_leap-leap.result ≡ leap (suc ((4 * day + 3) / 1461)) = c.is_leap-leap.ensures ∙ ap leap (add-one ((4 * day + 3) / 1461)) in
-    (search rules, refl, leap-is)

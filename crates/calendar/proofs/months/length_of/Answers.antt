@@ -6,7 +6,3 @@ use Rattle.calendar.proofs.months.length_of.Goals as goal
 pub overflow_sub-result : goal.overflow_sub-result
 overflow_sub-result c =
     omega (arith, month-ends c.args.leap c.args.month (omega arith) (omega arith))
-
-pub returns : goal.returns
-returns c =
-    omega (arith, month-ends c.args.leap c.args.month (omega arith) (omega arith))

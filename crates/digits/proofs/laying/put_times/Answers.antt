@@ -1,6 +1,4 @@
-use lib.ListN.{length-set}
 use mathlib.Core.Path.{◌∙◌}
-use native.Mathlib.Omega.{arith}
 use Rattle.laws.proofs.Laid.{lay-next-time}
 use Rattle.digits.proofs.laying.put_times.Goals as goal
 
@@ -8,4 +6,4 @@ pub loop-j-preserved : goal.loop-j-preserved
 loop-j-preserved c =
     let L = c.loop-j in
     let a = c.args in
-    (lay-next-time L.out a.at a.b a.times L.j c.loop-j-test.true ∙ L.invariant.0, omega arith, simp length-set L.invariant.2)
+    lay-next-time L.out a.at a.b a.times L.j c.loop-j-test.true ∙ L.invariant

@@ -41,7 +41,7 @@ pub put_short-requires : goal.put_short-requires
 unfolding step_text rule_text
 put_short-requires c =
     let small = short-small c.in-Short.number c.args.f (allowed c.args.f c.requires.f_value) in
-    rw c.short_number.ensures (small, (rw c.in-Short.is at c.requires.held).2, rw c.in-Short.is at c.requires.step_in_bounds)
+    rw c.short_number.ensures (small, (rw c.in-Short.is at c.requires.held).1, rw c.in-Short.is at c.requires.step_in_bounds)
 
 pub zero_padded_i-requires : goal.zero_padded_i-requires
 unfolding step_text

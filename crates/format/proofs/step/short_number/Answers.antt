@@ -32,7 +32,3 @@ returns-in-Minute c = rw (c.in-Minute.is, c.second_of_day-in-Minute.ensures)
 pub returns-in-Second : goal.returns-in-Second
 unfolding quantity_of
 returns-in-Second c = rw (c.in-Second.is, c.second_of_day-in-Second.ensures)
-
-pub returns-in-Other : goal.returns-in-Other
-unfolding quantity_of
-returns-in-Other c = rw c.in-Other.is

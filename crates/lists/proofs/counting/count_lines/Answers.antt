@@ -3,7 +3,6 @@ use mathlib.Core.Path.{ap, sym}
 use Prim.Native.Nat.{◌<◌}
 use native.Mathlib.Omega.{arith}
 use lib.ListN.{length}
-use borrow.Author.Rules.{rules}
 use borrow.Author.Tests.{eq-eqb, ne_eqb}
 use Rattle.laws.proofs.Lists.{line-none, lines-count}
 use Rattle.lists.proofs.counting.Newlines.{few-newlines}

@@ -1,6 +1,6 @@
 -- The line from its place to its end, read by itself, or none.
 use borrow.Author.Rules.{rules}
-use mathlib.Core.Path.{sym, ◌∙◌}
+use mathlib.Core.Path.{sym}
 use mir.Syntax.{w32}
 use mir.ValLaws.{to_z-of_z}
 use native.Mathlib.Omega.{arith}
@@ -12,7 +12,7 @@ use Rattle.lists.proofs.line.read_line.Goals as goal
 pub returns-then-size-at : goal.returns-then-size-at
 returns-then-size-at c =
     let a = c.args in
-    c.no_line.ensures ∙ sym (no-line-read a.choices (book_in a.book.now) a.pattern.now a.text.now a.year a.at (omega arith))
+    sym (no-line-read a.choices (book_in a.book.now) a.pattern.now a.text.now a.year a.at (omega arith))
 
 pub next_line-next-requires : goal.next_line-next-requires
 next_line-next-requires c =

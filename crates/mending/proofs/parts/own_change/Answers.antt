@@ -1,17 +1,12 @@
 -- Each kind of part.
 use Prim.Native.Nat.{◌+◌}
 use mathlib.Core.Bool.{true, false}
+use mathlib.Core.Logic.{⊎_elim}
 use mathlib.Core.Path.{sym, ◌∙◌}
 use Rattle.mending.proofs.parts.Laws.{own-run, own-quotes, own-quoted, own_open}
 use Rattle.pattern.proofs.parts.Walks.{rest_all}
 use Rattle.mending.proofs.parts.own_change.Goals as goal
-
-pub returns-then-ends_in_quote : goal.returns-then-ends_in_quote
-returns-then-ends_in_quote c =
-    let a = c.args in
-    let p = a.pattern.now in
-    let ends = rw (rest_all (a.part.start + 1) p) at c.ends_in_quote.ensures in
-    c.closing-then-ends_in_quote.ensures ∙ sym (own_open a.edition a.at c.requires.next c.in-Open.is true (sym ends ∙ c.if-ends_in_quote.true))
+use Rattle.mending.proofs.parts.own_change.Goals.{then-ends_in_quote, else-ends_in_quote}
 
 pub returns-in-Run : goal.returns-in-Run
 returns-in-Run c =
@@ -20,15 +15,15 @@ returns-in-Run c =
 
 pub returns-in-Quotes : goal.returns-in-Quotes
 returns-in-Quotes c =
-    c.closing.ensures ∙ sym (own-quotes c.args.edition c.args.at c.requires.next c.in-Quotes.is)
-
-pub returns-in-Quoted : goal.returns-in-Quoted
-returns-in-Quoted c =
-    c.closing-in-Quoted.ensures ∙ sym (own-quoted c.args.edition c.args.at c.requires.next c.in-Quoted.is)
-
-pub returns-else-ends_in_quote : goal.returns-else-ends_in_quote
-returns-else-ends_in_quote c =
     let a = c.args in
-    let p = a.pattern.now in
-    let ends = rw (rest_all (a.part.start + 1) p) at c.ends_in_quote.ensures in
-    c.closing-in-Open.ensures ∙ sym (own_open a.edition a.at c.requires.next c.in-Open.is false (sym ends ∙ c.if-ends_in_quote.false))
+    c.closing.ensures ∙ sym (⊎_elim (own-quotes a.edition a.at c.requires.next) (own-quoted a.edition a.at c.requires.next) c.in-Quotes.is)
+
+pub returns-after-ends_in_quote : goal.returns-after-ends_in_quote
+returns-after-ends_in_quote c =
+    let a = c.args in
+    let ends = rw (rest_all (a.part.start + 1) a.pattern.now) at c.ends_in_quote.ensures in
+    let opened = own_open a.edition a.at c.requires.next c.in-Open.is in
+    elim c.if-ends_in_quote.branch [
+      | then-ends_in_quote w ↦ rw w.after-is at c.closing-in-Open.ensures ∙ sym (opened true (sym ends ∙ w.if-ends_in_quote.true))
+      | else-ends_in_quote w ↦ rw w.after-is at c.closing-in-Open.ensures ∙ sym (opened false (sym ends ∙ w.if-ends_in_quote.false))
+    ]

@@ -12,18 +12,18 @@ overflow_add-from c =
     let less = passed-less (get_or a.pattern.now a.part.start 0) a.part.length s.requires.some in
     omega (arith, c.passed_over.ensures, less, s.requires.fits)
 
-pub returns-in-Nowhere : goal.returns-in-Nowhere
-returns-in-Nowhere c =
+pub returns-in-None : goal.returns-in-None
+returns-in-None c =
     let s = c in
     let passed = c.passed_over in
     let unmet = c.first_unmet in
     let gap = gap-found s.args.edition s.requires passed.result passed.ensures unmet.result unmet.ensures in
-    sym (gap ∙ ap spaces_of c.in-Nowhere.is)
+    sym (gap ∙ ap spaces_of c.in-None.is)
 
-pub returns-in-At : goal.returns-in-At
-returns-in-At c =
+pub returns-in-Some : goal.returns-in-Some
+returns-in-Some c =
     let s = c in
     let passed = c.passed_over in
     let unmet = c.first_unmet in
     let gap = gap-found s.args.edition s.requires passed.result passed.ensures unmet.result unmet.ensures in
-    c.spaces_for.ensures ∙ sym (gap ∙ ap spaces_of c.in-At.is)
+    c.spaces_for.ensures ∙ sym (gap ∙ ap spaces_of c.in-Some.is)

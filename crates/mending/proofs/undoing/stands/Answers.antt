@@ -1,40 +1,25 @@
-use lib.ListN.{drop, replicate, length-drop, length-replicate}
-use mathlib.Core.Path.{sym, ◌∙◌}
-use native.Mathlib.Nat.{add-zero, sub-zero}
+use borrow.Author.Tests.{lt-leb}
+use lib.Dec.{eqb}
+use lib.ListN.{take, drop, replicate, length-drop, length-replicate}
+use mathlib.Core.Path.{◌≡◌, sym, ◌∙◌}
+use Prim.Native.Nat.{◌+◌, ◌-◌}
 use native.Mathlib.Omega.{arith}
-use Rattle.mending.proofs.undoing.Laws.{begins-short, stands_on, stands-not, stands-done}
+use Rattle.std.proofs.Common.{rules, tests}
+use Rattle.std.proofs.lemmas.Iterator.{YieldsList-from_slice}
+use Rattle.std.proofs.lemmas.Iterator.Search.{all_from_yields_List}
+use Rattle.mending.proofs.undoing.Laws.{all_stand, begins-short}
 use Rattle.mending.proofs.undoing.stands.Goals as goal
 
-pub overflow_sub-pattern : goal.overflow_sub-pattern
-overflow_sub-pattern c = c.requires
-
-pub returns-then-pattern-place : goal.returns-then-pattern-place
-returns-then-pattern-place c =
-    let s = c in
-    let a = s.args in
-    let p = a.pattern.now in
-    sym (begins-short (replicate a.times a.b) (drop a.place p) (omega (arith, length-drop a.place p, length-replicate a.times a.b, c.if-pattern-place.true, s.requires)))
-
-pub loop-j-init : goal.loop-j-init
-loop-j-init c = (rw (add-zero, sub-zero), omega arith, omega (arith, c.if-pattern-place.false, c.requires))
-
-pub bounds-pattern-place : goal.bounds-pattern-place
-bounds-pattern-place c = omega (arith, c.loop-j.invariant.2)
-
-pub returns-then-pattern-place-2 : goal.returns-then-pattern-place-2
-returns-then-pattern-place-2 c =
+pub returns-then-times-pattern : goal.returns-then-times-pattern
+returns-then-times-pattern c =
     let a = c.args in
-    let L = c.loop-j in
-    sym (sym L.invariant.0 ∙ stands-not a.pattern.now a.place a.b a.times L.j c.loop-j-test.true L.invariant.2 c.if-pattern-place-2.true)
+    let k : a.place + a.times - a.place ≡ a.times = omega arith in
+    let all = all_from_yields_List (λ x. eqb x a.b) _ _ c.all.result c.all.ensures.ran (YieldsList-from_slice (take (a.place + a.times - a.place) (drop a.place a.pattern.now)) cc) (λ x b q k. search (rules, tests)) in
+    all ∙ rw k (all_stand a.b a.times (drop a.place a.pattern.now) (omega (arith, length-drop a.place a.pattern.now)))
 
-pub loop-j-preserved : goal.loop-j-preserved
-loop-j-preserved c =
+pub returns-else-times-pattern : goal.returns-else-times-pattern
+returns-else-times-pattern c =
     let a = c.args in
-    let L = c.loop-j in
-    (stands_on a.pattern.now a.place a.b a.times L.j c.loop-j-test.true L.invariant.2 c.if-pattern-place-2.false ∙ L.invariant.0, omega arith, L.invariant.2)
-
-pub returns : goal.returns
-returns c =
-    let a = c.args in
-    let L = c.loop-j in
-    sym (sym L.invariant.0 ∙ stands-done a.pattern.now a.place a.b a.times L.j c.loop-j-test.false)
+    let rest = drop a.place a.pattern.now in
+    rw (lt-leb _ _ c.if-times-pattern.false)
+    (sym (begins-short (replicate a.times a.b) rest (omega (arith, length-drop a.place a.pattern.now, length-replicate a.times a.b, c.if-times-pattern.false))))

@@ -1,15 +1,9 @@
 -- The list's names are those of its table.
 use borrow.Author.Rules.{rules}
-use Rattle.names.proofs.rooms.Lent.{fixed-list, opened-list, english-list}
+use native.Mathlib.Omega.{arith}
+use Rattle.names.proofs.rooms.Lent.{opened-list, unlent-list}
 use Rattle.names.proofs.lengths.name_length.Goals as goal
-
-pub fixed_length-requires : goal.fixed_length-requires
-fixed_length-requires c =
-    (search rules, rw (fixed-list c.table_of-table.ensures c.args.book.now (search rules)) at c.requires)
-
-pub returns-then-table-lt10 : goal.returns-then-table-lt10
-returns-then-table-lt10 c =
-    rw (fixed-list c.table_of-table.ensures c.args.book.now (search rules)) c.fixed_length.ensures
+use Rattle.names.proofs.lengths.name_length.Goals.{else-table-ge10-via-then-table-ge10+else-book-eq-OPENED, else-table-ge10-via-else-table-ge10}
 
 pub opened_length-requires : goal.opened_length-requires
 opened_length-requires c =
@@ -21,8 +15,17 @@ returns-then-book-eq-OPENED c =
 
 pub english_length-requires : goal.english_length-requires
 english_length-requires c =
-    (search rules, rw (english-list c.table_of-table.ensures c.args.book.now (search rules)) at c.requires)
+    let e = unlent-list c.table_of-table.ensures c.args.book.now
+    (elim c.else-table-ge10.branch [
+      | else-table-ge10-via-then-table-ge10+else-book-eq-OPENED w ↦ λ h k. w.if-book-eq-OPENED.false k
+      | else-table-ge10-via-else-table-ge10 w ↦ λ h k. absurd (omega arith)
+    ]) in
+    (c.table_of-table.ensures.below, rw e at c.requires)
 
 pub returns : goal.returns
 returns c =
-    rw (english-list c.table_of-table.ensures c.args.book.now (search rules)) c.english_length.ensures
+    rw (unlent-list c.table_of-table.ensures c.args.book.now
+    (elim c.else-table-ge10.branch [
+      | else-table-ge10-via-then-table-ge10+else-book-eq-OPENED w ↦ λ h k. w.if-book-eq-OPENED.false k
+      | else-table-ge10-via-else-table-ge10 w ↦ λ h k. absurd (omega arith)
+    ])) c.english_length.ensures

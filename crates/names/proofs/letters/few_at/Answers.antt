@@ -16,7 +16,7 @@ unfolding bytes_of
 loop-i-init c =
     let t = c.args.text.now in
     let e : length t - length t ≡ 0 = omega arith in
-    (omega arith, omega arith, rw e (omega arith), rw e (sym (drop_of_length-le t {i = length t} (omega arith))))
+    (omega arith, rw e (omega arith), rw e (sym (drop_of_length-le t {i = length t} (omega arith))))
 
 pub overflow_mul-number : goal.overflow_mul-number
 overflow_mul-number c = omega (arith, few c.args.text.now c.loop-i.i (omega arith))
@@ -30,11 +30,11 @@ loop-i-preserved c =
     let t = c.args.text.now in
     let e : L.i ≡ suc (L.i - 1) = omega arith in
     let turn =
-    few-turn t (L.i - 1) L.number (omega arith) (omega (arith, c.type_inv.text (L.i - 1))) (rw (← e) L.invariant.2)
-    (rw (← e) L.invariant.3) in
-    (omega arith, omega arith, rw c.wide.ensures turn.0, rw c.wide.ensures turn.1)
+    few-turn t (L.i - 1) L.number (omega arith) (omega (arith, c.type_inv.text (L.i - 1))) (rw (← e) L.invariant.1)
+    (rw (← e) L.invariant.2) in
+    (omega arith, rw c.wide.ensures turn.0, rw c.wide.ensures turn.1)
 
 pub returns : goal.returns
 returns c =
     let e : c.loop-i.i ≡ c.args.at = omega arith in
-    rw e at c.loop-i.invariant.3
+    rw e at c.loop-i.invariant.2

@@ -6,8 +6,4 @@ use Rattle.names.specs.Letters.{bytes_of}
 use Rattle.names.proofs.letters.few_at.Given as goal
 
 abbrev pub invariant-loop-i : goal.invariant-loop-i
-invariant-loop-i l =
-    (l.at ≤ l.i) × (l.i ≤ length l.text) × (l.number < 256 ^ (length l.text - l.i)) × (bytes_of (length l.text - l.i) l.number ≡ drop l.i l.text)
-
-abbrev pub decreases-loop-i : goal.decreases-loop-i
-decreases-loop-i l = l.i
+invariant-loop-i l = (l.at ≤ l.i) × (l.number < 256 ^ (length l.text - l.i)) × (bytes_of (length l.text - l.i) l.number ≡ drop l.i l.text)

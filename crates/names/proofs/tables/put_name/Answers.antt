@@ -1,27 +1,18 @@
-use mathlib.Core.Path.{refl, sym, ◌∙◌}
-use native.Mathlib.Nat.{add-zero}
+-- The bytes that are laid are those of the name's room.
+use mathlib.Core.Path.{◌∙◌}
+use Prim.Native.Nat.{◌+◌, ◌-◌, ◌*◌}
 use native.Mathlib.Omega.{arith}
-use borrow.Author.Rules.{rules}
-use lib.ListN.{length-set}
-use Rattle.laws.proofs.Laid.{lay-next, lay_done}
-use Rattle.names.proofs.tables.Laws.{room}
+use Rattle.names.proofs.tables.Laws.{room-part, put_mid-sets}
 use Rattle.names.proofs.tables.put_name.Goals as goal
-
-pub loop-j-init : goal.loop-j-init
-loop-j-init c = (search rules, refl, room _ _ _ c.requires.most_bound.0 c.requires.most_bound.1, rw add-zero)
-
-pub loop-j-preserved : goal.loop-j-preserved
-loop-j-preserved c =
-    let at = c.loop-j.invariant.2 in (
-      search rules,
-      simp length-set c.loop-j.invariant.1,
-      at,
-      rw (← at.byte c.loop-j.j (omega arith)) (lay-next _ _ _ c.loop-j.j 0 (omega arith) ∙ c.loop-j.invariant.3),
-    )
 
 pub returns : goal.returns
 returns c =
+    let a = c.args in
+    let n = c.length_at-size in
+    let from = a.index * 21 + 1 in
+    let part = room-part a.most a.rows.now a.index (from + n.result - from) c.requires.most_bound.0 c.requires.most_bound.1 (omega (arith, n.ensures)) in
+    let copied = c.copy_from_slice.ensures.after ∙ part in
     record {
-      end = omega arith;
-      held = sym (lay_done _ _ _ c.loop-j.j (omega arith) (omega arith)) ∙ c.loop-j.invariant.3;
+      end = omega (arith, n.ensures);
+      held = rw copied (put_mid-sets a.at (a.at + n.result - a.at) a.out.now _ (omega (arith, n.ensures)) (omega (arith, n.ensures, c.requires.index_in_bounds)));
     }

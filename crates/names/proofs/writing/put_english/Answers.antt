@@ -1,21 +1,11 @@
--- The rows hold the names of each of their tables.
-use borrow.Author.Rules.{rules}
+-- The rows of the table hold the names of its list.
 use Rattle.names.proofs.tables.Laws.{put-asked, put-told}
-use Rattle.names.proofs.constants.Numbers.{weekday-table, month-table}
 use Rattle.names.proofs.writing.put_english.Goals as goal
 
 pub put_name-requires : goal.put_name-requires
 put_name-requires c =
-    let p = put-asked (weekday-table c.seven-rows.ensures c.requires.english.0 (search rules)) _ _ _ c.requires.english.1 c.requires.index_in_bounds in record { most_bound = p.0; index_in_bounds = p.1 }
-
-pub returns-then-table-lt14 : goal.returns-then-table-lt14
-returns-then-table-lt14 c =
-    put-told (weekday-table c.seven-rows.ensures c.requires.english.0 (search rules)) _ c.requires.english.1 c.put_name.ensures
-
-pub put_name-requires-2 : goal.put_name-requires-2
-put_name-requires-2 c =
-    let p = put-asked (month-table c.twelve-rows.ensures c.requires.english.0 (search rules)) _ _ _ c.requires.english.1 c.requires.index_in_bounds in record { most_bound = p.0; index_in_bounds = p.1 }
+    let p = put-asked c.rows_of.ensures _ _ _ c.requires.english.1 c.requires.index_in_bounds in
+    rw c.most_of.ensures (record { most_bound = p.0; index_in_bounds = p.1 })
 
 pub returns : goal.returns
-returns c =
-    put-told (month-table c.twelve-rows.ensures c.requires.english.0 (search rules)) _ c.requires.english.1 c.put_name-2.ensures
+returns c = put-told c.rows_of.ensures _ c.requires.english.1 (rw c.most_of.ensures at c.put_name.ensures)

@@ -8,6 +8,3 @@ use Rattle.parse.proofs.literals.compare_times.Given as goal
 abbrev pub invariant-loop-i : goal.invariant-loop-i
 invariant-loop-i l =
     (compared_from l.i (replicate (l.end - l.i) l.byte) l.text ≡ compared_from (l.end - l.count) (replicate l.count l.byte) l.text) × (l.i ≤ l.end)
-
-abbrev pub decreases-loop-i : goal.decreases-loop-i
-decreases-loop-i l = l.end - l.i

@@ -1,6 +1,6 @@
 -- At once, from the digits, or by its kind.
 use lib.ListN.{drop, length-drop, length-replicate}
-use mathlib.Core.Path.{◌∙◌}
+use mathlib.Core.Path.{sym, ◌∙◌}
 use native.Mathlib.Omega.{arith}
 use Rattle.meaning.specs.OpenedBooks.{book_in}
 use Rattle.meaning.specs.Reading.{read_step}
@@ -14,21 +14,13 @@ returns-in-Times c = rw (c.in-Times.is, length-replicate) c.pass.ensures
 
 pub overflow_add-result : goal.overflow_add-result
 overflow_add-result c =
-    let m = c in
-    let read = m.quick_digits-read in
-    let s = m in
-    let at = s.args.cursor.at in
-    let text = s.args.text.now in
-    omega (arith, quick-within s.args.pattern.now (drop at text) s.args.edition s.args.step s.requires.held read.ensures m.if-read-lt100.true, length-drop at text)
+    let a = c.args in
+    let at = a.cursor.at in
+    omega (arith, quick-within a.pattern.now (drop at a.text.now) a.edition a.step c.requires.held (sym c.in-Some.is ∙ c.quick_digits.ensures), length-drop at a.text.now)
 
-pub returns-then-read-lt100 : goal.returns-then-read-lt100
-returns-then-read-lt100 c =
-    let m = c in
-    let read = m.quick_digits-read in
-    let s = m in
-    let text = drop s.args.cursor.at s.args.text.now in
-    let law = quick-read s.args.pattern.now text s.args.edition (book_in s.args.book.now) s.args.current_year s.args.step s.requires.held read.ensures m.if-read-lt100.true in
-    rw (law, widened read.result.size (omega (arith, m.if-read-lt100.true)), c.quick_unit-unit.ensures)
-
-pub returns : goal.returns
-returns c = c.moved_on.ensures ∙ c.parse_other.ensures
+pub returns-in-Some : goal.returns-in-Some
+returns-in-Some c =
+    let a = c.args in
+    let s = drop a.cursor.at a.text.now in
+    let law = quick-read a.pattern.now s a.edition (book_in a.book.now) a.current_year a.step c.requires.held (sym c.in-Some.is ∙ c.quick_digits.ensures) in
+    rw (law, widened c.in-Some.read.size (omega arith), c.quick_unit.ensures)

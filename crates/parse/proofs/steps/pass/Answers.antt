@@ -1,16 +1,15 @@
 -- What the skip gives.
+use Rattle.parse.proofs.cursor.Moves.{left_by}
 use lib.ListN.{drop}
 use Rattle.parse.proofs.steps.Parts.{part-passed}
 use Rattle.parse.proofs.steps.pass.Goals as goal
 
-pub returns-in-Stopped : goal.returns-in-Stopped
-returns-in-Stopped c =
+pub returns-in_err-next : goal.returns-in_err-next
+returns-in_err-next c =
     let a = c.args in
-    let s = drop a.cursor.at a.text.now in
-    rw (part-passed a.cursor.at a.k s, ← c.skip.ensures, c.in-Stopped.is)
+    rw (part-passed a.cursor.at a.k (drop a.cursor.at a.text.now), ← c.skip.ensures, c.in_err-next.was) (left_by c.from_residual.ensures.1)
 
-pub returns-in-Past : goal.returns-in-Past
-returns-in-Past c =
+pub returns : goal.returns
+returns c =
     let a = c.args in
-    let s = drop a.cursor.at a.text.now in
-    rw (part-passed a.cursor.at a.k s, ← c.skip.ensures, c.in-Past.is)
+    rw (part-passed a.cursor.at a.k (drop a.cursor.at a.text.now), ← c.skip.ensures, c.in_ok-next.was)

@@ -1,16 +1,15 @@
 -- What the take gives.
+use Rattle.parse.proofs.cursor.Moves.{left_by}
 use lib.ListN.{drop}
 use Rattle.parse.proofs.zones.Zoning.{count-taken}
 use Rattle.parse.proofs.zones.take_count.Goals as goal
 
-pub returns-in-Stopped : goal.returns-in-Stopped
-returns-in-Stopped c =
+pub returns-in_err-number : goal.returns-in_err-number
+returns-in_err-number c =
     let a = c.args in
-    let s = drop a.cursor.at a.text.now in
-    rw (count-taken a.cursor.at a.k s, ← c.take.ensures, c.in-Stopped.is)
+    rw (count-taken a.cursor.at a.k (drop a.cursor.at a.text.now), ← c.take.ensures, c.in_err-number.was) (left_by c.from_residual.ensures.1)
 
-pub returns-in-Value : goal.returns-in-Value
-returns-in-Value c =
+pub returns : goal.returns
+returns c =
     let a = c.args in
-    let s = drop a.cursor.at a.text.now in
-    rw (count-taken a.cursor.at a.k s, ← c.take.ensures, c.in-Value.is)
+    rw (count-taken a.cursor.at a.k (drop a.cursor.at a.text.now), ← c.take.ensures, c.in_ok-number.was)

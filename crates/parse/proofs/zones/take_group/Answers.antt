@@ -1,4 +1,5 @@
 -- The colon, and what the count behind it gives.
+use Rattle.parse.proofs.cursor.Moves.{left_by}
 use lib.ListN.{drop}
 use mathlib.Core.Path.{sym, ◌∙◌}
 use Rattle.meaning.specs.Readers.{skip}
@@ -12,18 +13,18 @@ take_count-requires c =
     let at = a.cursor.at in
     let text = a.text.now in
     let k = c.colon_length.result in
-    skipped-stays at text (skip k (drop at text)) c.requires (within-skip k (drop at text)) (sym c.skip.ensures ∙ c.in-Past.is)
+    skipped-stays at text (skip k (drop at text)) c.requires (within-skip k (drop at text)) (sym c.skip.ensures ∙ c.in_ok-next.was)
 
-pub returns-in-Stopped : goal.returns-in-Stopped
-returns-in-Stopped c =
+pub returns-in_err-next : goal.returns-in_err-next
+returns-in_err-next c =
     let a = c.args in
     let at = a.cursor.at in
     let text = a.text.now in
-    rw (group-taken at a.colon text, ← c.colon_length.ensures, ← c.skip.ensures, c.in-Stopped.is)
+    rw (group-taken at a.colon text, ← c.colon_length.ensures, ← c.skip.ensures, c.in_err-next.was) (left_by c.from_residual.ensures.1)
 
-pub returns-in-Past : goal.returns-in-Past
-returns-in-Past c =
+pub returns : goal.returns
+returns c =
     let a = c.args in
     let at = a.cursor.at in
     let text = a.text.now in
-    rw (group-taken at a.colon text, ← c.colon_length.ensures, ← c.skip.ensures, c.in-Past.is) c.take_count.ensures
+    rw (group-taken at a.colon text, ← c.colon_length.ensures, ← c.skip.ensures, c.in_ok-next.was) c.take_count.ensures

@@ -19,15 +19,8 @@ pub put_counted-requires : goal.put_counted-requires
 put_counted-requires c =
     rw (c.in-No.is, no_text) at c.requires.verdict_in_bounds
 
-pub put_counted-requires-in-Refused : goal.put_counted-requires-in-Refused
-put_counted-requires-in-Refused c =
-    rw (c.in-Refused.is, refused-text, ← ap (λ (t : Told). t.number) c.tell.ensures) at c.requires.verdict_in_bounds
-
 pub returns-in-Yes : goal.returns-in-Yes
 returns-in-Yes c = rw (c.in-Yes.is, yes-text) c.put_bytes.ensures
 
 pub returns-in-No : goal.returns-in-No
 returns-in-No c = rw (c.in-No.is, no_text) c.put_counted.ensures
-
-pub returns-in-Refused : goal.returns-in-Refused
-returns-in-Refused c = rw (c.in-Refused.is, refused-text, ← ap (λ (t : Told). t.number) c.tell.ensures) c.put_counted-in-Refused.ensures

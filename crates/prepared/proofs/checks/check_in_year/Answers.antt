@@ -13,17 +13,17 @@ give_verdict-requires c = (search rules, rw (c.shown.ensures, c.verdict_in.ensur
 pub give_refusal-requires : goal.give_refusal-requires
 give_refusal-requires c =
     let s = c in
-    let told = rw (to_z-of_z w32 s.args.year s.ranges.year, c.in-Refused.is) at c.current_year_check.ensures in
+    let told = rw (to_z-of_z w32 s.args.year s.ranges.year, c.in-Err.is) at c.current_year_check.ensures in
     (search rules, search rules, rw (sym told) at (year-fits s.args.edition s.args.year s.ranges.year))
 
-pub returns-in-Fine : goal.returns-in-Fine
-returns-in-Fine c =
+pub returns-in-Ok : goal.returns-in-Ok
+returns-in-Ok c =
     let s = c in
-    let told = rw (to_z-of_z w32 s.args.year s.ranges.year, c.in-Fine.is) at c.current_year_check.ensures in
+    let told = rw (to_z-of_z w32 s.args.year s.ranges.year, c.in-Ok.is) at c.current_year_check.ensures in
     rw (← told, ← c.verdict_in.ensures, ← c.shown.ensures) c.give_verdict.ensures
 
-pub returns-in-Refused : goal.returns-in-Refused
-returns-in-Refused c =
+pub returns-in-Err : goal.returns-in-Err
+returns-in-Err c =
     let s = c in
-    let told = rw (to_z-of_z w32 s.args.year s.ranges.year, c.in-Refused.is) at c.current_year_check.ensures in
+    let told = rw (to_z-of_z w32 s.args.year s.ranges.year, c.in-Err.is) at c.current_year_check.ensures in
     rw (← told) c.give_refusal.ensures

@@ -1,73 +1,43 @@
--- The checks in their order, and then the lines.
-use mathlib.Core.Path.{sym, ◌∙◌}
-use native.Mathlib.Omega.{arith}
+-- The check of the year, and then the list.
+use Rattle.std.specs.Prelude.{Ok}
+use mathlib.Core.Path.{refl, ◌∙◌}
+use lib.ListN.{take}
 use mir.Syntax.{w32}
 use mir.ValLaws.{to_z-of_z}
-use Rattle.meaning.specs.Lists.{rows_of}
-use Rattle.meaning.specs.OpenedBooks.{book_in}
-use Rattle.prepared.proofs.listing.ListSteps.{steps-checked, steps-room, steps-check-fits}
-use Rattle.meaning.specs.Prepared.{read_list_steps, list_rows_steps}
 use borrow.Author.Rules.{rules}
+use Rattle.std.proofs.lemmas.Result.{err_from_is_err_and}
+use Rattle.meaning.specs.OpenedBooks.{book_in}
+use Rattle.meaning.specs.Prepared.{read_steps, narrowed, list_steps_check, read_lines_steps, read_list_steps, list_rows_steps}
+use Rattle.words.specs.Pieces.{steps_of}
+use Rattle.prepared.proofs.NarrowCells.{steps_cells}
 use Rattle.prepared.proofs.listing.list_in_year.Goals as goal
 
-pub read_lines-requires : goal.read_lines-requires
-read_lines-requires c =
-    let s = c in
-    let a = s.args in
-    let year = to_z-of_z w32 a.year s.ranges.year in
-    let checked =
-    steps-checked a.choices.edition a.text.now a.year
-    (rows_of a.days.now a.months.now a.years.now a.codes.now) c.count_lines-n.result (rw year at c.current_year_check-of_year.ensures) c.count_lines-n.ensures
-    c.rows_check-of_rows.ensures c.or_else.ensures in
-    (search rules, rw year (sym checked ∙ c.in-Fine.is))
+pub returns-in_err-current_year_check-clause-listed : goal.returns-in_err-current_year_check-clause-listed
+unfolding read_list_steps list_steps_check
+returns-in_err-current_year_check-clause-listed c =
+    let year = rw (to_z-of_z w32 c.args.year c.ranges.year) at c.current_year_check.ensures in
+    let refused = err_from_is_err_and c.from_residual.result c.from_residual.ensures.1 in
+    rw (refused.1, refused.2, ← year, c.in_err-current_year_check.was) refl
 
-pub give_count-requires : goal.give_count-requires
-give_count-requires c =
-    let s = c in
-    let a = s.args in
-    let year = to_z-of_z w32 a.year s.ranges.year in
-    let checked =
-    steps-checked a.choices.edition a.text.now a.year
-    (rows_of a.days.now a.months.now a.years.now a.codes.now) c.count_lines-n.result (rw year at c.current_year_check-of_year.ensures) c.count_lines-n.ensures
-    c.rows_check-of_rows.ensures c.or_else.ensures in
-    let fine = sym checked ∙ c.in-Fine.is in
-    let room = (steps-room a.choices a.text.now a.year _ fine (book_in a.book.now)).days in
-    (search rules, omega (arith, c.count_lines-n.ensures, room))
+pub returns-in_err-current_year_check-clause-rows : goal.returns-in_err-current_year_check-clause-rows
+unfolding list_rows_steps list_steps_check
+returns-in_err-current_year_check-clause-rows c =
+    let year = rw (to_z-of_z w32 c.args.year c.ranges.year) at c.current_year_check.ensures in
+    rw (← year, c.in_err-current_year_check.was) refl
 
-pub give_refusal-requires : goal.give_refusal-requires
-give_refusal-requires c =
-    let s = c in
-    let a = s.args in
-    let year = to_z-of_z w32 a.year s.ranges.year in
-    let checked =
-    steps-checked a.choices.edition a.text.now a.year
-    (rows_of a.days.now a.months.now a.years.now a.codes.now) c.count_lines-n.result (rw year at c.current_year_check-of_year.ensures) c.count_lines-n.ensures
-    c.rows_check-of_rows.ensures c.or_else.ensures in
-    let refused = sym checked ∙ c.in-Refused.is in
-    (search rules, search rules, rw refused at (steps-check-fits a.choices.edition a.text.now a.year (rows_of a.days.now a.months.now a.years.now a.codes.now) s.ranges.year))
+pub returns-clause-listed : goal.returns-clause-listed
+unfolding read_list_steps list_steps_check
+returns-clause-listed c =
+    let year = rw (to_z-of_z w32 c.args.year c.ranges.year) at c.current_year_check.ensures in
+    c.lay_list.ensures.listed ∙ rw (← year, c.in_ok-current_year_check.was) refl
 
-pub returns-in-Fine : goal.returns-in-Fine
-unfolding read_list_steps list_rows_steps
-returns-in-Fine c =
-    let s = c in
-    let a = s.args in
-    let year = to_z-of_z w32 a.year s.ranges.year in
-    let checked =
-    steps-checked a.choices.edition a.text.now a.year
-    (rows_of a.days.now a.months.now a.years.now a.codes.now) c.count_lines-n.result (rw year at c.current_year_check-of_year.ensures) c.count_lines-n.ensures
-    c.rows_check-of_rows.ensures c.or_else.ensures in
-    let fine = sym checked ∙ c.in-Fine.is in
-    (rw (fine, ← c.count_lines-n.ensures) c.give_count.ensures, c.read_lines.ensures ∙ rw (fine, year))
-
-pub returns-in-Refused : goal.returns-in-Refused
-unfolding read_list_steps list_rows_steps
-returns-in-Refused c =
-    let s = c in
-    let a = s.args in
-    let year = to_z-of_z w32 a.year s.ranges.year in
-    let checked =
-    steps-checked a.choices.edition a.text.now a.year
-    (rows_of a.days.now a.months.now a.years.now a.codes.now) c.count_lines-n.result (rw year at c.current_year_check-of_year.ensures) c.count_lines-n.ensures
-    c.rows_check-of_rows.ensures c.or_else.ensures in
-    let refused = sym checked ∙ c.in-Refused.is in
-    (rw refused c.give_refusal.ensures, rw refused)
+pub returns-clause-rows : goal.returns-clause-rows
+unfolding list_rows_steps list_steps_check read_lines_steps
+returns-clause-rows c =
+    let a = c.args in
+    let year = rw (to_z-of_z w32 a.year c.ranges.year) at c.current_year_check.ensures in
+    let book = book_in a.book.now in
+    let ss = steps_of a.tail.now (take a.used a.tail.now) in
+    let laid = c.lay_list.ensures.rows (λ line. narrowed (read_steps (Ok tt) a.choices book ss line a.year))
+    (λ line row left code long given. steps_cells a.choices book ss line.now a.year long (search rules)) in
+    laid ∙ rw (← year, c.in_ok-current_year_check.was) refl

@@ -1,4 +1,5 @@
 -- Each verdict is below 2,048, so that nothing wraps.
+use Rattle.std.specs.Prelude.{Option}
 use mathlib.Core.List.{List}
 use mathlib.Core.Path.{◌≡◌, ◌∙◌, ap}
 use Prim.Native.Nat.{ℕ, ◌-◌, ◌≤◌, ◌<◌}
@@ -15,10 +16,10 @@ use Rattle.trust.specs.declared.Unmet.{Unmet}
 use Rattle.prepared.proofs.preparing.found_in.Goals as goal
 
 -- the first need of the whole pattern, by the code's bounds
-unmet-is : (edition : Edition) (p : List ℕ) {u : Unmet} → u ≡ first_unmet edition (length p - 0) 0 (contents p) → u ≡ unmet_of edition p
+unmet-is : (edition : Edition) (p : List ℕ) {u : Option Unmet} → u ≡ first_unmet edition (length p - 0) 0 (contents p) → u ≡ unmet_of edition p
 unmet-is edition p h = let whole : length p - 0 ≡ length p = omega arith in rw whole at h
 
-below : (edition : Edition) (p : List ℕ) {u : Unmet} → length p ≤ 256 → u ≡ first_unmet edition (length p - 0) 0 (contents p) → unmet_number u < 2048
+below : (edition : Edition) (p : List ℕ) {u : Option Unmet} → length p ≤ 256 → u ≡ first_unmet edition (length p - 0) 0 (contents p) → unmet_number u < 2048
 below edition p short h = rw (unmet-is edition p h) (unmet-small edition p short)
 
 pub unmet_number-first-requires : goal.unmet_number-first-requires

@@ -1,3 +1,4 @@
+use Rattle.std.specs.Prelude.{Err}
 use mathlib.Core.List.{List}
 use mathlib.Core.Path.{◌≡◌, sym, ◌∙◌}
 use Prim.Native.Nat.{ℕ, ◌≤◌, ◌<◌}
@@ -5,12 +6,11 @@ use native.Mathlib.Omega.{arith}
 use lib.ListN.{length, get_or}
 use borrow.Author.Tests.{le-leb, lt-leb}
 use Rattle.meaning.specs.Answers.{byte_check, text_check}
-use Rattle.meaning.specs.declared.Checked.TheVariants.{Refused}
 use Rattle.meaning.specs.declared.Refusal.TheVariants.{TextTooLong, TextByte}
 use Rattle.pattern.proofs.checks.Checks.{within-yes, within-above, bytes-more, bytes-stop, bytes-done}
 use Rattle.reader.proofs.checks.search_text.Goals as goal
 
-long-text : (s : List ℕ) → 2048 < length s → text_check s ≡ Refused (TextTooLong (length s))
+long-text : (s : List ℕ) → 2048 < length s → text_check s ≡ Err (TextTooLong (length s))
 unfolding text_check
 long-text s h = rw (lt-leb (length s) 2048 h)
 

@@ -1,25 +1,8 @@
 -- Two numbers, one after the other: each is taken, or why it is not.
+use mathlib.Core.Path.{ap}
+use Rattle.std.specs.Prelude.{Err}
 use Rattle.reader.proofs.offset.Offsets.{six-taken}
 use Rattle.reader.proofs.offset.hour_and_minute.Goals as goal
 
-pub returns-in-Stopped : goal.returns-in-Stopped
-returns-in-Stopped c =
-    let first = c in
-    let s = first.args.text.now in
-    rw (six-taken s, ← first.take.ensures, first.in-Stopped.is) c.refused_at.ensures
-
-pub returns-in-Stopped-take : goal.returns-in-Stopped-take
-returns-in-Stopped-take c =
-    let second = c in
-    let first = second in
-    let s = first.args.text.now in
-    rw (six-taken s, ← first.take.ensures, first.in-Value.is, ← second.take-in-Value.ensures, second.in-Stopped-take.is)
-    c.refused_at-in-Stopped-take.ensures
-
-pub returns-in-Value-take : goal.returns-in-Value-take
-returns-in-Value-take c =
-    let second = c in
-    let first = second in
-    let s = first.args.text.now in
-    rw (six-taken s, ← first.take.ensures, first.in-Value.is, ← second.take-in-Value.ensures, second.in-Value-take.is)
-    c.seconds.ensures
+pub returns-in-Err : goal.returns-in-Err
+returns-in-Err c = rw (six-taken c.args.text.now, ← c.take.ensures, c.in-Err.is) (ap Err c.in_part.ensures)

@@ -4,8 +4,8 @@ use Rattle.refusals.proofs.Integers.{tells-details}
 use Rattle.rows.proofs.entries.Stored.{stored, two-details}
 use Rattle.rows.proofs.answers.give_refusal.Goals as goal
 
-pub returns-then-told : goal.returns-then-told
-returns-then-told c =
+pub returns-in-Some : goal.returns-in-Some
+returns-in-Some c =
     let a = c.args in
     let tell = c.tell-told in
     let first = c.detail_entry-first in
@@ -15,5 +15,5 @@ returns-then-told c =
       row =
           c.lay_zeros.ensures
           ∙ rw (c.lay.ensures, stored first.result first.type_inv, first.ensures, stored second.result second.type_inv, second.ensures)
-          (two-details tell.result a.why (tells-details a.why tell.ensures) a.entries a.row.now c.if-told.true);
+          (two-details tell.result a.why (tells-details a.why tell.ensures) a.entries a.row.now c.in-Some.second c.in-Some.is);
     }

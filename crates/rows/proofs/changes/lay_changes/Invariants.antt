@@ -1,5 +1,5 @@
 -- At each turn what lies in the row and what is still to be laid are all the changes.
-use Prim.Native.Nat.{◌-◌, ◌*◌, ◌≤◌}
+use Prim.Native.Nat.{◌*◌}
 use lib.ListN.{length, drop}
 use lib.Seq.{sets}
 use mathlib.Core.Path.{◌≡◌}
@@ -8,8 +8,4 @@ use Rattle.rows.specs.Rows.{laid}
 use Rattle.rows.proofs.changes.lay_changes.Given as goal
 
 abbrev pub invariant-loop-i : goal.invariant-loop-i
-invariant-loop-i l =
-    (sets l.row (4 * l.i) (change_numbers (drop l.i l.changes.listed)) ≡ laid (change_numbers l.changes.listed) l.initial.row) × (length l.row ≡ length l.initial.row) × (l.i ≤ 128)
-
-abbrev pub decreases-loop-i : goal.decreases-loop-i
-decreases-loop-i l = 128 - l.i
+invariant-loop-i l = (sets l.row (4 * l.i) (change_numbers (drop l.i l.changes)) ≡ laid (change_numbers l.changes) l.initial.row) × (length l.row ≡ length l.initial.row)

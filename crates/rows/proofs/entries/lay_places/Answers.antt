@@ -1,12 +1,11 @@
 use Prim.Native.Nat.{◌+◌, ◌<◌}
 use lib.IntN.{pos}
-use lib.ListN.{length, get_or, length-set, length-map, get_or-map}
+use lib.ListN.{length, length-set, length-map, get_or-map}
 use mathlib.Core.List.{map}
 use mathlib.Core.Path.{◌∙◌}
 use native.Mathlib.Omega.{arith}
-use mir.Facts.{to_z_pos}
-use mir.Syntax.{w64}
 use Rattle.laws.proofs.Laid.{lay-next}
+use Rattle.rows.proofs.entries.Stored.{stored}
 use Rattle.rows.proofs.entries.lay_places.Goals as goal
 
 pub loop-j-preserved : goal.loop-j-preserved
@@ -15,7 +14,6 @@ loop-j-preserved c =
     let a = c.args in
     let places = a.places.now in
     let numbers = map pos places in
-    let small = c.type_inv.places L.j in
-    let there : L.j < length numbers = omega (arith, length-map places pos, c.loop-j-test.true) in
-    rw (to_z_pos w64 {n = get_or places L.j 0} (omega arith), ← get_or-map pos places L.j 0)
-    (lay-next L.row a.at numbers L.j (pos 0) there ∙ L.invariant.0, omega arith, length-set L.row (a.at + L.j) _ ∙ L.invariant.2)
+    let there : L.j < length numbers = omega (arith, length-map places pos) in
+    rw (stored c.from.result c.from.type_inv, c.from.ensures, ← get_or-map pos places L.j 0)
+    (lay-next L.row a.at numbers L.j (pos 0) there ∙ L.invariant.0, length-set L.row (a.at + L.j) _ ∙ L.invariant.1)

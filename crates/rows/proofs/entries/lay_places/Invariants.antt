@@ -1,5 +1,5 @@
 -- What lies there and the places still to be laid are all the places.
-use Prim.Native.Nat.{◌+◌, ◌-◌, ◌≤◌}
+use Prim.Native.Nat.{◌+◌}
 use lib.IntN.{pos}
 use lib.ListN.{length, drop}
 use lib.Seq.{sets}
@@ -9,7 +9,4 @@ use Rattle.rows.proofs.entries.lay_places.Given as goal
 
 abbrev pub invariant-loop-j : goal.invariant-loop-j
 invariant-loop-j l =
-    (sets l.row (l.at + l.j) (drop l.j (map pos l.places)) ≡ sets l.initial.row l.at (map pos l.places)) × (l.j ≤ length l.places) × (length l.row ≡ length l.initial.row)
-
-abbrev pub decreases-loop-j : goal.decreases-loop-j
-decreases-loop-j l = length l.places - l.j
+    (sets l.row (l.at + l.j) (drop l.j (map pos l.places)) ≡ sets l.initial.row l.at (map pos l.places)) × (length l.row ≡ length l.initial.row)

@@ -5,10 +5,10 @@ use lib.ListN.{length}
 use Rattle.rows.proofs.readings.Filled.{full, row-long}
 use Rattle.rows.proofs.readings.give_reading.Goals as goal
 
-pub returns-in-Fine : goal.returns-in-Fine
-returns-in-Fine c =
-    let r = c.args.reading in
+pub returns-in-Ok : goal.returns-in-Ok
+returns-in-Ok c =
+    let r = c.in-Ok.reading in
     let values : length r.values ≡ 15 = search rules in
     let starts : length r.starts ≡ 15 = search rules in
     let ends : length r.ends ≡ 15 = search rules in
-    rw c.in-Fine.is (full 48 (row-long r values starts ends) c.give_values.ensures)
+    rw c.in-Ok.is (full 48 (row-long r values starts ends) c.give_values.ensures)

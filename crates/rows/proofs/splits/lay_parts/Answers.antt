@@ -1,46 +1,35 @@
-use mathlib.Core.Path.{◌≡◌, refl, ap, ◌∙◌}
+use mathlib.Core.Path.{refl, ap, ◌∙◌}
 use native.Mathlib.Omega.{arith}
 use borrow.Author.Rules.{rules}
 use Rattle.meaning.specs.declared.Part.{Part}
-use Rattle.pattern.proofs.parts.Next.{next}
+use Rattle.pattern.proofs.parts.Walks.{found_in}
 use Rattle.rows.proofs.Laying.{laying-start}
 use Rattle.rows.proofs.splits.Parts.{numbers_from, place, parts-turn, parts-end}
 use Rattle.rows.proofs.splits.lay_parts.Goals as goal
 
-pub loop-at-init : goal.loop-at-init
-loop-at-init c =
+pub loop-part-init : goal.loop-part-init
+loop-part-init c =
     let p = c.args.pattern.now in
-    laying-start place (numbers_from p) p c.args.row.now refl
+    let starts = c.parts_of-part-items.ensures.starts in
+    rw (c.into_iter-part-iterator.ensures.into_iter_gives, starts.1) (laying-start place (numbers_from p) p c.args.row.now refl, starts.0)
 
 pub lay_part-requires : goal.lay_part-requires
 lay_part-requires c =
-    let found = c.next_part-part in
-    let n = next c.args.pattern.now c.loop-at.at found.result (omega arith) found.ensures in
-    let start : found.result.start ≡ c.loop-at.at = ap (λ (part : Part). part.start) found.ensures in
+    let n = found_in c.loop-part.invariant.1 c.in-Some.ensures.steps.2.0 in
+    let start = ap (λ (part : Part). part.start) n.itself in
+    let laying = c.loop-part.invariant.0 in
     (search rules, omega arith, omega arith)
 
-pub overflow_add-at : goal.overflow_add-at
-overflow_add-at c =
-    let found = c.next_part-part in
-    let n = next c.args.pattern.now c.loop-at.at found.result (omega arith) found.ensures in
-    omega arith
-
-pub loop-at-smaller : goal.loop-at-smaller
-loop-at-smaller c =
-    let found = c.next_part-part in
-    let n = next c.args.pattern.now c.loop-at.at found.result (omega arith) found.ensures in
-    omega arith
-
-pub loop-at-preserved : goal.loop-at-preserved
-loop-at-preserved c =
-    let found = c.next_part-part in
-    let n = next c.args.pattern.now c.loop-at.at found.result (omega arith) found.ensures in
-    rw c.lay_part.ensures (parts-turn c.loop-at.invariant n)
+pub loop-part-preserved : goal.loop-part-preserved
+loop-part-preserved c =
+    let turn = c.in-Some.ensures.steps in
+    let n = found_in c.loop-part.invariant.1 turn.2.0 in
+    (rw (c.lay_part.ensures, turn.2.1) (parts-turn c.loop-part.invariant.0 n), turn.1 ∙ c.loop-part.invariant.1)
 
 pub shape_of-row : goal.shape_of-row
 shape_of-row c = omega (arith, c.lay_zeros.auto.row)
 
 pub returns : goal.returns
 returns c =
-    let end = parts-end (omega arith) c.loop-at-test.false c.loop-at.invariant in
+    let end = parts-end (omega arith) (rw c.loop-part.invariant.1 at c.in-None.ensures.steps.2) c.loop-part.invariant.0 in
     (end.0, end.1, c.lay_zeros.ensures ∙ end.2)

@@ -43,7 +43,7 @@ returns-in-77 c = rw (c.in-77.is, c.month-rule.ensures)
 pub returns-in-119 : goal.returns-in-119
 unfolding date_role role_among
 returns-in-119 c =
-    rw (c.in-119.is, c.one_or_two-k.ensures)
+    rw (c.in-119.is, c.skipped-rule.ensures, c.one_or_two-k.ensures)
     (ap Symbol (one-or-two-rule 119 (λ k. SkippedNumber quantity.Week k 2) c.args.count))
 
 pub returns-in-100 : goal.returns-in-100

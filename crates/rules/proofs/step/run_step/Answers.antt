@@ -1,10 +1,9 @@
 -- Each kind of run is its row of the table.
-use mathlib.Core.Path.{ap, sym, ◌∙◌}
+use mathlib.Core.Path.{sym, ◌∙◌}
 use native.Mathlib.Omega.{arith}
 use Rattle.rules.proofs.Laws.{below-letters}
 use Rattle.rules.proofs.short.ShortRules.{short-role}
 use Rattle.rules.proofs.step.Rows.{year-row, month-abbreviated-row, month-wide-row, weekday-wide-row}
-use Rattle.rules.specs.ShortRules.{is_short}
 use Rattle.rules.proofs.step.run_step.Goals as goal
 
 pub returns-then-b-lt65 : goal.returns-then-b-lt65
@@ -12,16 +11,14 @@ returns-then-b-lt65 c =
     let a = c.args in
     record { meant = λ p. rw (below-letters a.pair a.b a.count (omega (arith, c.if-b-lt65.true))); held = λ p. c.requires }
 
-pub returns-then-is_short : goal.returns-then-is_short
-returns-then-is_short c =
+pub returns-in-Some : goal.returns-in-Some
+returns-in-Some c =
     let s = c in
     let a = s.args in
-    let number = c.short_of-number in
-    let short = sym c.is_short.ensures ∙ c.if-is_short.true in
     let few = c.if-count-lt3.true in
     record {
-      meant = λ p. rw (short-role a.pair a.b a.count s.requires (omega (arith, few)) (ap is_short (sym number.ensures) ∙ short), ← number.ensures);
-      held = λ p. (short, s.requires, omega (arith, few));
+      meant = λ p. rw (short-role a.pair a.b a.count s.requires (omega (arith, few)) (sym c.short_of.ensures ∙ c.in-Some.is));
+      held = λ p. (s.requires, omega (arith, few));
     }
 
 pub returns-then-b-eq121 : goal.returns-then-b-eq121

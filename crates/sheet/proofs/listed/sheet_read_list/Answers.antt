@@ -2,7 +2,7 @@
 use lib.ListN.{length}
 use native.Mathlib.Omega.{arith}
 use borrow.Author.Rules.{rules}
-use borrow.Author.Tests.{le-leb, lt-leb, not-true, not-false}
+use borrow.Author.Tests.{le-leb, lt-leb}
 use mathlib.Core.Path.{refl, sym, ◌∙◌}
 use mir.Syntax.{w32}
 use mir.ValLaws.{to_z-of_z}
@@ -29,8 +29,8 @@ returns-then-answer-lt2 c =
     rw (le-leb a.choices 7 (omega arith), sym m.is_book.ensures ∙ m.if-not-is_book.false, lt-leb 2 (length a.answer.now) (omega arith))
     (record { number = refl; row = refl }, refl)
 
-pub give_listed-requires : goal.give_listed-requires
-give_listed-requires c =
+pub give_counted-requires : goal.give_counted-requires
+give_counted-requires c =
     let l = c in
     let s = l in
     let a = s.args in
@@ -47,4 +47,4 @@ returns c =
     let a = s.args in
     let reads = rw (to_z-of_z w32 a.year s.ranges.year, l.choices_of-choices.ensures) at l.read_list.ensures in
     rw (le-leb a.choices 7 (omega arith), sym m.is_book.ensures ∙ m.if-not-is_book.false, le-leb 2 (length a.answer.now) (omega (arith, room.if-answer-lt2.false)), ← reads.0.whole)
-    (c.give_listed.ensures, reads.1)
+    (c.give_counted.ensures, reads.1)

@@ -1,6 +1,6 @@
 -- The mending in the edition of a number, where it stands for choices of a check and there is room in both rows.
 use Prim.Native.Nat.{◌%◌}
-use borrow.Author.Tests.{eq-eqb, eqb-true, eqb-false, le-leb, lt-leb, ltb-true, ltb-false}
+use borrow.Author.Tests.{eq-eqb, le-leb, lt-leb}
 use lib.Dec.{leb}
 use mathlib.Core.Bool.{false}
 use mathlib.Core.Logic.{⊎_elim, inl, inr}

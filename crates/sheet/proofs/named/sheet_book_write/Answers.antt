@@ -1,5 +1,5 @@
 -- The answer of the book's writer, where the row is a book and there is room for it.
-use borrow.Author.Tests.{le-leb, lt-leb, not-true, not-false}
+use borrow.Author.Tests.{le-leb, lt-leb}
 use lib.ListN.{length}
 use mathlib.Core.Path.{refl, sym, ◌∙◌}
 use native.Mathlib.Omega.{arith}
@@ -15,8 +15,8 @@ returns-then-answer-lt2 c =
     let a = c.args in
     rw (sym c.is_book.ensures ∙ c.if-not-is_book.false, lt-leb 2 (length a.answer.now) (omega arith)) (record { number = refl; row = refl }, refl)
 
-pub give_wrote-requires : goal.give_wrote-requires
-give_wrote-requires c =
+pub give_counted-requires : goal.give_counted-requires
+give_counted-requires c =
     let s = c in
     let a = s.args in
     let wrote = c.write_book.ensures in
@@ -27,4 +27,4 @@ returns c =
     let s = c in
     let wrote = c.write_book.ensures in
     let m = c in
-    rw (sym m.is_book.ensures ∙ m.if-not-is_book.false, le-leb 2 (length s.args.answer.now) (omega (arith, m.if-answer-lt2.false)), ← wrote.0.whole) (c.give_wrote.ensures, wrote.1)
+    rw (sym m.is_book.ensures ∙ m.if-not-is_book.false, le-leb 2 (length s.args.answer.now) (omega (arith, m.if-answer-lt2.false)), ← wrote.0.whole) (c.give_counted.ensures, wrote.1)

@@ -1,6 +1,6 @@
 -- The reader with the choices of a number and the book of a row, where they stand for some.
 use native.Mathlib.Omega.{arith}
-use borrow.Author.Tests.{le-leb, lt-leb, not-true, not-false}
+use borrow.Author.Tests.{le-leb, lt-leb}
 use mathlib.Core.Path.{sym, ◌∙◌}
 use mir.Syntax.{w32}
 use mir.ValLaws.{to_z-of_z}
@@ -8,7 +8,6 @@ use Rattle.meaning.specs.OpenedBooks.{book_in}
 use Rattle.sheet.proofs.Rooms.{chosen, no-choices, by-book, no-book}
 use Rattle.sheet.specs.Numbers.{choices_of, of_reading, is_book}
 use Rattle.sheet.specs.Sheet.{if_book, read_of}
-use borrow.Author.Rules.{rules}
 use Rattle.sheet.proofs.named.sheet_read_by.Goals as goal
 
 pub returns-then-choices-gt7 : goal.returns-then-choices-gt7

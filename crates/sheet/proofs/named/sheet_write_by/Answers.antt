@@ -1,10 +1,9 @@
 -- The writer with the pair of a number and the book of a row, where they stand for some.
 use native.Mathlib.Omega.{arith}
-use borrow.Author.Tests.{le-leb, lt-leb, not-true, not-false}
+use borrow.Author.Tests.{le-leb, lt-leb}
 use mathlib.Core.Path.{refl, sym, ◌∙◌}
 use mir.Syntax.{w32}
 use mir.ValLaws.{to_z-of_z}
-use borrow.Author.Rules.{rules}
 use Rattle.sheet.proofs.named.sheet_write_by.Goals as goal
 
 pub returns-then-choices-gt7 : goal.returns-then-choices-gt7

@@ -1,5 +1,4 @@
 -- Each by its own.
-use borrow.Author.Rules.{rules}
 use Rattle.sheet.proofs.numbers.choices_of.Goals as goal
 
 pub returns : goal.returns

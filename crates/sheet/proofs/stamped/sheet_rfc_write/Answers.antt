@@ -19,8 +19,8 @@ returns-then-answer-lt2 c =
     let a = c.args in
     rw (le-leb a.unknown 1 (omega arith), lt-leb 2 (length a.answer.now) (omega arith)) (record { number = refl; row = refl }, refl)
 
-pub give_wrote-requires : goal.give_wrote-requires
-give_wrote-requires c =
+pub give_counted-requires : goal.give_counted-requires
+give_counted-requires c =
     let wrote = c.write_stamp.ensures in
     (search rules, rw wrote.0.whole (write-stamp-fits _ _))
 
@@ -30,4 +30,4 @@ returns c =
     let s = m in
     let a = s.args in
     let wrote = rw (to_z-of_z w32 a.year s.ranges.year, to_z-of_z w32 a.offset s.ranges.offset) at m.write_stamp.ensures in
-    rw (le-leb a.unknown 1 (omega arith), le-leb 2 (length a.answer.now) (omega arith), ← wrote.0.whole) (c.give_wrote.ensures, wrote.1)
+    rw (le-leb a.unknown 1 (omega arith), le-leb 2 (length a.answer.now) (omega arith), ← wrote.0.whole) (c.give_counted.ensures, wrote.1)

@@ -1,12 +1,21 @@
 -- All numbers are in their ranges.
+use mathlib.Core.Bool.{Bool, true, false}
+use Prim.Native.Nat.{ℕ, zero, suc, ◌<◌}
 use native.Mathlib.Omega.{arith}
 use mir.Facts.{to_z_pos, to_z-of_z}
 use mir.Syntax.{w32}
+use mir.Val.{SFits}
+use Rattle.meaning.specs.Numerals.{integer}
 use Rattle.meaning.specs.Stamps.{stamp_of}
 use Rattle.laws.proofs.StampChecks.{in-range}
-use Rattle.stamps.proofs.reading.Checks.{offset-fits}
 use Rattle.stamps.specs.Found.{date_time_of}
 use Rattle.stamps.proofs.reading.stamp_of.Goals as goal
+
+-- 32 signed bits hold an offset
+offset-fits : (negative : Bool) (n : ℕ) → n < 86400 → SFits w32 (integer (record { negative = negative; size = n }))
+offset-fits false n h = record { sfits = omega arith }
+offset-fits true zero h = record { sfits = omega arith }
+offset-fits true (suc n) h = record { sfits = omega arith }
 
 pub seconds_of-requires : goal.seconds_of-requires
 seconds_of-requires c =

@@ -7,6 +7,3 @@ use Rattle.stamps.proofs.shape.search.Given as goal
 abbrev pub invariant-loop-i : goal.invariant-loop-i
 invariant-loop-i l =
     (l.i ≤ l.count) × (first_wrong (l.count - l.i) (l.shape + l.i) (l.at + l.i) l.text ≡ first_wrong l.count l.shape l.at l.text)
-
-abbrev pub decreases-loop-i : goal.decreases-loop-i
-decreases-loop-i l = l.count - l.i

@@ -11,13 +11,13 @@ pub compare_held-requires : goal.compare_held-requires
 compare_held-requires c = let s = c in
     omega (arith, c.if-count-text.true, s.requires)
 
-pub returns-in-Differs : goal.returns-in-Differs
-returns-in-Differs c = let s = c in
+pub returns-in-Some : goal.returns-in-Some
+returns-in-Some c = let s = c in
     let held = s.args.held.now in
     let text = s.args.text.now in
     let at = s.args.cursor.at in
-    c.differs.ensures
-    ∙ differs-stops (low_bytes held) text at (length held) (length-map held (λ w. w % 256)) c.if-strict.true c.if-count-text.true (sym c.compare_held.ensures ∙ c.in-Differs.is)
+    rw c.differs.ensures
+    (differs-stops (low_bytes held) text at (length held) (length-map held (λ w. w % 256)) c.if-strict.true c.if-count-text.true (sym c.compare_held.ensures ∙ c.in-Some.is))
 
 pub returns : goal.returns
 returns c =

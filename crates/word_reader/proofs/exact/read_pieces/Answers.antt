@@ -10,14 +10,12 @@ use Prim.Native.Nat.{◌≤◌, ◌<◌}
 use native.Mathlib.Omega.{arith}
 use Rattle.meaning.specs.Answers.{details}
 use Rattle.meaning.specs.OpenedBooks.{book_in}
-use Rattle.meaning.specs.Whole.{refused_at}
 use Rattle.meaning.specs.declared.Carried.TheVariants.{Nothing, Value}
-use Rattle.meaning.specs.declared.Checked.TheVariants.{Fine, Refused}
 use Rattle.words.specs.Pieces.{piece_step, pieces_in}
-use Rattle.word_reader.proofs.exact.Fitting.{walk-fit, part-fit}
+use Rattle.word_reader.proofs.exact.Fitting.{walk-fit, why-fit}
 use Rattle.word_reader.proofs.exact.Pieces.{word-ends, piece-stops, piece-goes-on, words_left, words-done, piece_inside}
 use Rattle.word_reader.proofs.keeping.Moving.{kept-nothing}
-use Rattle.word_reader.proofs.keeping.Rows.{zero_row, no-mask, beyond-row, counted-row, given-quick, given-over}
+use Rattle.word_reader.proofs.keeping.Rows.{zero_row, no-mask, beyond-row, counted-row, given-quick, refusal-over}
 use Rattle.word_reader.proofs.exact.read_pieces.Goals as goal
 use Rattle.word_reader.proofs.exact.read_pieces.Goals.{in-Value, in_default}
 use Rattle.word_reader.proofs.exact.read_pieces.Goals.{then-choices+else-at-text, else-choices}
@@ -70,8 +68,8 @@ piece_in-piece-requires c = omega (arith, c.if-piece_count-k.false, c.piece_coun
 pub read_piece-requires : goal.read_piece-requires
 read_piece-requires c = c.loop-i.invariant.4
 
-pub refused_in-requires : goal.refused_in-requires
-refused_in-requires c =
+pub give_refusal-requires : goal.give_refusal-requires
+give_refusal-requires c =
     let m = c in
     let s = m in
     let a = s.args in
@@ -79,23 +77,22 @@ refused_in-requires c =
     let count = m.piece_count.ensures in
     let there = m.loop-i-test.true in
     let more : L.k < length (pieces_in (get_or a.tail.now L.i 0)) = omega (arith, m.if-piece_count-k.false, count.0) in
-    let gave = sym c.read_piece.ensures ∙ c.in-Stopped.is in
+    let gave = sym c.read_piece.ensures ∙ c.in-Err.is in
     let stops = piece-stops a.choices (book_in a.book.now) a.current_year a.tail.now a.text.now a.used s.requires.0 L.invariant.0 L.part L.at L.i L.k there more c.piece_in-piece.ensures gave in
     let fit = walk-fit a.choices (book_in a.book.now) a.current_year a.tail.now a.text.now a.used (omega (arith, s.requires.0)) (omega (arith, s.requires.1)) in
-    let both' = part-fit fit (sym L.invariant.1 ∙ stops) in
-    (omega (arith, L.invariant.8, m.lay_zeros.auto.row, s.requires.2), both'.0, both'.1)
+    (omega arith, omega (arith, L.invariant.8, m.lay_zeros.auto.row, s.requires.2), rw c.in_part.ensures (why-fit fit (sym L.invariant.1 ∙ stops)))
 
-pub shape_of-answer-in-Stopped : goal.shape_of-answer-in-Stopped
-shape_of-answer-in-Stopped c =
+pub shape_of-answer-in-Err : goal.shape_of-answer-in-Err
+shape_of-answer-in-Err c =
     let m = c in
     let s = m in
     let a = s.args in
     let L = m.loop-i in
     let count = m.piece_count.ensures in
-    omega (arith, c.refused_in.auto.answer, L.invariant.8, m.lay_zeros.auto.row)
+    omega (arith, c.give_refusal.auto.row, L.invariant.8, m.lay_zeros.auto.row)
 
-pub returns-in-Stopped : goal.returns-in-Stopped
-returns-in-Stopped c =
+pub returns-in-Err : goal.returns-in-Err
+returns-in-Err c =
     let m = c in
     let s = m in
     let a = s.args in
@@ -103,11 +100,11 @@ returns-in-Stopped c =
     let count = m.piece_count.ensures in
     let there = m.loop-i-test.true in
     let more : L.k < length (pieces_in (get_or a.tail.now L.i 0)) = omega (arith, m.if-piece_count-k.false, count.0) in
-    let gave = sym c.read_piece.ensures ∙ c.in-Stopped.is in
+    let gave = sym c.read_piece.ensures ∙ c.in-Err.is in
     let stops = piece-stops a.choices (book_in a.book.now) a.current_year a.tail.now a.text.now a.used s.requires.0 L.invariant.0 L.part L.at L.i L.k there more c.piece_in-piece.ensures gave in
     let zeros = zero_row a.answer.now s.requires.2 m.lay_zeros.ensures in
     rw (← rw stops at L.invariant.1)
-    (given-over (Refused _) (refused_at Fine) s.requires.2 (omega (arith, L.invariant.8, m.lay_zeros.auto.row)) (beyond-row L.invariant.0 L.invariant.2 ∙ beyond-row [] zeros) c.refused_in.ensures)
+    (refusal-over _ s.requires.2 (omega (arith, L.invariant.8, m.lay_zeros.auto.row)) (beyond-row L.invariant.0 L.invariant.2 ∙ beyond-row [] zeros) (rw c.in_part.ensures at c.give_refusal.ensures))
 
 pub keep-kept-requires : goal.keep-kept-requires
 keep-kept-requires c =
@@ -116,7 +113,7 @@ keep-kept-requires c =
     let a = s.args in
     let L = m.loop-i in
     let count = m.piece_count.ensures in
-    let gave = sym c.read_piece.ensures ∙ c.in-Got.is in
+    let gave = sym c.read_piece.ensures ∙ c.in-Ok.is in
     let inside = piece_inside a.choices (book_in a.book.now) a.current_year a.text.now L.at (piece_step a.tail.now c.piece_in-piece.result) gave L.invariant.4 in
     (omega (arith, L.invariant.8, m.lay_zeros.auto.row, s.requires.2), omega (arith, L.invariant.4, s.requires.1), omega (arith, inside, s.requires.1))
 
@@ -158,12 +155,12 @@ loop-i-preserved c =
     let book = book_in a.book.now in
     let there = c.loop-i-test.true in
     let more : L.k < length (pieces_in (get_or tail L.i 0)) = omega (arith, c.if-piece_count-k.false, count.0) in
-    let gave = sym c.read_piece.ensures ∙ c.in-Got.is in
+    let gave = sym c.read_piece.ensures ∙ c.in-Ok.is in
     let moved = piece-goes-on a.choices (book_in a.book.now) a.current_year a.tail.now a.text.now a.used s.requires.0 L.invariant.0 L.part L.at L.i L.k there more c.piece_in-piece.ensures gave in
     let inside = piece_inside a.choices book a.current_year text L.at (piece_step tail c.piece_in-piece.result) gave L.invariant.4 in
     let from = L.at in
-    let to = c.in-Got.next.at in
-    elim c.match-carried.branch [
+    let to = c.in-Ok.read.next.at in
+    elim c.match-read.branch [
       | in-Value w ↦
           let u = w.in-Value.unit in
           let z = w.in-Value.value in
@@ -192,15 +189,15 @@ loop-i-preserved c =
           )
     ]
 
-pub give_refusal-requires : goal.give_refusal-requires
+pub give_refusal-requires-then-at-text : goal.give_refusal-requires-then-at-text
 unfolding details
-give_refusal-requires c =
+give_refusal-requires-then-at-text c =
     let s = c in
     let L = c.loop-i in
     (omega arith, omega (arith, L.invariant.8, c.lay_zeros.auto.row, s.requires.2), (omega (arith, L.invariant.4, s.requires.1), tt))
 
 pub shape_of-answer-then-at-text : goal.shape_of-answer-then-at-text
-shape_of-answer-then-at-text c = omega (arith, c.give_refusal.auto.row, c.loop-i.invariant.8, c.lay_zeros.auto.row)
+shape_of-answer-then-at-text c = omega (arith, c.give_refusal-then-at-text.auto.row, c.loop-i.invariant.8, c.lay_zeros.auto.row)
 
 pub returns-then-at-text : goal.returns-then-at-text
 returns-then-at-text c =
@@ -211,7 +208,7 @@ returns-then-at-text c =
     let ends = words_left a.choices (book_in a.book.now) a.current_year a.tail.now a.text.now a.used s.requires.0 L.invariant.0 L.part L.at L.i L.k m.loop-i-test.false c.if-choices.true c.if-at-text.true in
     let zeros = zero_row a.answer.now s.requires.2 c.lay_zeros.ensures in
     rw (← rw ends at L.invariant.1)
-    (given-over (Refused _) (refused_at Fine) s.requires.2 (omega (arith, L.invariant.8, c.lay_zeros.auto.row)) (beyond-row L.invariant.0 L.invariant.2 ∙ beyond-row [] zeros) c.give_refusal.ensures)
+    (refusal-over _ s.requires.2 (omega (arith, L.invariant.8, c.lay_zeros.auto.row)) (beyond-row L.invariant.0 L.invariant.2 ∙ beyond-row [] zeros) c.give_refusal-then-at-text.ensures)
 
 pub finish-requires : goal.finish-requires
 finish-requires c =

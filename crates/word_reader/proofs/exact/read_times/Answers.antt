@@ -13,16 +13,16 @@ compare-requires c = let s = c in
     let end : a.cursor.at + a.count ≤ length a.text.now = omega (arith, c.if-count-text.true, s.requires) in
     record { held = c.if-count-gt0.true; ended = (omega (arith, length-replicate a.count a.byte), end) }
 
-pub returns-in-Differs : goal.returns-in-Differs
-returns-in-Differs c = let s = c in
+pub returns-in-Some : goal.returns-in-Some
+returns-in-Some c = let s = c in
     let a = s.args in
     let at = a.cursor.at in
     let w = replicate a.count a.byte in
     let long = length-replicate a.count a.byte in
     let start : at + a.count - length w ≡ at = omega (arith, long) in
     let seen = rw start at c.compare.ensures in
-    c.differs.ensures
-    ∙ differs-stops w a.text.now at a.count long c.if-strict.true c.if-count-text.true (sym seen ∙ c.in-Differs.is)
+    rw c.differs.ensures
+    (differs-stops w a.text.now at a.count long c.if-strict.true c.if-count-text.true (sym seen ∙ c.in-Some.is))
 
 pub returns : goal.returns
 returns c =

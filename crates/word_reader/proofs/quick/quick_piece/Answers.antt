@@ -12,28 +12,23 @@ use Rattle.word_reader.proofs.keeping.Moving.{moves-part, kept-nothing}
 use Rattle.word_reader.specs.Quick.{gave_one}
 use Rattle.word_reader.proofs.quick.quick_piece.Goals as goal
 
-pub read_piece-requires : goal.read_piece-requires
-read_piece-requires c = c.requires.1
-
 pub keep-requires : goal.keep-requires
 keep-requires c =
     let s = c in
     let a = s.args in
-    let gave = sym c.read_piece.ensures ∙ c.in-Got.is in
+    let gave = sym c.read_piece.ensures ∙ c.in-Ok.is in
     let inside = piece_inside a.choices (book_in a.book.now) a.current_year a.text.now a.at (piece_step a.tail.now a.piece) gave s.requires.1 in
     (s.requires.0, omega (arith, s.requires), omega (arith, inside, s.requires))
-
-pub returns-in-Stopped : goal.returns-in-Stopped
-returns-in-Stopped c = record { beyond = refl; reads = λ h. absurd (omega arith) }
 
 pub returns-in-Nothing : goal.returns-in-Nothing
 returns-in-Nothing c =
     let s = c in
     let a = s.args in
-    let to = c.in-Got.next.at in
-    let gave = rw c.in-Nothing.is at (sym c.read_piece.ensures ∙ c.in-Got.is) in
-    let moves = moves-part a.choices (book_in a.book.now) a.current_year a.text.now a.at (piece_step a.tail.now a.piece) s.requires.1 gave in
-    record { beyond = refl; reads = λ h. (gave_one Nothing a.at to, moves, kept-nothing) }
+    let to = c.in-Ok.read.next.at in
+    let gave = sym c.read_piece.ensures ∙ c.in-Ok.is in
+    let moves' = moves-part a.choices (book_in a.book.now) a.current_year a.text.now a.at (piece_step a.tail.now a.piece) s.requires.1 gave in
+    let moves = rw c.in-Nothing.is at moves' in
+    record { beyond = refl; reads = (gave_one Nothing a.at to, moves, kept-nothing) }
 
 pub returns-in-Value : goal.returns-in-Value
 returns-in-Value c =
@@ -41,8 +36,9 @@ returns-in-Value c =
     let a = s.args in
     let u = c.in-Value.unit in
     let z = c.in-Value.value in
-    let to = c.in-Got.next.at in
-    let gave = rw c.in-Value.is at (sym c.read_piece.ensures ∙ c.in-Got.is) in
-    let moves = moves-part a.choices (book_in a.book.now) a.current_year a.text.now a.at (piece_step a.tail.now a.piece) s.requires.1 gave in
+    let to = c.in-Ok.read.next.at in
+    let gave = sym c.read_piece.ensures ∙ c.in-Ok.is in
+    let moves' = moves-part a.choices (book_in a.book.now) a.current_year a.text.now a.at (piece_step a.tail.now a.piece) s.requires.1 gave in
+    let moves = rw c.in-Value.is at moves' in
     let kept = c.keep.ensures in
-    record { beyond = kept.2; reads = λ h. (gave_one (Value u z) a.at to, rw kept.0 moves, rw (to_z-of_z w64 z (search rules)) at kept.1) }
+    record { beyond = kept.2; reads = (gave_one (Value u z) a.at to, rw kept.0 moves, rw (to_z-of_z w64 z (search rules)) at kept.1) }

@@ -1,7 +1,7 @@
 -- The pieces so far are read and kept.
 use mathlib.Core.List.{List}
 use mathlib.Core.Path.{◌≡◌}
-use Prim.Native.Nat.{◌-◌, ◌≤◌}
+use Prim.Native.Nat.{◌≤◌}
 use lib.ListN.{length, take, drop}
 use Rattle.meaning.specs.OpenedBooks.{book_in}
 use Rattle.meaning.specs.Whole.{Gave}
@@ -11,11 +11,8 @@ use Rattle.word_reader.proofs.quick.quick_pieces.Given as goal
 
 abbrev pub invariant-loop-k : goal.invariant-loop-k
 invariant-loop-k l = (gs : List Gave)
-    × (Moves l.choices (book_in l.book) l.current_year (take l.k (steps_in l.tail l.w)) l.text l.at l.next gs)
-    × (Kept gs l.initial.answer l.answer l.mask l.read)
+    × (Moves l.choices (book_in l.book) l.current_year (take l.k (steps_in l.tail l.w)) l.text l.at l.moved.next gs)
+    × (Kept gs l.initial.answer l.answer l.mask l.moved.mask)
     × (drop 48 l.answer ≡ drop 48 l.initial.answer)
     × (length l.answer ≡ length l.initial.answer)
     × (l.k ≤ l.count)
-
-abbrev pub decreases-loop-k : goal.decreases-loop-k
-decreases-loop-k l = l.count - l.k

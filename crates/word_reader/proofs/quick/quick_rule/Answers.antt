@@ -12,16 +12,13 @@ use Rattle.word_reader.proofs.keeping.Moving.{moves-part, kept-nothing}
 use Rattle.word_reader.proofs.quick.Pieces.{rule-part, rule-steps, quick-symbol}
 use Rattle.word_reader.proofs.quick.quick_rule.Goals as goal
 
-pub parse_rule-requires : goal.parse_rule-requires
-parse_rule-requires c = c.requires.1.1
-
-pub pass_behind-behind-requires : goal.pass_behind-behind-requires
-pass_behind-behind-requires c =
+pub pass_behind-requires : goal.pass_behind-requires
+pass_behind-requires c =
     let s = c in
     let a = s.args in
     let book = book_in a.book.now in
     let text = a.text.now in
-    let gave = rw c.rule_in.ensures at (rule-part a.choices book a.current_year text a.at c.rule_in.result (sym c.parse_rule.ensures ∙ c.in-Got.is)) in
+    let gave = rw c.rule_in.ensures at (rule-part a.choices book a.current_year text a.at c.rule_in.result (sym c.parse_rule.ensures ∙ c.in-Ok.is)) in
     piece_inside a.choices book a.current_year text a.at (field (rule_in a.w)) gave s.requires.1.1
 
 pub keep-kept-requires : goal.keep-kept-requires
@@ -30,12 +27,9 @@ keep-kept-requires c =
     let a = s.args in
     let book = book_in a.book.now in
     let text = a.text.now in
-    let gave = rw c.rule_in.ensures at (rule-part a.choices book a.current_year text a.at c.rule_in.result (sym c.parse_rule.ensures ∙ c.in-Got.is)) in
+    let gave = rw c.rule_in.ensures at (rule-part a.choices book a.current_year text a.at c.rule_in.result (sym c.parse_rule.ensures ∙ c.in-Ok.is)) in
     let inside = piece_inside a.choices book a.current_year text a.at (field (rule_in a.w)) gave s.requires.1.1 in
     (s.requires.1.0, omega (arith, s.requires.1.1, s.requires.1.2), omega (arith, inside, s.requires.1.2))
-
-pub returns-in-Stopped : goal.returns-in-Stopped
-returns-in-Stopped c = λ row. record { beyond = refl; reads = λ h. absurd (omega arith) }
 
 pub returns-in-Nothing : goal.returns-in-Nothing
 returns-in-Nothing c =
@@ -43,9 +37,10 @@ returns-in-Nothing c =
     let a = s.args in
     let book = book_in a.book.now in
     let text = a.text.now in
-    let gave = rw c.rule_in.ensures at (rule-part a.choices book a.current_year text a.at c.rule_in.result (sym c.parse_rule.ensures ∙ c.in-Got.is)) in
-    let moves = moves-part a.choices book a.current_year text a.at (field (rule_in a.w)) s.requires.1.1 (rw c.in-Nothing.is at gave) in
-    λ row. quick-symbol a.choices book a.current_year a.w row text (rule-steps a.w row s.requires.0) moves c.pass_behind-behind.ensures kept-nothing refl
+    let gave = rw c.rule_in.ensures at (rule-part a.choices book a.current_year text a.at c.rule_in.result (sym c.parse_rule.ensures ∙ c.in-Ok.is)) in
+    let moves' = moves-part a.choices book a.current_year text a.at (field (rule_in a.w)) s.requires.1.1 gave in
+    let moves = rw c.in-Nothing.is at moves' in
+    λ row. quick-symbol a.choices book a.current_year a.w row text (rule-steps a.w row s.requires.0) moves c.in_ok-next-in-Ok.ensures kept-nothing refl
 
 pub returns-in-Value : goal.returns-in-Value
 returns-in-Value c =
@@ -53,8 +48,9 @@ returns-in-Value c =
     let a = s.args in
     let book = book_in a.book.now in
     let text = a.text.now in
-    let gave = rw c.rule_in.ensures at (rule-part a.choices book a.current_year text a.at c.rule_in.result (sym c.parse_rule.ensures ∙ c.in-Got.is)) in
+    let gave = rw c.rule_in.ensures at (rule-part a.choices book a.current_year text a.at c.rule_in.result (sym c.parse_rule.ensures ∙ c.in-Ok.is)) in
     let z = c.in-Value.value in
-    let moves = moves-part a.choices book a.current_year text a.at (field (rule_in a.w)) s.requires.1.1 (rw c.in-Value.is at gave) in
+    let moves' = moves-part a.choices book a.current_year text a.at (field (rule_in a.w)) s.requires.1.1 gave in
+    let moves = rw c.in-Value.is at moves' in
     let kept = c.keep-kept.ensures in
-    λ row. quick-symbol a.choices book a.current_year a.w row text (rule-steps a.w row s.requires.0) moves c.pass_behind-behind.ensures (rw (to_z-of_z w64 z (search rules)) at kept.1) kept.2
+    λ row. quick-symbol a.choices book a.current_year a.w row text (rule-steps a.w row s.requires.0) moves c.in_ok-next-in-Ok.ensures (rw (to_z-of_z w64 z (search rules)) at kept.1) kept.2

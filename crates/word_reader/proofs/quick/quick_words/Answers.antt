@@ -23,30 +23,21 @@ loop-i-init c =
     let zeros = zero-places s.args.answer.now s.requires.1 s.requires.3 c.lay_zeros.ensures in
     ([], 0, refl, rw (sym (beyond-row [] zeros)) at zeros, no-mask, omega arith, refl, omega arith)
 
-pub bounds-tail-i : goal.bounds-tail-i
-bounds-tail-i c = omega (arith, c.loop-i-test.true, c.requires.0)
-
-pub quick_word-moved-requires : goal.quick_word-moved-requires
-quick_word-moved-requires c =
+pub quick_word-requires : goal.quick_word-requires
+quick_word-requires c =
     let s = c in
     let L = c.loop-i in
     (omega (arith, L.invariant.6, c.lay_zeros.auto.row, s.requires.1), L.invariant.5, s.requires.2)
 
-pub shape_of-answer-then-moved-gt2048 : goal.shape_of-answer-then-moved-gt2048
-shape_of-answer-then-moved-gt2048 c = omega (arith, c.quick_word-moved.auto.answer, c.loop-i.invariant.6, c.lay_zeros.auto.row)
+pub shape_of-answer-in_default : goal.shape_of-answer-in_default
+shape_of-answer-in_default c = omega (arith, c.quick_word.auto.answer, c.loop-i.invariant.6, c.lay_zeros.auto.row)
 
-pub returns-then-moved-gt2048 : goal.returns-then-moved-gt2048
-returns-then-moved-gt2048 c =
+pub returns-in_default : goal.returns-in_default
+returns-in_default c =
     let s = c in
     let L = c.loop-i in
-    let q = c.quick_word-moved.ensures in
+    let q = c.quick_word.ensures in
     record { beyond = q.beyond ∙ beyond-row L.invariant.0 L.invariant.3 ∙ beyond-row [] (zero-places s.args.answer.now s.requires.1 s.requires.3 c.lay_zeros.ensures); reads = λ h. true-is-not-false (sym h) }
-
-pub overflow_add-i : goal.overflow_add-i
-overflow_add-i c = omega (arith, c.loop-i-test.true, c.requires.0)
-
-pub loop-i-smaller : goal.loop-i-smaller
-loop-i-smaller c = omega (arith, c.loop-i-test.true)
 
 pub loop-i-preserved : goal.loop-i-preserved
 loop-i-preserved c =
@@ -55,8 +46,8 @@ loop-i-preserved c =
     let L = c.loop-i in
     let tail = a.tail.now in
     let there = c.loop-i-test.true in
-    let q = c.quick_word-moved.ensures in
-    let one = q.reads c.if-moved-gt2048.false in
+    let q = c.quick_word.ensures in
+    let one = rw c.in-Some.is at q.reads in
     let kept = one.2.keeps L.invariant.0 _ L.invariant.3 L.invariant.4 in
     let on = word_on a.choices (book_in a.book.now) a.current_year tail a.text.now a.used s.requires.0 L.invariant.0 L.invariant.1 L.i there one.1 in (
       one.0 ++ L.invariant.0,
@@ -65,7 +56,7 @@ loop-i-preserved c =
       kept.0,
       kept.1,
       one.1.inside,
-      omega (arith, c.quick_word-moved.auto.answer, L.invariant.6),
+      omega (arith, c.quick_word.auto.answer, L.invariant.6),
       omega (arith, there),
     )
 

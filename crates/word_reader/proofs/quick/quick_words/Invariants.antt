@@ -1,7 +1,7 @@
 -- What is read so far stands in the row, and the walk that is left.
 use mathlib.Core.List.{List, [], ◌++◌}
 use mathlib.Core.Path.{◌≡◌}
-use Prim.Native.Nat.{ℕ, ◌-◌, ◌≤◌}
+use Prim.Native.Nat.{ℕ, ◌≤◌}
 use lib.ListN.{length, take, drop}
 use Rattle.meaning.specs.OpenedBooks.{book_in}
 use Rattle.meaning.specs.Whole.{Gave, walk}
@@ -19,6 +19,3 @@ invariant-loop-i l = (gave : List Gave)
     × (l.at ≤ length l.text)
     × (length l.answer ≡ length l.initial.answer)
     × (l.i ≤ l.used)
-
-abbrev pub decreases-loop-i : goal.decreases-loop-i
-decreases-loop-i l = l.used - l.i

@@ -15,19 +15,19 @@ quick_words-requires c =
     let zeros = c.lay_zeros in (
       s.requires.0,
       omega (arith, zeros.auto.row, s.requires.1),
-      text-short _ (sym c.text_check.ensures ∙ c.in-Fine.is),
+      text-short _ (sym c.text_check.ensures ∙ c.in-Ok.is),
       (cleared-row s.args.answer.now s.requires.1 zeros.ensures).0,
     )
 
-pub returns-in-Fine : goal.returns-in-Fine
-returns-in-Fine c =
+pub returns-in-Ok : goal.returns-in-Ok
+returns-in-Ok c =
     let s = c in
     let year = rw (to_z-of_z w32 s.args.year (search rules)) at c.size.ensures in
     let beyond = (cleared-row s.args.answer.now s.requires.1 c.lay_zeros.ensures).1 in
-    (whole-over beyond (rw year at c.quick_words.ensures), λ _. sym c.text_check.ensures ∙ c.in-Fine.is)
+    (whole-over beyond (rw year at c.quick_words.ensures), λ _. sym c.text_check.ensures ∙ c.in-Ok.is)
 
-pub returns-in-Refused : goal.returns-in-Refused
-returns-in-Refused c =
+pub returns-in-Err : goal.returns-in-Err
+returns-in-Err c =
     let s = c in
     let beyond = (cleared-row s.args.answer.now s.requires.1 c.lay_zeros.ensures).1 in
     (record { beyond = beyond; reads = λ h. true-is-not-false (sym h) }, λ h. true-is-not-false (sym h))

@@ -17,23 +17,20 @@ none : (ws : List ℕ) (i : ℕ) → length ws ≤ i → most_of (drop i ws) ≡
 unfolding most_of
 none ws i past = rw (drop_of_length-le ws past)
 
-pub loop-i-init : goal.loop-i-init
-loop-i-init c = (omega arith, omega arith, omega arith)
-
 pub overflow_add-most : goal.overflow_add-most
 overflow_add-most c =
     let l = c in
-    omega (arith, l.loop-i.invariant.1, c.most_bytes-most.ensures, most-small (get_or l.args.words.now l.loop-i.i 0))
+    omega (arith, l.loop-w.invariant.0, c.most_bytes-most.ensures, most-small (get_or l.args.words.now l.loop-w.w-index 0))
 
-pub loop-i-preserved : goal.loop-i-preserved
-loop-i-preserved c =
+pub loop-w-preserved : goal.loop-w-preserved
+loop-w-preserved c =
     let l = c in
     let ws = l.args.words.now in
-    let i = l.loop-i.i in
+    let i = l.loop-w.w-index in
     let bytes = c.most_bytes-most.ensures in
-    (omega arith, omega (arith, l.loop-i.invariant.1, bytes, most-small (get_or ws i 0)), omega (arith, l.loop-i.invariant.2, bytes, next ws i (omega arith)))
+    (omega (arith, l.loop-w.invariant.0, bytes, most-small (get_or ws i 0)), omega (arith, l.loop-w.invariant.1, bytes, next ws i (omega arith)))
 
 pub returns : goal.returns
 returns c =
     let l = c in
-    omega (arith, l.loop-i.invariant.2, none l.args.words.now l.loop-i.i c.loop-i-test.false)
+    omega (arith, l.loop-w.invariant.1, none l.args.words.now l.loop-w.w-index c.loop-w-test.false)

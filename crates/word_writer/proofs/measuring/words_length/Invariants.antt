@@ -1,5 +1,5 @@
 -- What is counted and the text of the words that are left are as long as the whole text, which is no longer than its most.
-use Prim.Native.Nat.{◌+◌, ◌-◌}
+use Prim.Native.Nat.{◌+◌}
 use lib.ListN.{length, take, drop}
 use mathlib.Core.Path.{◌≡◌}
 use Rattle.word_writer.specs.Written.{words_text}
@@ -8,6 +8,3 @@ use Rattle.word_writer.proofs.measuring.words_length.Given as goal
 abbrev pub invariant-loop-i : goal.invariant-loop-i
 invariant-loop-i l =
     l.n + length (words_text l.book l.tail l.f (drop l.i (take l.used l.tail))) ≡ length (words_text l.book l.tail l.f (take l.used l.tail))
-
-abbrev pub decreases-loop-i : goal.decreases-loop-i
-decreases-loop-i l = l.used - l.i

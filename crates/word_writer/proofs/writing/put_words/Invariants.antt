@@ -1,5 +1,5 @@
 -- What lies there and the text of the words that are left are the whole text.
-use Prim.Native.Nat.{◌+◌, ◌-◌}
+use Prim.Native.Nat.{◌+◌}
 use lib.ListN.{length, take, drop}
 use lib.Seq.{sets}
 use mathlib.Core.Path.{◌≡◌}
@@ -11,6 +11,3 @@ invariant-loop-i l =
     (sets l.out l.at (words_text l.book l.tail l.f (drop l.i (take l.used l.tail))) ≡ sets l.initial.out 0 (words_text l.book l.tail l.f (take l.used l.tail)))
     × (l.at + length (words_text l.book l.tail l.f (drop l.i (take l.used l.tail))) ≡ length (words_text l.book l.tail l.f (take l.used l.tail)))
     × (length l.out ≡ length l.initial.out)
-
-abbrev pub decreases-loop-i : goal.decreases-loop-i
-decreases-loop-i l = l.used - l.i

@@ -4,12 +4,12 @@ use native.Mathlib.Numerals.{add-one}
 use Rattle.words.specs.Rows.{xor_from}
 use Rattle.words.proofs.checking.check_word.Goals as goal
 
-pub loop-i-preserved : goal.loop-i-preserved
+pub loop-w-preserved : goal.loop-w-preserved
 unfolding xor_from
-loop-i-preserved c =
+loop-w-preserved c =
     let words = c.args.words.now in
-    rw add-one (rw (drop-cons words c.loop-i.i 0 c.loop-i-test.true) at c.loop-i.invariant)
+    rw add-one (rw (drop-cons words c.loop-w.w-index 0 c.loop-w-test.true) at c.loop-w.invariant)
 
 pub returns : goal.returns
 unfolding xor_from
-returns c = rw (drop_of_length-le c.args.words.now c.loop-i-test.false) at c.loop-i.invariant
+returns c = rw (drop_of_length-le c.args.words.now c.loop-w-test.false) at c.loop-w.invariant

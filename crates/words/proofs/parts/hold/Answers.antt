@@ -9,7 +9,7 @@ use Rattle.pattern.specs.First.{unescaped}
 use Rattle.words.proofs.parts.Words.{some-inside, one-held, one_word, lost-is-held, many-are-held, held-inside, held_word_lem}
 use Rattle.words.specs.Packing.{is_one, held_inside}
 use Rattle.words.proofs.parts.hold.Goals as goal
-use Rattle.words.proofs.parts.hold.Goals.{then-n-eq1+else-not-lost, else-n-eq1}
+use Rattle.words.proofs.parts.hold.Goals.{else-n-eq1-via-then-n-eq1+else-not-lost, else-n-eq1-via-else-n-eq1}
 
 -- of an inside that is not just one byte, as many bytes are held as it has
 few : (src : List ℕ) (lost : Bool) (n before : ℕ) → n ≡ length (unescaped src) → is_one (unescaped src) lost ≡ false
@@ -29,9 +29,9 @@ returns-then-not-lost c =
 pub overflow_sub-at : goal.overflow_sub-at
 overflow_sub-at c =
     let whole : is_one (unescaped c.args.src.now) c.args.lost ≡ false =
-    elim c.if-n-eq1.branch [
-      | then-n-eq1+else-not-lost w ↦ lost-is-held (unescaped c.args.src.now) c.args.lost w.if-not-lost.false
-      | else-n-eq1 w ↦ many-are-held (unescaped c.args.src.now) c.args.lost c.unescaped_length-n.result c.unescaped_length-n.ensures w.if-n-eq1.false
+    elim c.else-n-eq1.branch [
+      | else-n-eq1-via-then-n-eq1+else-not-lost w ↦ lost-is-held (unescaped c.args.src.now) c.args.lost w.if-not-lost.false
+      | else-n-eq1-via-else-n-eq1 w ↦ many-are-held (unescaped c.args.src.now) c.args.lost c.unescaped_length-n.result c.unescaped_length-n.ensures w.if-n-eq1.false
     ] in
     let fits = few c.args.src.now c.args.lost c.unescaped_length-n.result c.args.before c.unescaped_length-n.ensures whole c.requires.0 in
     fits
@@ -39,9 +39,9 @@ overflow_sub-at c =
 pub lay_held-requires : goal.lay_held-requires
 lay_held-requires c =
     let whole : is_one (unescaped c.args.src.now) c.args.lost ≡ false =
-    elim c.if-n-eq1.branch [
-      | then-n-eq1+else-not-lost w ↦ lost-is-held (unescaped c.args.src.now) c.args.lost w.if-not-lost.false
-      | else-n-eq1 w ↦ many-are-held (unescaped c.args.src.now) c.args.lost c.unescaped_length-n.result c.unescaped_length-n.ensures w.if-n-eq1.false
+    elim c.else-n-eq1.branch [
+      | else-n-eq1-via-then-n-eq1+else-not-lost w ↦ lost-is-held (unescaped c.args.src.now) c.args.lost w.if-not-lost.false
+      | else-n-eq1-via-else-n-eq1 w ↦ many-are-held (unescaped c.args.src.now) c.args.lost c.unescaped_length-n.result c.unescaped_length-n.ensures w.if-n-eq1.false
     ] in
     let fits = few c.args.src.now c.args.lost c.unescaped_length-n.result c.args.before c.unescaped_length-n.ensures whole c.requires.0 in
     omega (arith, c.unescaped_length-n.ensures, c.requires)
@@ -49,9 +49,9 @@ lay_held-requires c =
 pub held_word-requires : goal.held_word-requires
 held_word-requires c =
     let whole : is_one (unescaped c.args.src.now) c.args.lost ≡ false =
-    elim c.if-n-eq1.branch [
-      | then-n-eq1+else-not-lost w ↦ lost-is-held (unescaped c.args.src.now) c.args.lost w.if-not-lost.false
-      | else-n-eq1 w ↦ many-are-held (unescaped c.args.src.now) c.args.lost c.unescaped_length-n.result c.unescaped_length-n.ensures w.if-n-eq1.false
+    elim c.else-n-eq1.branch [
+      | else-n-eq1-via-then-n-eq1+else-not-lost w ↦ lost-is-held (unescaped c.args.src.now) c.args.lost w.if-not-lost.false
+      | else-n-eq1-via-else-n-eq1 w ↦ many-are-held (unescaped c.args.src.now) c.args.lost c.unescaped_length-n.result c.unescaped_length-n.ensures w.if-n-eq1.false
     ] in
     let fits = few c.args.src.now c.args.lost c.unescaped_length-n.result c.args.before c.unescaped_length-n.ensures whole c.requires.0 in
     (omega (arith, c.requires), omega (arith, c.requires))
@@ -61,9 +61,9 @@ returns c =
     let inside = unescaped c.args.src.now in
     let n = c.unescaped_length-n in
     let whole : is_one (unescaped c.args.src.now) c.args.lost ≡ false =
-    elim c.if-n-eq1.branch [
-      | then-n-eq1+else-not-lost w ↦ lost-is-held (unescaped c.args.src.now) c.args.lost w.if-not-lost.false
-      | else-n-eq1 w ↦ many-are-held (unescaped c.args.src.now) c.args.lost c.unescaped_length-n.result c.unescaped_length-n.ensures w.if-n-eq1.false
+    elim c.else-n-eq1.branch [
+      | else-n-eq1-via-then-n-eq1+else-not-lost w ↦ lost-is-held (unescaped c.args.src.now) c.args.lost w.if-not-lost.false
+      | else-n-eq1-via-else-n-eq1 w ↦ many-are-held (unescaped c.args.src.now) c.args.lost c.unescaped_length-n.result c.unescaped_length-n.ensures w.if-n-eq1.false
     ] in (
       c.held_word.ensures ∙ rw (held_word_lem inside c.args.lost (c.args.before - n.result) whole, n.ensures),
       rw (held-inside inside c.args.lost whole) (record { start = rw n.ensures; laid = c.lay_held.ensures }),

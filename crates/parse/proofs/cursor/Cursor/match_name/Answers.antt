@@ -16,24 +16,24 @@ overflow_add-result c =
     let at = a.self.at in
     let rest = rest_all at a.text.now in
     let names' = names (book_in a.book.now) a.list in
-    let found = sym (rw rest at c.match_name.ensures) ∙ c.in-Name.is in
+    let found = sym (rw rest at c.match_name.ensures) ∙ c.in-Some.is in
     let s = drop at a.text.now in
     omega (arith, (found_within names' s (found_name (match_name names' s) found)).1, length-drop at a.text.now)
 
-pub returns-in-Name : goal.returns-in-Name
-returns-in-Name c =
+pub returns-in-Some : goal.returns-in-Some
+returns-in-Some c =
     let a = c.args in
     let at = a.self.at in
     let rest = rest_all at a.text.now in
     let names' = names (book_in a.book.now) a.list in
-    let found = sym (rw rest at c.match_name.ensures) ∙ c.in-Name.is in
+    let found = sym (rw rest at c.match_name.ensures) ∙ c.in-Some.is in
     sym (matched-name at names' (drop at a.text.now) found)
 
-pub returns-in-Nothing : goal.returns-in-Nothing
-returns-in-Nothing c =
+pub returns-in-None : goal.returns-in-None
+returns-in-None c =
     let a = c.args in
     let at = a.self.at in
     let rest = rest_all at a.text.now in
     let names' = names (book_in a.book.now) a.list in
-    let found = sym (rw rest at c.match_name.ensures) ∙ c.in-Nothing.is in
+    let found = sym (rw rest at c.match_name.ensures) ∙ c.in-None.is in
     sym (matched-nothing at names' (drop at a.text.now) found)

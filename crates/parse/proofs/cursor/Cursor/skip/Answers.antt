@@ -5,8 +5,8 @@ use native.Mathlib.Omega.{arith}
 use Rattle.parse.proofs.cursor.Moves.{skipped-few, skipped-past}
 use Rattle.parse.proofs.cursor.Cursor.skip.Goals as goal
 
-pub returns-then-text-at : goal.returns-then-text-at
-returns-then-text-at c =
+pub returns-then-text-self : goal.returns-then-text-self
+returns-then-text-self c =
     let a = c.args in
     let s = a.text.now in
     sym (skipped-few a.self.at a.k (drop a.self.at s) (rw length-drop (omega arith)))

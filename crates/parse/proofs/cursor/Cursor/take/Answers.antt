@@ -11,37 +11,21 @@ overflow_add-result c =
     let a = c.args in
     let at = a.self.at in
     let rest = rest_all at a.text.now in
-    let found = sym (rw rest at c.read_number.ensures) ∙ c.in-Value.is in
+    let found = sym (rw rest at c.read_number.ensures) ∙ c.in-Ok.is in
     omega (arith, taken-within a.kind a.k (drop at a.text.now) found, length-drop at a.text.now)
 
-pub returns-in-TooFew : goal.returns-in-TooFew
-returns-in-TooFew c =
+pub returns-in-Ok : goal.returns-in-Ok
+returns-in-Ok c =
     let a = c.args in
     let at = a.self.at in
     let rest = rest_all at a.text.now in
-    let found = sym (rw rest at c.read_number.ensures) ∙ c.in-TooFew.is in
+    let found = sym (rw rest at c.read_number.ensures) ∙ c.in-Ok.is in
     rw (taken-by at a.kind a.k (drop at a.text.now), found)
 
-pub returns-in-PlusSign : goal.returns-in-PlusSign
-returns-in-PlusSign c =
+pub returns-in-Err : goal.returns-in-Err
+returns-in-Err c =
     let a = c.args in
     let at = a.self.at in
     let rest = rest_all at a.text.now in
-    let found = sym (rw rest at c.read_number.ensures) ∙ c.in-PlusSign.is in
-    rw (taken-by at a.kind a.k (drop at a.text.now), found)
-
-pub returns-in-NoNumber : goal.returns-in-NoNumber
-returns-in-NoNumber c =
-    let a = c.args in
-    let at = a.self.at in
-    let rest = rest_all at a.text.now in
-    let found = sym (rw rest at c.read_number.ensures) ∙ c.in-NoNumber.is in
-    rw (taken-by at a.kind a.k (drop at a.text.now), found)
-
-pub returns-in-Value : goal.returns-in-Value
-returns-in-Value c =
-    let a = c.args in
-    let at = a.self.at in
-    let rest = rest_all at a.text.now in
-    let found = sym (rw rest at c.read_number.ensures) ∙ c.in-Value.is in
+    let found = sym (rw rest at c.read_number.ensures) ∙ c.in-Err.is in
     rw (taken-by at a.kind a.k (drop at a.text.now), found)
