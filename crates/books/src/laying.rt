@@ -32,8 +32,9 @@ fn put_room(name: &[u8], out: &mut [u8], at: usize) -> usize
     put_times(0, 20 - name.len(), out, end)
 }
 
-pub fn put_rooms(bytes: &[u8], places: &[usize; 64], out: &mut [u8]) -> usize
-    requires { 1344 ≤ length out.old }
+pub fn put_rooms(bytes: &[u8], places: &[usize], out: &mut [u8]) -> usize
+    requires places_len { length places.now ≡ 64 }
+    requires in_bounds { 1344 ≤ length out.old }
     ensures { Laid out.old out.new 0 result (opened_names (names_by bytes.now places.now)) }
 {
     let mut at = 0;
@@ -44,7 +45,8 @@ pub fn put_rooms(bytes: &[u8], places: &[usize; 64], out: &mut [u8]) -> usize
 }
 
 // How many bytes the book of these names has.
-pub fn book_length(bytes: &[u8], places: &[usize; 64]) -> usize
+pub fn book_length(bytes: &[u8], places: &[usize]) -> usize
+    requires { length places.now ≡ 64 }
     ensures { result ≡ length (book_bytes (names_by bytes.now places.now)) }
 {
     let mut n = 5;
@@ -55,8 +57,9 @@ pub fn book_length(bytes: &[u8], places: &[usize; 64]) -> usize
 }
 
 // The mark, version 1, and the names.
-pub fn put_book(bytes: &[u8], places: &[usize; 64], out: &mut [u8]) -> usize
-    requires { length (book_bytes (names_by bytes.now places.now)) ≤ length out.old }
+pub fn put_book(bytes: &[u8], places: &[usize], out: &mut [u8]) -> usize
+    requires places_len { length places.now ≡ 64 }
+    requires places_in_bounds { length (book_bytes (names_by bytes.now places.now)) ≤ length out.old }
     ensures { Laid out.old out.new 0 result (book_bytes (names_by bytes.now places.now)) }
 {
     let mut at = put_bytes(b"LNB\x00\x01", out, 0);

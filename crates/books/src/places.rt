@@ -1,17 +1,18 @@
 // The places of a book's names: in its bytes, where each says how far it is to the next, and in an opened book.
-ghost use Rattle.std.specs.Prelude.{List, ◌≡◌, ℕ, drop};
+ghost use Rattle.std.specs.Prelude.{List, ◌≡◌, ℕ, length, drop};
 ghost use Rattle.books.specs.Places.{names_by, shelved_by};
 ghost use Rattle.meaning.specs.Books.{names_in};
 ghost use Rattle.meaning.specs.OpenedBooks.{names_at};
 
 // The place behind the last name, if the bytes do not end before the names do.
-pub fn find_names(bytes: &[u8], places: &mut [usize; 64]) -> Option<usize>
+pub fn find_names(bytes: &[u8], places: &mut [usize]) -> Option<usize>
+    requires { length places.old ≡ 64 }
     ensures { shelved_by bytes.now places.new result ≡ names_in 64 (drop 5 bytes.now) }
 {
     let mut at = 5;
-    for i in 0..64 {
+    for place in places.iter_mut() {
         let length = *bytes.get(at)? as usize;
-        places[i] = at;
+        *place = at;
         at += 1 + length;
         if bytes.len() < at {
             return None;

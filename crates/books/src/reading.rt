@@ -38,8 +38,9 @@ fn check_start(bytes: &[u8]) -> Result<(), Refusal>
 }
 
 // The names that were found, and what is behind the last: only version 2 may have bytes there.
-fn check_found(bytes: &[u8], places: &[usize; 64], end: usize) -> Result<(), Refusal>
-    requires { 5 ≤ length bytes.now }
+fn check_found(bytes: &[u8], places: &[usize], end: usize) -> Result<(), Refusal>
+    requires in_bounds { 5 ≤ length bytes.now }
+    requires places_len { length places.now ≡ 64 }
     ensures { result ≡ shelved_check (version_of bytes.now) (shelved_by bytes.now places.now (Some end)) }
 {
     if version(bytes) != 2 && end < bytes.len() {
@@ -49,7 +50,8 @@ fn check_found(bytes: &[u8], places: &[usize; 64], end: usize) -> Result<(), Ref
 }
 
 #[tactic(auto, using(crate::proofs::reading::Laws::start_then), unfolding(meaning::specs::Books::book_check))]
-pub fn check_book(bytes: &[u8], places: &mut [usize; 64]) -> Result<(), Refusal>
+pub fn check_book(bytes: &[u8], places: &mut [usize]) -> Result<(), Refusal>
+    requires { length places.old ≡ 64 }
     ensures { Checks bytes.now places.new result }
 {
     check_start(bytes)?;

@@ -63,8 +63,8 @@ const SHELVES: [Shelf; 7] = [
 ];
 
 // A name against so many from the first of its list on.
-fn is_apart(bytes: &[u8], places: &[usize; 64], first: usize, count: usize, name: &[u8]) -> bool
-    requires { first + count ≤ 64 }
+fn is_apart(bytes: &[u8], places: &[usize], first: usize, count: usize, name: &[u8]) -> bool
+    requires { first + count ≤ length places.now }
     ensures { result ≡ apart_from (earlier bytes.now places.now first count) name.now }
 {
     places[first..first + count]
@@ -74,8 +74,8 @@ fn is_apart(bytes: &[u8], places: &[usize; 64], first: usize, count: usize, name
 
 // The name behind so many from the first of its list on.
 #[tactic(auto, unfolding(meaning::specs::Books::is_good))]
-fn is_good(bytes: &[u8], places: &[usize; 64], shelf: Shelf, first: usize, count: usize) -> bool
-    requires { first + count < 64 }
+fn is_good(bytes: &[u8], places: &[usize], shelf: Shelf, first: usize, count: usize) -> bool
+    requires { first + count < length places.now }
     ensures { result ≡ good_at shelf bytes.now places.now first count }
 {
     let name = name_at(bytes, places[first + count]);
@@ -85,15 +85,12 @@ fn is_good(bytes: &[u8], places: &[usize; 64], shelf: Shelf, first: usize, count
         && (!shelf.apart || is_apart(bytes, places, first, count, name))
 }
 
-fn check_shelf(
-    bytes: &[u8],
-    places: &[usize; 64],
-    shelf: Shelf,
-    first: usize,
-) -> Result<(), Refusal>
-    requires { first + shelf.count ≤ 64 }
+fn check_shelf(bytes: &[u8], places: &[usize], shelf: Shelf, first: usize) -> Result<(), Refusal>
+    requires places_len { length places.now ≡ 64 }
+    requires count_bound { first + shelf.count ≤ 64 }
     ensures { result ≡ list_check shelf bytes.now places.now first }
 {
+    // Over numbers: a name is looked at with all those before it, which no iterator over the places hands out.
     for count in 0..shelf.count {
         if !is_good(bytes, places, shelf, first, count) {
             return Err(Refusal::BookName((first + count + 1) as u32));
@@ -102,7 +99,8 @@ fn check_shelf(
     Ok(())
 }
 
-pub fn check_names(bytes: &[u8], places: &[usize; 64]) -> Result<(), Refusal>
+pub fn check_names(bytes: &[u8], places: &[usize]) -> Result<(), Refusal>
+    requires { length places.now ≡ 64 }
     ensures { result ≡ names_check shelves 1 (names_by bytes.now places.now) }
 {
     let mut first = 0;

@@ -52,16 +52,7 @@ pub fn put_nine(n: u32, out: &mut [u8], at: usize) -> usize
 fn has_four(n: u32, k: usize) -> bool
     ensures { result ≡ eqb (max k (text.width n)) 4 }
 {
-    if 4 < k {
-        return false;
-    }
-    if 10000 <= n {
-        return false;
-    }
-    if k == 4 {
-        return true;
-    }
-    1000 <= n
+    k <= 4 && n < 10000 && (k == 4 || 1000 <= n)
 }
 
 // More than two digits.

@@ -7,13 +7,7 @@ ghost use Rattle.meaning.specs.Bytes as text;
 fn width(n: u32) -> usize
     ensures { result ≡ text.width n }
 {
-    let mut w: usize = 1;
-    let mut m = n;
-    while 10 <= m {
-        m /= 10;
-        w += 1;
-    }
-    w
+    n.max(1).ilog10() as usize + 1
 }
 
 // The last w digits of n, from the right.
@@ -22,6 +16,7 @@ fn lay_digits(n: u32, w: usize, out: &mut [u8], at: usize)
     ensures { out.new ≡ sets out.old at (text.digits w n) }
 {
     let mut m = n;
+    // By places, from the last one: a part of the output lent for the loop is no plainer.
     for i in (0..w).rev() {
         out[at + i] = b'0' + (m % 10) as u8;
         m /= 10;

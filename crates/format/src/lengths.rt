@@ -13,7 +13,7 @@ use digits::padded::padded_length;
 use fields::signed::{is_negative, size};
 use fields::values::{place_of, quantity_of};
 use meaning::unit_sizes::{SECS_PER_HOUR, SECS_PER_MINUTE};
-use meaning::{Fields, Group, NameList, Role, Rule};
+use meaning::{Fields, Group, NameList, Role, Rule, Zone};
 use names::lengths::name_length;
 use pattern::quoted::{ends_in_quote, unescaped_length};
 use rules::step::Step;
@@ -55,16 +55,20 @@ fn group_length(colon: bool, group: Group, n: u32) -> usize
 }
 
 // A Z, or the sign, two digits of hours, and the groups.
-fn zone_length(z: i32, utc: bool, colon: bool, minutes: Group, seconds: Group) -> usize
+fn zone_length(zone: Zone, z: i32) -> usize
     requires { nat_abs z ≤ 86399 }
-    ensures { result ≡ length (zone_text utc colon minutes seconds z) }
+    ensures { result ≡ length (zone_text zone.utc zone.colon zone.minutes zone.seconds z) }
 {
     let n = size(z);
-    if is_z(utc, n) {
+    if is_z(zone.utc, n) {
         return 1;
     }
-    let m = group_length(colon, minutes, n % SECS_PER_HOUR / SECS_PER_MINUTE);
-    3 + m + group_length(colon, seconds, n % SECS_PER_MINUTE)
+    let m = group_length(
+        zone.colon,
+        zone.minutes,
+        n % SECS_PER_HOUR / SECS_PER_MINUTE,
+    );
+    3 + m + group_length(zone.colon, zone.seconds, n % SECS_PER_MINUTE)
 }
 
 // The name that a record gives.
@@ -75,6 +79,7 @@ fn length_of_name(book: &[u8], names: NameList, f: Fields) -> usize
     name_length(book, names, place_of(names, f))
 }
 
+// An arm for each rule, as its text is defined: what is asked of the record is asked of that text.
 pub fn rule_length(book: &[u8], rule: Rule, f: Fields) -> usize
     requires f_value { fields_check f ≡ Ok tt }
     requires f_len_bound { length (rule_text (book_in book.now) rule f) ≤ 2048 }
@@ -98,17 +103,13 @@ pub fn rule_length(book: &[u8], rule: Rule, f: Fields) -> usize
         Rule::Years(k) => year_length(f.year, k),
         Rule::FixedYear(k) => year_length(f.year, k),
         Rule::TwoDigitYear => two_digit_length(f.year),
-        Rule::Zone {
-            utc,
-            colon,
-            minutes,
-            seconds,
-        } => zone_length(f.offset, utc, colon, minutes, seconds),
+        Rule::Zone(zone) => zone_length(zone, f.offset),
     }
 }
 
 // What has a rule is measured by it. Called at five places, rule_length stays a call of its own, so that writing takes none of its
 // stack.
+// An arm for each step, as for a rule.
 pub fn step_length(book: &[u8], step: Step, pattern: &[u8], f: Fields) -> usize
     requires f_value { fields_check f ≡ Ok tt }
     requires held { Held pattern.now step }

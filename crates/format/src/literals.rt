@@ -5,20 +5,17 @@ ghost use Rattle.laws.specs.Laid.{Laid};
 ghost use Rattle.pattern.specs.First.{unescaped};
 ghost use Rattle.pattern.specs.Next.{Lost};
 
-use pattern::quoted::{bytes_of, ends_in_quote};
+use pattern::quoted::{ends_in_quote, unescaped_bytes};
 
 pub fn put_unescaped(src: &[u8], out: &mut [u8], at: usize) -> usize
     requires { at + length (unescaped src.now) ≤ length out.old }
     ensures { Laid out.old out.new at result (unescaped src.now) }
 {
+    // A count by hand: the place after the last byte is the answer.
     let mut next = at;
-    // A loop by hand: a doubled quote is two bytes, and no iterator of a slice steps by one or two.
-    let mut i = 0;
-    while i < src.len() {
-        let b = src[i];
+    for b in unescaped_bytes(src) {
         out[next] = b;
         next += 1;
-        i += bytes_of(b);
     }
     next
 }

@@ -19,6 +19,7 @@ const QUARTER: Rule = Rule::SkippedNumber {
 };
 
 // It calls itself for the quarter behind its letter, which keeps it a call of its own where steps are written.
+// An arm for each rule, as its text is defined: the room for that text is what the arm's writer asks for.
 pub fn format_rule(book: &[u8], rule: Rule, f: Fields, out: &mut [u8], at: usize) -> usize
     requires f_value { fields_check f ≡ Ok tt }
     requires f_in_bounds { at + length (rule_text (book_in book.now) rule f) ≤ length out.old }
@@ -45,11 +46,6 @@ pub fn format_rule(book: &[u8], rule: Rule, f: Fields, out: &mut [u8], at: usize
         Rule::Years(k) => zero_padded_i(f.year, k, out, at),
         Rule::FixedYear(k) => zero_padded_i(f.year, k, out, at),
         Rule::TwoDigitYear => two_digit_year(f.year, out, at),
-        Rule::Zone {
-            utc,
-            colon,
-            minutes,
-            seconds,
-        } => format_zone(f.offset, utc, colon, minutes, seconds, out, at),
+        Rule::Zone(zone) => format_zone(zone, f.offset, out, at),
     }
 }

@@ -19,7 +19,7 @@ use names::writing::format_name;
 use rules::short::Short;
 use rules::step::Step;
 
-// The number that a short one writes; the day stands for no number.
+// The number that a short one writes.
 pub fn short_number(short: Short, f: Fields) -> u32
     requires { fields_check f ≡ Ok tt }
     ensures { result ≡ quantity_of (short_quantity short) f }
@@ -33,7 +33,7 @@ pub fn short_number(short: Short, f: Fields) -> u32
     }
 }
 
-// By the table.
+// By the table: a byte that stands for itself, or what the rule of a symbol writes. There is no third role.
 fn put_run(
     book: &[u8],
     role: Role,
@@ -53,6 +53,7 @@ fn put_run(
     }
 }
 
+// An arm for each step, as its text is defined: the room for that text is what the arm's writer asks for.
 pub fn format_step(
     book: &[u8],
     step: Step,

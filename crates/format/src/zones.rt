@@ -7,9 +7,10 @@ ghost use Rattle.meaning.specs.Writing.{is_there, group_text, offset_digits, all
 use digits::laying::put_byte;
 use digits::numbers::{put_marked, zero_padded};
 use fields::signed::{is_negative, size};
-use meaning::Group;
 use meaning::unit_sizes::{SECS_PER_HOUR, SECS_PER_MINUTE};
+use meaning::{Group, Zone};
 
+// Arm by arm as the definition's own table: in one expression it would be no plainer.
 pub fn is_there(group: Group, n: u32) -> bool
     ensures { result ≡ is_there group n }
 {
@@ -31,50 +32,42 @@ fn put_group(colon: bool, group: Group, n: u32, out: &mut [u8], at: usize) -> us
 }
 
 // Behind the sign: hours, minutes, seconds.
-fn put_offset(
-    colon: bool,
-    minutes: Group,
-    seconds: Group,
-    n: u32,
-    out: &mut [u8],
-    at: usize,
-) -> usize
-    requires { at + length (offset_digits colon minutes seconds n) ≤ length out.old }
-    ensures { Laid out.old out.new at result (offset_digits colon minutes seconds n) }
+fn put_offset(zone: Zone, n: u32, out: &mut [u8], at: usize) -> usize
+    requires { at + length (offset_digits zone.colon zone.minutes zone.seconds n) ≤ length out.old }
+    ensures { Laid out.old out.new at result (offset_digits zone.colon zone.minutes zone.seconds n) }
 {
     let a = zero_padded(n / SECS_PER_HOUR, 2, out, at);
-    let b = put_group(colon, minutes, n % SECS_PER_HOUR / SECS_PER_MINUTE, out, a);
-    put_group(colon, seconds, n % SECS_PER_MINUTE, out, b)
+    let b = put_group(
+        zone.colon,
+        zone.minutes,
+        n % SECS_PER_HOUR / SECS_PER_MINUTE,
+        out,
+        a,
+    );
+    put_group(zone.colon, zone.seconds, n % SECS_PER_MINUTE, out, b)
 }
 
 // Whether every digit of a group is zero, where it is there.
 fn is_zero(group: Group, n: u32) -> bool
     ensures { (c : Bool) → result ≡ all_zero (group_text c group n) }
 {
-    match group {
-        Group::Never => true,
-        Group::NotZero => n == 0,
-        Group::Always => n == 0,
-    }
+    matches!(group, Group::Never) || n == 0
 }
 
 // Whether every digit behind the sign is zero.
-fn is_nothing(minutes: Group, seconds: Group, n: u32) -> bool
-    ensures { (c : Bool) → result ≡ all_zero (offset_digits c minutes seconds n) }
+fn is_nothing(zone: Zone, n: u32) -> bool
+    ensures { result ≡ all_zero (offset_digits zone.colon zone.minutes zone.seconds n) }
 {
-    if n / SECS_PER_HOUR == 0 {
-        if is_zero(minutes, n % SECS_PER_HOUR / SECS_PER_MINUTE) {
-            return is_zero(seconds, n % SECS_PER_MINUTE);
-        }
-    }
-    false
+    n / SECS_PER_HOUR == 0
+        && is_zero(zone.minutes, n % SECS_PER_HOUR / SECS_PER_MINUTE)
+        && is_zero(zone.seconds, n % SECS_PER_MINUTE)
 }
 
 // A plus where every digit is zero.
-fn is_minus(z: i32, minutes: Group, seconds: Group) -> bool
-    ensures { (c : Bool) → result ≡ is_minus c minutes seconds z }
+fn is_minus(zone: Zone, z: i32) -> bool
+    ensures { result ≡ is_minus zone.colon zone.minutes zone.seconds z }
 {
-    !is_nothing(minutes, seconds, size(z)) && is_negative(z)
+    !is_nothing(zone, size(z)) && is_negative(z)
 }
 
 fn sign_of(negative: bool) -> u8
@@ -83,20 +76,12 @@ fn sign_of(negative: bool) -> u8
     if negative { b'-' } else { b'+' }
 }
 
-fn put_zone(
-    negative: bool,
-    n: u32,
-    colon: bool,
-    minutes: Group,
-    seconds: Group,
-    out: &mut [u8],
-    at: usize,
-) -> usize
-    requires { at + length (when negative minus plus ∷ offset_digits colon minutes seconds n) ≤ length out.old }
-    ensures { Laid out.old out.new at result (when negative minus plus ∷ offset_digits colon minutes seconds n) }
+fn put_zone(zone: Zone, negative: bool, n: u32, out: &mut [u8], at: usize) -> usize
+    requires { at + length (when negative minus plus ∷ offset_digits zone.colon zone.minutes zone.seconds n) ≤ length out.old }
+    ensures { Laid out.old out.new at result (when negative minus plus ∷ offset_digits zone.colon zone.minutes zone.seconds n) }
 {
     let next = put_byte(sign_of(negative), out, at);
-    put_offset(colon, minutes, seconds, n, out, next)
+    put_offset(zone, n, out, next)
 }
 
 pub fn is_z(utc: bool, n: u32) -> bool
@@ -106,29 +91,13 @@ pub fn is_z(utc: bool, n: u32) -> bool
 }
 
 // X with offset 0 writes Z at any count.
-pub fn format_zone(
-    z: i32,
-    utc: bool,
-    colon: bool,
-    minutes: Group,
-    seconds: Group,
-    out: &mut [u8],
-    at: usize,
-) -> usize
-    requires { at + length (zone_text utc colon minutes seconds z) ≤ length out.old }
-    ensures { Laid out.old out.new at result (zone_text utc colon minutes seconds z) }
+pub fn format_zone(zone: Zone, z: i32, out: &mut [u8], at: usize) -> usize
+    requires { at + length (zone_text zone.utc zone.colon zone.minutes zone.seconds z) ≤ length out.old }
+    ensures { Laid out.old out.new at result (zone_text zone.utc zone.colon zone.minutes zone.seconds z) }
 {
     let n = size(z);
-    if is_z(utc, n) {
+    if is_z(zone.utc, n) {
         return put_byte(b'Z', out, at);
     }
-    put_zone(
-        is_minus(z, minutes, seconds),
-        n,
-        colon,
-        minutes,
-        seconds,
-        out,
-        at,
-    )
+    put_zone(zone, is_minus(zone, z), n, out, at)
 }

@@ -122,7 +122,7 @@ module _ (book : Book) (known : AsciiNames book) (f : Fields) where
   rule-ascii (Years k) = signed-ascii k f.year
   rule-ascii (FixedYear k) = signed-ascii k f.year
   rule-ascii TwoDigitYear = two-digit-ascii f.year
-  rule-ascii (Zone utc c minutes seconds) = zone-ascii utc c minutes seconds f.offset
+  rule-ascii (Zone zone) = zone-ascii zone.utc zone.colon zone.minutes zone.seconds f.offset
 
 pub english-ascii : AsciiNames english
 unfolding every names english bytes

@@ -80,7 +80,7 @@ rule-names b v (Letters l n) h = some-letters b v l h
 rule-names b v (Years k) h = h
 rule-names b v (FixedYear k) h = h
 rule-names b v TwoDigitYear h = h
-rule-names b v (Zone utc colon minutes seconds) h = h
+rule-names b v (Zone zone) h = h
 
 pub valid-there : (b : Book) → Valid b → names_there b ≡ true
 unfolding names_there

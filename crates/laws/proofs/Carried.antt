@@ -1,11 +1,10 @@
 -- The unit of a symbol agrees with the table's column of carried values: for every record, a value of that unit, or nothing where
 -- there is none.
-use mathlib.Core.Option.{Option, none, some}
+use Rattle.std.specs.Prelude.{Option, Some, None}
 use mathlib.Core.Path.{◌≡◌, refl, ap, sym, ◌∙◌}
 use lib.IntN.{ℤ}
-use Rattle.meaning.specs.Reading.{name_carries, carried_name, carried_rule, unit_of, rule_unit}
+use Rattle.meaning.specs.Reading.{value, name_carries, carried_name, carried_rule, unit_of, rule_unit}
 use Rattle.meaning.specs.declared.Carried.{Carried}
-use Rattle.meaning.specs.declared.Carried.TheVariants.{Nothing, Value}
 use Rattle.meaning.specs.declared.Fields.{Fields}
 use Rattle.meaning.specs.declared.NameList.{NameList}
 use Rattle.meaning.specs.declared.NameList.TheVariants.{EraAbbreviated, EraNarrow, EraWide, QuarterWide, MonthAbbreviated, MonthWide, MonthNarrow, WdayAbbreviated, WdayWide, WdayNarrow, WdayShort, PeriodUpper, PeriodLower, PeriodDotted, PeriodLetter, NoonUpper, NoonLower, NoonDotted, NoonLetter}
@@ -14,17 +13,17 @@ use Rattle.meaning.specs.declared.Rule.{Rule}
 use Rattle.meaning.specs.declared.Rule.TheVariants.{Number, SkippedNumber, LetterQuarter, SkippedName, MatchedName, Letters, Years, FixedYear, TwoDigitYear, Zone}
 
 -- a value of this unit, or nothing
-abbrev pub IsOf : Carried → Option ParseUnit → Type 0
-IsOf c none = c ≡ Nothing
-IsOf c (some u) = (z : ℤ) × (c ≡ Value u z)
+abbrev pub IsOf : Option Carried → Option ParseUnit → Type 0
+IsOf c None = c ≡ None
+IsOf c (Some u) = (z : ℤ) × (c ≡ value u z)
 
-is-of : (c : Carried) → IsOf c (unit_of c)
-is-of Nothing = refl
-is-of (Value u z) = (z, refl)
+is-of : (c : Option Carried) → IsOf c (unit_of c)
+is-of None = refl
+is-of (Some c) = (c.value, refl)
 
-of_is : (c : Carried) (unit : Option ParseUnit) → IsOf c unit → unit_of c ≡ unit
-of_is c none e = ap unit_of e
-of_is c (some u) e = ap unit_of e.1
+of_is : (c : Option Carried) (unit : Option ParseUnit) → IsOf c unit → unit_of c ≡ unit
+of_is c None e = ap unit_of e
+of_is c (Some u) e = ap unit_of e.1
 
 name-unit : (l : NameList) (f : Fields) → unit_of (carried_name l f) ≡ unit_of (name_carries l 0)
 unfolding carried_name name_carries
@@ -59,7 +58,7 @@ rule-unit (Letters l n) f = name-unit l f
 rule-unit (Years k) f = refl
 rule-unit (FixedYear k) f = refl
 rule-unit TwoDigitYear f = refl
-rule-unit (Zone z c minutes seconds) f = refl
+rule-unit (Zone zone) f = refl
 
 -- A symbol carries a value of a unit exactly where that is its unit, and nothing exactly where it has none.
 pub carries : (rule : Rule) (f : Fields) (unit : Option ParseUnit)

@@ -1,5 +1,6 @@
 -- The second edition beside the first. Two digits stand for the one year of its window that ends in them; at a minus yy is read as
 -- before; single M is read as d is; and whatever has neither of the two is read alike in both.
+use Rattle.std.specs.Prelude.{Option}
 use mathlib.Core.Bool.{Bool, true, false}
 use mathlib.Core.List.{List, [], ◌∷◌}
 use mathlib.Core.Path.{◌≡◌, refl, sym, ap, ◌∙◌}
@@ -87,7 +88,7 @@ alike (Letters l n) = true
 alike (Years k) = true
 alike (FixedYear k) = true
 alike TwoDigitYear = false
-alike (Zone z c minutes seconds) = true
+alike (Zone zone) = true
 
 rule-alike : (edition : Edition) (book : Book) (current : ℕ) (rule : Rule) → alike rule ≡ true → (s : List ℕ)
     → read_rule edition book current rule s ≡ read_rule First book current rule s
@@ -102,10 +103,10 @@ rule-alike Second book current (Letters l n) h s = refl
 rule-alike Second book current (Years k) h s = refl
 rule-alike Second book current (FixedYear k) h s = refl
 rule-alike Second book current TwoDigitYear h s = true-is-not-false (sym h)
-rule-alike Second book current (Zone z c minutes seconds) h s = refl
+rule-alike Second book current (Zone zone) h s = refl
 
 -- what follows a part, where it is alike for all that the part can give
-parts-alike : (i at : ℕ) (next next' : ℕ → Carried → Walk) → ((n : ℕ) (c : Carried) → next n c ≡ next' n c) → (g : Got Carried)
+parts-alike : (i at : ℕ) (next next' : ℕ → Option Carried → Walk) → ((n : ℕ) (c : Option Carried) → next n c ≡ next' n c) → (g : Got (Option Carried))
     → behind_part i at next g ≡ behind_part i at next' g
 parts-alike i at next next' h (got n c) = h n c
 parts-alike i at next next' h (stopped why place) = refl

@@ -1,5 +1,6 @@
 -- Laws of what the parts of a reading gave, the newest first: what holds of every entry holds of the last one of a unit, which is the
 -- one whose value and bytes the reading has; and where entries stand in order, those of two units do not overlap.
+use Rattle.std.specs.Prelude.{Option, Some, None}
 use mathlib.Core.Bool.{Bool, true, false}
 use mathlib.Core.List.{List, [], ◌∷◌}
 use mathlib.Core.Logic.{◌⊎◌, inl, inr}
@@ -9,7 +10,6 @@ use native.Mathlib.Omega.{arith}
 use borrow.Author.Tests.{eqb-true}
 use Rattle.meaning.specs.Whole.{Gave, unit_number, is_of, value_in, last_of, was_read, value_of, began_at, ended_at}
 use Rattle.meaning.specs.declared.Carried.{Carried}
-use Rattle.meaning.specs.declared.Carried.TheVariants.{Nothing, Value}
 use Rattle.laws.proofs.Tests.{by-test, true-is-not-false}
 
 -- what holds of every entry holds of the last one of a unit
@@ -60,9 +60,9 @@ all_end at [] h = tt
 all_end at (g ∷ gave) h =
     (h.0, all_map (λ o. o.end ≤ g.start) (λ o. o.end ≤ at) (λ o l. omega arith) gave (all_end g.start gave h.2))
 
-one_unit : (c : Carried) (j k : ℕ) → is_of j c ≡ true → is_of k c ≡ true → j ≡ k
-one_unit Nothing j k d e = true-is-not-false (sym d)
-one_unit (Value u z) j k d e = sym (eqb-true (unit_number u) j d) ∙ eqb-true (unit_number u) k e
+one_unit : (c : Option Carried) (j k : ℕ) → is_of j c ≡ true → is_of k c ≡ true → j ≡ k
+one_unit None j k d e = true-is-not-false (sym d)
+one_unit (Some c) j k d e = sym (eqb-true (unit_number c.unit) j d) ∙ eqb-true (unit_number c.unit) k e
 
 -- one of them ends where the other begins, or before
 abbrev Apart : List Gave → ℕ → ℕ → Type 0

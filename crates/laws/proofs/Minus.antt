@@ -12,14 +12,13 @@ use lib.IntN.{ℤ, pos, negsuc, nat_abs}
 use borrow.Author.Tests.{eqb-true, eq-eqb, ne_eqb, lt-ltb, ltb-true}
 use Rattle.meaning.specs.Bytes.{when, both, minus, plus}
 use Rattle.meaning.specs.Minus.{rust_offset_text, rust_zone_text, minus_nothing, cuts_seconds, ExceptedZone}
-use Rattle.meaning.specs.Rules.{date_role, otherwise_rule, pick, role_among, role_of, rule_of, time_role, zone}
+use Rattle.meaning.specs.Rules.{date_role, otherwise_rule, pick, role_among, role_of, rule_of, time_role, zone, zoned}
 use Rattle.meaning.specs.Writing.{is_negative, offset_digits, all_zero, is_minus, offset_text, zone_text}
 use Rattle.meaning.specs.declared.Group.{Group}
 use Rattle.meaning.specs.declared.Group.TheVariants.{Never, NotZero, Always}
 use Rattle.meaning.specs.declared.Pair.TheVariants.{Full}
 use Rattle.meaning.specs.declared.Role.TheVariants as role
 use Rattle.meaning.specs.declared.Rule.{Rule}
-use Rattle.meaning.specs.declared.Rule.TheVariants.{Zone}
 use Rattle.laws.proofs.Tests.{both-no, by-test, same_test, true-is-not-false, when-is}
 use Rattle.laws.proofs.Zones.{carried_size, is_never, value-is, zero-offset}
 
@@ -54,7 +53,7 @@ module _ (c : Bool) (minutes seconds : Group) (has-minutes : is_never minutes �
 
 module _ (utc : Bool) (count : ℕ) where
   row : (c : Bool) (minutes seconds : Group) → is_never minutes ≡ false → is_never seconds ≡ cuts_seconds count
-      → ExceptedZone utc count (role.Symbol (Zone utc c minutes seconds))
+      → ExceptedZone utc count (role.Symbol (zoned utc c minutes seconds))
   row c minutes seconds has cut =
       record {
         colon = c;

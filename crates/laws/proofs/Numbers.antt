@@ -1,5 +1,6 @@
 -- Digits and numbers come back: what `num` writes is read as the number it is of, and a reader of least to most bytes takes
 -- just its digits where there are as many as it may take or no digit follows.
+use Rattle.std.specs.Prelude.{None}
 use mathlib.Core.Bool.{Bool, true, false}
 use mathlib.Core.List.{List, [], ◌∷◌, ◌++◌}
 use mathlib.Core.Option.{some}
@@ -14,8 +15,7 @@ use borrow.Author.Tests.{le-leb, ne_eqb}
 use Rattle.meaning.specs.Bytes.{is_digit, digit_at}
 use Rattle.meaning.specs.Numerals.{Signed, integer, all_digits, decimal, sign_of, sized, largest, number_of}
 use Rattle.meaning.specs.Readers.{got, reach}
-use Rattle.meaning.specs.Reading.{zero_for, passed, taken_unit}
-use Rattle.meaning.specs.declared.Carried.TheVariants.{Nothing, Value}
+use Rattle.meaning.specs.Reading.{value, zero_for, passed, taken_unit}
 use Rattle.meaning.specs.declared.Numeral.{Numeral}
 use Rattle.meaning.specs.declared.Numeral.TheVariants.{Count, Year}
 use Rattle.meaning.specs.declared.ParseUnit.{ParseUnit}
@@ -58,12 +58,12 @@ module _ (least most : ℕ) (s r : List ℕ) (from : least ≤ length s) (some' 
       (λ k. digit-behind s r ∙ free (omega arith))
 
   pub taken-comes-back : (u : ParseUnit) (z : ℕ) → decimal 0 s ≤ 4294967295
-      → taken_unit u z (reach (most - least) least (s ++ r)) (s ++ r) ≡ got (length s) (Value u (pos (zero_for z (decimal 0 s))))
+      → taken_unit u z (reach (most - least) least (s ++ r)) (s ++ r) ≡ got (length s) (value u (pos (zero_for z (decimal 0 s))))
   taken-comes-back u z small =
       let n : Signed = record { negative = false; size = decimal 0 s } in
       let number : number_of Count (take (length s) (s ++ r)) ≡ some n = rw take-append_seam (digits-come-back Count s some' all small) in
       rw (reaches, take-goes-on Count (length s) (s ++ r) n (simp length-append (omega arith)) number) (simp add-zero)
 
-  pub skipped-comes-back : passed (reach (most - least) least (s ++ r)) (s ++ r) ≡ got (length s) Nothing
+  pub skipped-comes-back : passed (reach (most - least) least (s ++ r)) (s ++ r) ≡ got (length s) None
   skipped-comes-back =
       rw (reaches, skip_goes_on (length s) (s ++ r) (simp length-append (omega arith)), add-zero)

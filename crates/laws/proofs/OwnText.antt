@@ -1,5 +1,6 @@
 -- A part reads the same from its own text: where the text is cut behind what the part took of it, it takes the same and carries the
 -- same. So what it took is all that it needed.
+use Rattle.std.specs.Prelude.{Option, None}
 use mathlib.Core.Bool.{Bool, true, false}
 use mathlib.Core.List.{List, [], ◌∷◌}
 use mathlib.Core.Path.{◌≡◌, refl, sym, ◌∙◌}
@@ -12,10 +13,9 @@ use Rattle.meaning.specs.Bytes.{when, bytes, digit_at, minus}
 use Rattle.meaning.specs.Names.{Book, names}
 use Rattle.meaning.specs.Numerals.{integer}
 use Rattle.meaning.specs.Readers.{got, ◌>>=◌, done, skip, same, take_number, take_count, take_year, reach, match_name, letters, ZoneSign, utc, ahead, behind_utc, zone_sign}
-use Rattle.meaning.specs.Reading.{name_carries, minus_first, year_length, year, two_digits_mean, most_read, colon_length, zone_behind, zero_for, passed, literal_read, taken_year, take_group, zone_group, zone_size_with, zone_size, taken_unit, read_rule, read_step}
+use Rattle.meaning.specs.Reading.{value, name_carries, minus_first, year_length, year, two_digits_mean, most_read, colon_length, zone_behind, zero_for, passed, literal_read, taken_year, take_group, zone_group, zone_size_with, zone_size, taken_unit, read_rule, read_step}
 use Rattle.meaning.specs.Writing.{Step, literal, field, steps}
 use Rattle.meaning.specs.declared.Carried.{Carried}
-use Rattle.meaning.specs.declared.Carried.TheVariants.{Nothing, Value}
 use Rattle.meaning.specs.declared.Choices.{Choices}
 use Rattle.meaning.specs.declared.Edition.{Edition}
 use Rattle.meaning.specs.declared.Group.{Group}
@@ -36,10 +36,10 @@ own-count : (k : ℕ) → Own (take_count k)
 own-count k = own-done (take_number Count k) (λ n. n.size) (own-number Count k)
 
 own-unit : (u : ParseUnit) (z k : ℕ) → Own (taken_unit u z k)
-own-unit u z k = own-done (take_count k) (λ n. Value u (pos (zero_for z n))) (own-count k)
+own-unit u z k = own-done (take_count k) (λ n. value u (pos (zero_for z n))) (own-count k)
 
 own-passed : (k : ℕ) → Own (passed k)
-own-passed k = own-done (skip k) (λ _. Nothing) (own-skip k)
+own-passed k = own-done (skip k) (λ _. None) (own-skip k)
 
 own-year : (k : ℕ) → Own (take_year k)
 own-year k = own-done (take_number Year k) integer (own-number Year k)
@@ -112,12 +112,13 @@ own-rule edition book current TwoDigitYear h =
     own-when (λ s. eqb (minus_first s) 1) (taken_year 3) (take_year 2 >>= λ z. done (year (two_digits_mean edition current z))) 3 2 (own-full-year 3)
     (own-done (take_year 2) _ (own-year 2)) (takes-full-year 3) (λ s. takes-done 2 (take_year 2) _ s (takes-year 2 s))
     two-digit-cut
-own-rule edition book current (Zone z c minutes seconds) h =
-    own-done (zone_sign z >>= zone_behind (zone_size c minutes seconds)) _
-    (own-both (zone_sign z) (zone_behind (zone_size c minutes seconds)) (own_sign z) (own-behind-sign c minutes seconds))
+own-rule edition book current (Zone zone) h =
+    let size = zone_size zone.colon zone.minutes zone.seconds in
+    own-done (zone_sign zone.utc >>= zone_behind size) _
+    (own-both (zone_sign zone.utc) (zone_behind size) (own_sign zone.utc) (own-behind-sign zone.colon zone.minutes zone.seconds))
 
 own-literal : (strict : Bool) (w : List ℕ) → Own (literal_read strict w)
-own-literal true w = own-done (same w) (λ _. Nothing) (own_same w)
+own-literal true w = own-done (same w) (λ _. None) (own_same w)
 own-literal false w = own-passed (length w)
 
 own-step : (choices : Choices) (book : Book) (current : ℕ) (step : Step) → step_passes (whole_letters book) step ≡ true
@@ -127,7 +128,7 @@ own-step choices book current (literal w lost) h = own-literal choices.strict w
 own-step choices book current (field rule) h = own-rule choices.edition book current rule h
 
 pub own-text : (choices : Choices) (book : Book) (current : ℕ) (step : Step) (s : List ℕ) → step_passes (whole_letters book) step ≡ true
-    → {n : ℕ} {c : Carried} → read_step choices book current step s ≡ got n c
+    → {n : ℕ} {c : Option Carried} → read_step choices book current step s ≡ got n c
     → (n ≤ length s) × (read_step choices book current step (take n s) ≡ got n c)
 own-text choices book current step s h {n} {c} e =
     let o : OwnText (read_step choices book current step) s (got n c) = rw e at (own-step choices book current step h s) in

@@ -2,11 +2,12 @@
 -- stops where the bytes are there and begin with a plus; `number-at-plus`: it is stopped by a plus nowhere else.
 -- `read-but-for-plus` and `offset-but-for-plus`: reading and parse_offset answer 19 at a plus of the text, or all that they
 -- answered with the Rust's number reader. The laws before them go through the definitions of reading.
-use Rattle.std.specs.Prelude.{Ok, Err}
+use Rattle.std.specs.Prelude.{Ok, Err, Option}
 use mathlib.Core.Bool.{Bool, true, false}
 use mathlib.Core.List.{List, [], ◌∷◌}
 use mathlib.Core.Logic.{◌⊎◌, inl, inr}
-use mathlib.Core.Option.{Option, none, some}
+use mathlib.Core.Option as maths
+use mathlib.Core.Option.{none, some}
 use mathlib.Core.Path.{◌≡◌, refl, sym, ◌∙◌}
 use Prim.Native.Char.{code}
 use Prim.Native.Nat.{ℕ, zero, suc, ◌+◌, ◌-◌}
@@ -59,7 +60,7 @@ number-but-for-plus kind k s =
     (by-test (plus_first (take k s)) (λ p. rw p) (λ p. rw (p, no-plus-first kind (take k s) p))))
 
 -- the Rust's is never stopped by a plus
-taken-at-plus : (k : ℕ) (n : Option Signed) {i : ℕ} → taken_number k n ≡ stopped PlusSign i → ⊥
+taken-at-plus : (k : ℕ) (n : maths.Option Signed) {i : ℕ} → taken_number k n ≡ stopped PlusSign i → ⊥
 taken-at-plus k none e = let z : ◌≡◌ {A = ℕ} 0 1 = cc in omega arith
 taken-at-plus k (some n) e = let z : ◌≡◌ {A = ℕ} 0 1 = cc in omega arith
 
@@ -153,8 +154,8 @@ rule-plus edition book current (Years k) s = taken-year-plus (year_length s) s
 rule-plus edition book current (FixedYear k) s = taken-year-plus (minus_first s + k) s
 rule-plus edition book current TwoDigitYear s =
     by-test (eqb (minus_first s) 1) (λ e. rw e (taken-year-plus 3 s)) (λ e. rw e (on-plus _ _ s (λ z t. same) (year-plus 2 s)))
-rule-plus edition book current (Zone z c minutes seconds) s =
-    on-plus _ _ s (λ o t. same) (same-on _ _ s (λ sign t. zone-plus c minutes seconds sign t) (zone_sign z s))
+rule-plus edition book current (Zone zone) s =
+    on-plus _ _ s (λ o t. same) (same-on _ _ s (λ sign t. zone-plus zone.colon zone.minutes zone.seconds sign t) (zone_sign zone.utc s))
 
 step-plus : (choices : Choices) (book : Book) (current : ℕ) (step : Step) → Compared (λ number. read_step_with number choices book current step)
 unfolding read_step_with
@@ -168,15 +169,15 @@ data WalkPlusOrSame (text : List ℕ) : Walk → Walk → Type 0 where
   same-walk : {w : Walk} → WalkPlusOrSame text w w
 
 -- what follows part i at a place, by what it gave
-abbrev pub behind_part : ℕ → ℕ → (ℕ → Carried → Walk) → Got Carried → Walk
+abbrev pub behind_part : ℕ → ℕ → (ℕ → Option Carried → Walk) → Got (Option Carried) → Walk
 behind_part i at next g = elim g [ got n c ↦ next n c | stopped why place ↦ refused_at (InPart why i (at + place)) ]
 
-module _ (text : List ℕ) (i at : ℕ) (next next' : ℕ → Carried → Walk) (h : (n : ℕ) (c : Carried) → WalkPlusOrSame text (next n c) (next' n c)) where
-  same-part : (g : Got Carried) → WalkPlusOrSame text (behind_part i at next g) (behind_part i at next' g)
+module _ (text : List ℕ) (i at : ℕ) (next next' : ℕ → Option Carried → Walk) (h : (n : ℕ) (c : Option Carried) → WalkPlusOrSame text (next n c) (next' n c)) where
+  same-part : (g : Got (Option Carried)) → WalkPlusOrSame text (behind_part i at next g) (behind_part i at next' g)
   same-part (got n c) = h n c
   same-part (stopped why place) = same-walk
 
-  part-plus : {g g' : Got Carried} → PlusOrSame (drop at text) g g' → WalkPlusOrSame text (behind_part i at next g) (behind_part i at next' g')
+  part-plus : {g g' : Got (Option Carried)} → PlusOrSame (drop at text) g g' → WalkPlusOrSame text (behind_part i at next g) (behind_part i at next' g')
   part-plus (at-plus {i = j} e) = refused-at-plus (sym (get_or-drop at text j 0) ∙ e)
   part-plus (same {g}) = same-part g
 

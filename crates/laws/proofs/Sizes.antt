@@ -108,7 +108,7 @@ rule-length book short (Letters l n) f h = omega (arith, name-length (names book
 rule-length book short (Years k) f h = year-length k f.year h.year.1
 rule-length book short (FixedYear k) f h = year-length k f.year h.year.1
 rule-length book short TwoDigitYear f h = two-digit-length f.year
-rule-length book short (Zone utc c minutes seconds) f h = zone-length utc c minutes seconds f.offset h.offset
+rule-length book short (Zone zone) f h = zone-length zone.utc zone.colon zone.minutes zone.seconds f.offset h.offset
 
 -- the table: each row, and the rule of all other counts, at the least count that it is for
 

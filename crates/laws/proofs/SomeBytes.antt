@@ -1,5 +1,6 @@
 -- A part that carries a value took a byte at least: a number and a year have a digit, a zone has a sign, and a name has a letter where
 -- no name of the book is empty.
+use Rattle.std.specs.Prelude.{Option, Some, None}
 use mathlib.Core.Bool.{Bool, true, false}
 use mathlib.Core.List.{List, [], ◌∷◌}
 use mathlib.Core.Path.{◌≡◌, refl}
@@ -13,10 +14,9 @@ use Rattle.meaning.specs.Bytes.{bytes}
 use Rattle.meaning.specs.Names.{Book, english, names}
 use Rattle.meaning.specs.Numerals.{number_of}
 use Rattle.meaning.specs.Readers.{Got, got, stopped, Reader, behind, go_on, ◌>>=◌, done, skip, same, take_number, take_count, take_year, reach, begins, first_name, match_name, letters, zone_sign}
-use Rattle.meaning.specs.Reading.{minus_first, year_length, zone_behind, zone_size, literal_read, most_read, taken_year, read_rule, read_step}
+use Rattle.meaning.specs.Reading.{value, minus_first, year_length, zone_behind, zone_size, literal_read, most_read, taken_year, read_rule, read_step}
 use Rattle.meaning.specs.Writing.{Step, literal, field, steps}
 use Rattle.meaning.specs.declared.Carried.{Carried}
-use Rattle.meaning.specs.declared.Carried.TheVariants.{Nothing, Value}
 use Rattle.meaning.specs.declared.Choices.{Choices}
 use Rattle.meaning.specs.declared.Edition.{Edition}
 use Rattle.meaning.specs.declared.Numeral.{Numeral}
@@ -72,20 +72,20 @@ some-name i (name ∷ names) s h =
 
 -- where it carries a value, it took some
 
-abbrev CarriesSome : Got Carried → Type 0
-CarriesSome (got n Nothing) = Unit
-CarriesSome (got n (Value u z)) = 0 < n
+abbrev CarriesSome : Got (Option Carried) → Type 0
+CarriesSome (got n None) = Unit
+CarriesSome (got n (Some c)) = 0 < n
 CarriesSome (stopped why i) = Unit
 
-some-carries : (g : Got Carried) → TakesSome g → CarriesSome g
-some-carries (got n Nothing) h = tt
-some-carries (got n (Value u z)) h = h
+some-carries : (g : Got (Option Carried)) → TakesSome g → CarriesSome g
+some-carries (got n None) h = tt
+some-carries (got n (Some c)) h = h
 some-carries (stopped why i) h = tt
 
-carries-on : {A : Type 0} (g : Got A) (next : A → Reader Carried) (s : List ℕ) → TakesSome g → CarriesSome (go_on g next s)
+carries-on : {A : Type 0} (g : Got A) (next : A → Reader (Option Carried)) (s : List ℕ) → TakesSome g → CarriesSome (go_on g next s)
 carries-on g next s h = some-carries (go_on g next s) (some-on g next s h)
 
-carries-nothing : {A : Type 0} (g : Got A) (s : List ℕ) → CarriesSome (go_on g (λ _. done Nothing) s)
+carries-nothing : {A : Type 0} (g : Got A) (s : List ℕ) → CarriesSome (go_on g (λ _. done None) s)
 carries-nothing (got n a) s = tt
 carries-nothing (stopped why i) s = tt
 
@@ -110,9 +110,10 @@ carries-rule edition book current (Years k) h s = carries-year (year_length s) s
 carries-rule edition book current (FixedYear k) h s = carries-year (minus_first s + k) s
 carries-rule edition book current TwoDigitYear h s =
     when-is CarriesSome (eqb (minus_first s) 1) (λ _. carries-year 3 s) (λ _. carries-on (take_year 2 s) _ s (some-year 2 s))
-carries-rule edition book current (Zone z c minutes seconds) h s =
-    carries-on ((zone_sign z >>= zone_behind (zone_size c minutes seconds)) s) _ s
-    (some-on (zone_sign z s) (zone_behind (zone_size c minutes seconds)) s (some-taken 1 (zone_sign z s) (omega arith) (takes-sign z s)))
+carries-rule edition book current (Zone zone) h s =
+    let rest = zone_behind (zone_size zone.colon zone.minutes zone.seconds) in
+    carries-on ((zone_sign zone.utc >>= rest) s) _ s
+    (some-on (zone_sign zone.utc s) rest s (some-taken 1 (zone_sign zone.utc s) (omega arith) (takes-sign zone.utc s)))
 
 carries-literal : (strict : Bool) (w s : List ℕ) → CarriesSome (literal_read strict w s)
 carries-literal true w s = carries-nothing (same w s) s
@@ -125,7 +126,7 @@ carries-step choices book current (literal w lost) h s = carries-literal choices
 carries-step choices book current (field rule) h s = carries-rule choices.edition book current rule h s
 
 pub carries-some : (choices : Choices) (book : Book) (current : ℕ) (step : Step) (s : List ℕ) → step_passes (some_names book) step ≡ true
-    → {n : ℕ} {u : ParseUnit} {z : ℤ} → read_step choices book current step s ≡ got n (Value u z) → 0 < n
+    → {n : ℕ} {u : ParseUnit} {z : ℤ} → read_step choices book current step s ≡ got n (value u z) → 0 < n
 carries-some choices book current step s h e = rw e at (carries-step choices book current step h s)
 
 -- no name of a book that a part can find is empty

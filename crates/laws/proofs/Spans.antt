@@ -1,7 +1,7 @@
 -- The laws of spans. Of an accepted reading: a unit's span lies in the bytes read and is not empty, those of two units do not overlap,
 -- and the part that gave the value gives it again from the bytes of the span alone. Units that were not read have zeros, and so has
 -- all of a refused reading.
-use Rattle.std.specs.Prelude.{Result, Ok, Err}
+use Rattle.std.specs.Prelude.{Result, Ok, Err, Option, Some, None}
 use mathlib.Core.Bool.{true, false}
 use mathlib.Core.List.{List, [], ◌∷◌, map}
 use mathlib.Core.Logic.{◌⊎◌}
@@ -16,12 +16,11 @@ use borrow.Author.Tests.{eqb-true}
 use Rattle.meaning.specs.Bytes.{both}
 use Rattle.meaning.specs.Names.{Book}
 use Rattle.meaning.specs.Readers.{Got, got, stopped}
-use Rattle.meaning.specs.Reading.{read_step}
+use Rattle.meaning.specs.Reading.{value, read_step}
 use Rattle.meaning.specs.Trust.{part_at}
 use Rattle.meaning.specs.Whole.{Gave, Walk, walked, refused_at, walked_by, walk, unit_number, is_of, value_in, last_of, was_read, value_of, began_at, ended_at, fifteen, marked, reading_of, record_of, read_by, read_check, read}
 use Rattle.meaning.specs.Writing.{Step, steps}
 use Rattle.meaning.specs.declared.Carried.{Carried}
-use Rattle.meaning.specs.declared.Carried.TheVariants.{Nothing, Value}
 use Rattle.meaning.specs.Results.{Checked}
 use Rattle.meaning.specs.declared.Choices.{Choices}
 use Rattle.meaning.specs.declared.ParseUnit.{ParseUnit}
@@ -63,7 +62,7 @@ part-there ss i step rest e =
     record { there = h; is = cc; behind = cc }
 
 module _ (choices : Choices) (book : Book) (current : ℕ) (ss : List Step) (text : List ℕ) (whole : every (step_passes (whole_letters book)) ss ≡ true) where
-  kept-one : (i at n : ℕ) (c : Carried) (gave : List Gave) → i < length ss → Kept choices book current ss text at gave
+  kept-one : (i at n : ℕ) (c : Option Carried) (gave : List Gave) → i < length ss → Kept choices book current ss text at gave
       → read_step choices book current (part_at ss i) (drop at text) ≡ got n c
       → Kept choices book current ss text (at + n) (record { carried = c; start = at; end = at + n } ∷ gave)
   unfolding InOrder AllOf
@@ -76,7 +75,7 @@ module _ (choices : Choices) (book : Book) (current : ℕ) (ss : List Step) (tex
         from = (record { part = i; there = h; reads = rw m o.1 }, k.from);
       }
 
-  behind-part : (i at : ℕ) (next : ℕ → Carried → Walk) (g : Got Carried) → ((n : ℕ) (c : Carried) → g ≡ got n c → Walks choices book current ss text (next n c))
+  behind-part : (i at : ℕ) (next : ℕ → Option Carried → Walk) (g : Got (Option Carried)) → ((n : ℕ) (c : Option Carried) → g ≡ got n c → Walks choices book current ss text (next n c))
       → Walks choices book current ss text (behind_part i at next g)
   behind-part i at next (got n c) h = h n c refl
   behind-part i at next (stopped why place) h = tt
@@ -129,12 +128,12 @@ row_as gave k e h = rw e h
 
 -- an entry of a unit carries a value of it, and that took a byte
 
-unit-of : (c : Carried) (k : ℕ) → is_of k c ≡ true → (u : ParseUnit) × (unit_number u ≡ k) × (c ≡ Value u (value_in c))
-unit-of Nothing k e = true-is-not-false (sym e)
-unit-of (Value u z) k e = (u, eqb-true (unit_number u) k e, refl)
+unit-of : (c : Option Carried) (k : ℕ) → is_of k c ≡ true → (u : ParseUnit) × (unit_number u ≡ k) × (c ≡ value u (value_in c))
+unit-of None k e = true-is-not-false (sym e)
+unit-of (Some c) k e = (c.unit, eqb-true (unit_number c.unit) k e, refl)
 
 span-some : (choices : Choices) (book : Book) (current : ℕ) (ss : List Step) (text : List ℕ) → every (step_passes (some_names book)) ss ≡ true
-    → (start end : ℕ) (c : Carried) (k : ℕ) → is_of k c ≡ true → ReadFrom choices book current ss text start end c → start < end
+    → (start end : ℕ) (c : Option Carried) (k : ℕ) → is_of k c ≡ true → ReadFrom choices book current ss text start end c → start < end
 span-some choices book current ss text there start end c k e from =
     let u = unit-of c k e in
     let taken : 0 < end - start = carries-some choices book current (part_at ss from.part) _

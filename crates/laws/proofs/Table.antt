@@ -72,7 +72,7 @@ names_pass matched letters (Letters l n) = letters l n
 names_pass matched letters (Years k) = true
 names_pass matched letters (FixedYear k) = true
 names_pass matched letters TwoDigitYear = true
-names_pass matched letters (Zone utc colon minutes seconds) = true
+names_pass matched letters (Zone zone) = true
 
 module _ (test : Rule → Bool) (fixed : (c : ℕ) → test (FixedYear c) ≡ true) where
   otherwise-passes : (c : ℕ) (o : Otherwise) → otherwise_passes test o ≡ true → test (otherwise_rule c o) ≡ true

@@ -1,9 +1,10 @@
 -- Every value of a reading but the offset fits 32 signed bits: a number of the table has at most nine digits, a name is one of twelve at
 -- most, a year is held to 32 bits, and two digits stand for a year near the current one.
-use Rattle.std.specs.Prelude.{Ok, Err}
+use Rattle.std.specs.Prelude.{Ok, Err, Option, Some, None}
 use mathlib.Core.Bool.{Bool, true, false}
 use mathlib.Core.List.{List, [], ◌∷◌, map}
-use mathlib.Core.Option.{Option, none, some}
+use mathlib.Core.Option as maths
+use mathlib.Core.Option.{none, some}
 use mathlib.Core.Path.{◌≡◌, refl, ap}
 use Prim.Native.Nat.{ℕ, zero, suc, ◌+◌, ◌*◌, ◌-◌, ◌^◌, ◌≤◌, ◌<◌}
 use native.Mathlib.Nat.{pow-succ', pow-le-pow_right, mul-le-mul_right, mul_assoc, lt_of_lt_of_le}
@@ -22,7 +23,6 @@ use Rattle.meaning.specs.Reading.{name_carries, minus_first, year_length, two_di
 use Rattle.meaning.specs.Whole.{Gave, Walk, walked, refused_at, walked_by, walk, unit_number, is_of, value_in, last_of, value_of, fifteen, record_of, read_by, read_check, read}
 use Rattle.meaning.specs.Writing.{Step, literal, field, steps, is_negative}
 use Rattle.meaning.specs.declared.Carried.{Carried}
-use Rattle.meaning.specs.declared.Carried.TheVariants.{Nothing, Value}
 use Rattle.meaning.specs.Results.{Checked}
 use Rattle.meaning.specs.declared.Choices.{Choices}
 use Rattle.meaning.specs.declared.Edition.{Edition}
@@ -109,7 +109,7 @@ gives-number kind k s =
     when-is (Gives (SizedTo k kind)) (ltb (length s) k) (λ _. tt)
     (λ _. when-is (Gives (SizedTo k kind)) (plus_first (take k s)) (λ _. tt) (λ _. go (number_of kind (take k s)) refl))
   where
-    go : (o : Option Signed) → number_of kind (take k s) ≡ o → Gives (SizedTo k kind) (taken_number k o)
+    go : (o : maths.Option Signed) → number_of kind (take k s) ≡ o → Gives (SizedTo k kind) (taken_number k o)
     go none e = tt
     go (some n) e = wider (length (take k s)) k kind n (omega (arith, length-take k s)) (some_number kind (take k s) e)
 
@@ -162,9 +162,9 @@ gives-name i (name ∷ ns) s =
 
 -- what is carried: any unit's value but the offset
 
-abbrev ShortCarried : Carried → Type 0
-ShortCarried Nothing = Unit
-ShortCarried (Value u z) = unit_number u < 14 → Short z
+abbrev ShortCarried : Option Carried → Type 0
+ShortCarried None = Unit
+ShortCarried (Some c) = unit_number c.unit < 14 → Short c.value
 
 -- no more than twelve months
 pub record FewMonths (book : Book) : Type 0 where
@@ -197,7 +197,7 @@ short-name book few NoonLower i h = short-period (ltb i 3)
 short-name book few NoonDotted i h = short-period (ltb i 2)
 short-name book few NoonLetter i h = short-period (ltb i 2)
 
-gives_nothing : {A : Type 0} (g : Got A) (s : List ℕ) → Gives ShortCarried (go_on g (λ _. done Nothing) s)
+gives_nothing : {A : Type 0} (g : Got A) (s : List ℕ) → Gives ShortCarried (go_on g (λ _. done None) s)
 gives_nothing (got n a) s = tt
 gives_nothing (stopped why i) s = tt
 
@@ -217,7 +217,7 @@ nine_digits (Letters l n) = true
 nine_digits (Years k) = true
 nine_digits (FixedYear k) = true
 nine_digits TwoDigitYear = true
-nine_digits (Zone z c minutes seconds) = true
+nine_digits (Zone zone) = true
 
 nine-read : (edition : Edition) (q : Quantity) (most : ℕ) → most ≤ 9 → most_read edition q most ≤ 9
 unfolding most_read
@@ -273,9 +273,9 @@ module _ (edition : Edition) (book : Book) (few : FewMonths book) (current : ℕ
   short-rule TwoDigitYear h s =
       when-is (Gives ShortCarried) (eqb (minus_first s) 1) (λ _. short-year 3 s)
       (λ _. gives-on (YearTo 2) ShortCarried (take_year 2 s) _ s (gives-year 2 s) (λ z t y _. two-digits-short edition current z near y.below))
-  short-rule (Zone z c minutes seconds) h s =
-      gives-on (λ _. Unit) ShortCarried ((zone_sign z >>= zone_behind (zone_size c minutes seconds)) s) _ s
-      (gives-any ((zone_sign z >>= zone_behind (zone_size c minutes seconds)) s)) (λ o t _ offset. absurd (omega arith))
+  short-rule (Zone zone) h s =
+      let offset = (zone_sign zone.utc >>= zone_behind (zone_size zone.colon zone.minutes zone.seconds)) s in
+      gives-on (λ _. Unit) ShortCarried offset _ s (gives-any offset) (λ o t _ offset'. absurd (omega arith))
 
   short-literal : (strict : Bool) (w s : List ℕ) → Gives ShortCarried (literal_read strict w s)
   short-literal true w s = gives_nothing (same w s) s
@@ -298,7 +298,7 @@ short-rest : (checked : Checked) (at : ℕ) (gave : List Gave) → ShortEntries 
 short-rest (Ok _) at gave h = h
 short-rest (Err why) at gave h = tt
 
-short-part : (i at : ℕ) (next : ℕ → Carried → Walk) (g : Got Carried) → Gives ShortCarried g → ((n : ℕ) (c : Carried) → ShortCarried c → ShortWalk (next n c))
+short-part : (i at : ℕ) (next : ℕ → Option Carried → Walk) (g : Got (Option Carried)) → Gives ShortCarried g → ((n : ℕ) (c : Option Carried) → ShortCarried c → ShortWalk (next n c))
     → ShortWalk (behind_part i at next g)
 short-part i at next (got n c) h k = k n c h
 short-part i at next (stopped why place) h k = tt
@@ -320,9 +320,9 @@ module _ (choices : Choices) (book : Book) (few : FewMonths book) (current : ℕ
 
 -- the last value of a unit
 
-carried-short : (c : Carried) (k : ℕ) → k < 14 → is_of k c ≡ true → ShortCarried c → Short (value_in c)
-carried-short Nothing k h e short = omega arith
-carried-short (Value u z) k h e short = short (omega (arith, eqb-true (unit_number u) k e))
+carried-short : (c : Option Carried) (k : ℕ) → k < 14 → is_of k c ≡ true → ShortCarried c → Short (value_in c)
+carried-short None k h e short = omega arith
+carried-short (Some c) k h e short = short (omega (arith, eqb-true (unit_number c.unit) k e))
 
 last-short : (gave : List Gave) (k : ℕ) → k < 14 → ShortEntries gave → Short (value_of gave k)
 unfolding AllOf last_of

@@ -17,15 +17,14 @@ use Rattle.meaning.specs.Bytes.{when, both, digit_at, num, plus, minus}
 use Rattle.meaning.specs.Names.{Book}
 use Rattle.meaning.specs.Numerals.{Signed, number_of}
 use Rattle.meaning.specs.Readers.{got, ◌>>=◌, done, skip, take_count, ahead, behind_utc, zone_sign}
-use Rattle.meaning.specs.Reading.{colon_length, take_group, zone_group, zone_size_with, zone_size, zone_behind, read_rule, carried_offset}
+use Rattle.meaning.specs.Reading.{value, colon_length, take_group, zone_group, zone_size_with, zone_size, zone_behind, read_rule, carried_offset}
+use Rattle.meaning.specs.Rules.{zoned}
 use Rattle.meaning.specs.Writing.{is_negative, colon_text, group_text, offset_digits, all_zero, is_minus, offset_text, zone_text}
-use Rattle.meaning.specs.declared.Carried.TheVariants.{Value}
 use Rattle.meaning.specs.declared.Edition.{Edition}
 use Rattle.meaning.specs.declared.Group.{Group}
 use Rattle.meaning.specs.declared.Group.TheVariants.{Never, NotZero, Always}
 use Rattle.meaning.specs.declared.Numeral.TheVariants.{Count}
 use Rattle.meaning.specs.declared.ParseUnit.TheVariants as unit
-use Rattle.meaning.specs.declared.Rule.TheVariants.{Zone}
 use Rattle.laws.proofs.Digits.{all-num, all-zero-append, decimal-num, num-some, num-fits, digit-in, zero-num}
 use Rattle.laws.proofs.Numbers.{digits-come-back}
 use Rattle.laws.proofs.Readers.{in-turn, skip_goes_on, take-goes-on}
@@ -226,8 +225,8 @@ module _ (edition : Edition) (book : Book) (current : ℕ) (utc' c : Bool) (minu
       (λ e. rw e (carried-signed seconds z))
 
   offset-comes-back : (z : ℤ) (r : List ℕ) → nat_abs z ≤ 86399 → Free c minutes (group_text c seconds (nat_abs z % 60) ++ r) → Free c seconds r
-      → read_rule edition book current (Zone utc' c minutes seconds) (offset_text c minutes seconds z ++ r)
-      ≡ got (length (offset_text c minutes seconds z)) (Value unit.Offset (carried_offset seconds z))
+      → read_rule edition book current (zoned utc' c minutes seconds) (offset_text c minutes seconds z ++ r)
+      ≡ got (length (offset_text c minutes seconds z)) (value unit.Offset (carried_offset seconds z))
   unfolding read_rule
   offset-comes-back z r small free free' =
       rw (offset-split c minutes seconds z r, read_behind (is_minus c minutes seconds z) (nat_abs z) r small free free', carried-by-sign z, offset-size c minutes seconds z, add-zero)
@@ -240,14 +239,14 @@ no-offset seconds (negsuc n) e = absurd (omega arith)
 
 -- Z, which stands for no offset
 z-comes-back : (edition : Edition) (book : Book) (current : ℕ) (c : Bool) (minutes seconds : Group) (z : ℤ) (r : List ℕ) → nat_abs z ≡ 0
-    → read_rule edition book current (Zone true c minutes seconds) (code "Z" ∷ r) ≡ got 1 (Value unit.Offset (carried_offset seconds z))
+    → read_rule edition book current (zoned true c minutes seconds) (code "Z" ∷ r) ≡ got 1 (value unit.Offset (carried_offset seconds z))
 unfolding read_rule zone_sign
 z-comes-back edition book current c minutes seconds z r e = rw (no-offset seconds z e)
 
 pub zone-comes-back : (edition : Edition) (book : Book) (current : ℕ) (utc' c : Bool) (minutes seconds : Group) → is_never minutes ≡ false → (z : ℤ) (r : List ℕ)
     → nat_abs z ≤ 86399 → Free c minutes (group_text c seconds (nat_abs z % 60) ++ r) → Free c seconds r
-    → read_rule edition book current (Zone utc' c minutes seconds) (zone_text utc' c minutes seconds z ++ r)
-    ≡ got (length (zone_text utc' c minutes seconds z)) (Value unit.Offset (carried_offset seconds z))
+    → read_rule edition book current (zoned utc' c minutes seconds) (zone_text utc' c minutes seconds z ++ r)
+    ≡ got (length (zone_text utc' c minutes seconds z)) (value unit.Offset (carried_offset seconds z))
 zone-comes-back edition book current utc' c minutes seconds has z r small free free' =
     by-test (both utc' (eqb (nat_abs z) 0))
     (λ e.

@@ -60,4 +60,4 @@ most_bytes (Letters l n) = most_letters l
 most_bytes (Years k) = 1 + max k 7
 most_bytes (FixedYear k) = 1 + max k 7
 most_bytes TwoDigitYear = 3
-most_bytes (Zone utc colon minutes seconds) = 3 + group_most colon minutes + group_most colon seconds
+most_bytes (Zone zone) = 3 + group_most zone.colon zone.minutes + group_most zone.colon zone.seconds

@@ -1,1 +1,3 @@
+pub mod LentRows
 pub mod LineReaders
+pub mod Walk

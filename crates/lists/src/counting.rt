@@ -1,30 +1,12 @@
 // How many lines a text has, before any of them is read.
 ghost use Rattle.std.specs.Prelude.{◌≡◌, length};
-ghost use Rattle.laws.specs.Lists.{newlines};
 ghost use Rattle.meaning.specs.Lists.{lines};
 
-// The newlines: with no way out of its turns, so that they can go several at once.
-fn count_newlines(text: &[u8]) -> usize
-    ensures { result ≡ newlines text.now }
-{
-    let mut n = 0;
-    for &byte in text {
-        n = if byte == b'\n' { n + 1 } else { n };
-    }
-    n
-}
+use crate::line_reader::line_reader;
 
-// One for each newline, and one more for a last line without.
+// As many as a walk over the lines finds.
 pub fn count_lines(text: &[u8]) -> usize
     ensures { result ≡ length (lines text.now) }
 {
-    let n = text.len();
-    if n == 0 {
-        return 0;
-    }
-    let ended = count_newlines(text);
-    if text[n - 1] == b'\n' {
-        return ended;
-    }
-    ended + 1
+    line_reader(text).count()
 }

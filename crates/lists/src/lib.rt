@@ -9,12 +9,13 @@ pub mod line_reader;
 pub mod lines;
 
 ghost use Rattle.std.specs.Prelude.{◌≡◌, length, map};
+ghost use Rattle.lists.specs.LentRows.{rows_in, SameRows};
 ghost use Rattle.lists.specs.LineReaders.{TakesLines, StandsFor, rows_check};
 ghost use Rattle.meaning.specs.Lists.{lines, listed_by, rows_by, rows_of};
 ghost use Rattle.meaning.specs.OpenedBooks.{book_in};
 ghost use Rattle.meaning.specs.Promises.{ReadsList};
 
-use crate::cells::{lay_lines, rows_check};
+use crate::cells::{LentRows, lay_lines};
 use crate::counting::count_lines;
 use fields::checks::trust_check;
 use meaning::{Choices, Refusal};
@@ -25,23 +26,22 @@ use rows::readings::read_row;
 pub fn lay_list<F: Fn(&[u8], &mut [i64]) -> u32>(
     text: &[u8],
     read: F,
-    days: &mut [i32],
-    months: &mut [i32],
-    years: &mut [i32],
-    codes: &mut [u32],
+    rows: &mut LentRows,
 ) -> Result<usize, Refusal>
     requires { TakesLines (F.pre read) }
-    ensures listed { result ≡ listed_by (rows_check text.now (rows_of days.old months.old years.old codes.old)) (length (lines text.now)) }
-    ensures rows { (reading : _) → StandsFor (F.post read) reading → rows_of days.new months.new years.new codes.new ≡ rows_by (rows_check text.now (rows_of days.old months.old years.old codes.old)) (map reading (lines text.now)) (rows_of days.old months.old years.old codes.old) }
+    ensures same { SameRows rows.old rows.new }
+    ensures listed { result ≡ listed_by (rows_check text.now (rows_in rows.old)) (length (lines text.now)) }
+    ensures rows { (reading : _) → StandsFor (F.post read) reading → rows_in rows.new ≡ rows_by (rows_check text.now (rows_in rows.old)) (map reading (lines text.now)) (rows_in rows.old) }
 {
     let n = count_lines(text);
-    rows_check(n, days.len(), months.len(), years.len(), codes.len())?;
-    lay_lines(text, read, days, months, years, codes);
+    rows.check(n)?;
+    lay_lines(text, read, rows);
     Ok(n)
 }
 
 // Reads a list with these choices: the day, the month and the year of line i into cell i of their rows, and its answer's number into that
-// of the codes. Cells past the last line stay, and a refused list stores nothing.
+// of the codes. Cells past the last line stay, and a refused list stores nothing. The rows stay four parameters: README names this
+// function, and a caller lends it the rows as they are.
 pub fn read_list(
     choices: Choices,
     book: &[u8],
@@ -55,7 +55,13 @@ pub fn read_list(
 ) -> Result<usize, Refusal>
     ensures { ReadsList choices (book_in book.now) pattern.now text.now year (rows_of days.old months.old years.old codes.old) result (rows_of days.new months.new years.new codes.new) }
 {
+    let mut rows = LentRows {
+        days,
+        months,
+        years,
+        codes,
+    };
     trust_check(choices.edition, pattern, year)?;
     let read = |line: &[u8], row: &mut [i64]| read_row(choices, book, pattern, line, year, row);
-    lay_list(text, read, days, months, years, codes)
+    lay_list(text, read, &mut rows)
 }

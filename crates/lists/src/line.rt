@@ -3,11 +3,11 @@ ghost use Rattle.std.specs.Prelude.{◌≡◌};
 ghost use Rattle.meaning.specs.OpenedBooks.{book_in};
 ghost use Rattle.meaning.specs.Promises.{ReadsLine};
 
-use crate::lines::{line_end, next_line};
+use crate::lines::{Places, line_at};
 use meaning::{Choices, LineRead};
 use reader::parse_with;
 
-// Reads the line that starts at a place, as it would be read by itself; there is none where the text ends, or behind.
+// Reads the line that starts at a place, as it would be read by itself; there is none where the text ends, or after.
 pub fn read_line(
     choices: Choices,
     book: &[u8],
@@ -18,12 +18,10 @@ pub fn read_line(
 ) -> Option<LineRead>
     ensures { ReadsLine choices (book_in book.now) pattern.now text.now at year result }
 {
-    let size = text.len();
-    if size <= at {
+    if text.len() <= at {
         return None;
     }
-    let end = line_end(text, at);
-    let next = next_line(text, end);
+    let Places { end, next, .. } = line_at(text, at);
     let reading = parse_with(choices, book, pattern, &text[at..end], year);
     Some(LineRead {
         start: at,

@@ -1,10 +1,13 @@
 // The line reader: a thin record that holds a pasted text and the place of its next line; plain functions on slice and number do the
-// work. Its steps from the start give the lines in order: `steps-are-lines` in laws' Lists.
+// work. Its steps from the start give the lines in order: `steps-are-lines` in laws' Lists. As an iterator it gives where they are.
 ghost use Rattle.std.specs.Prelude.{◌≡◌};
+ghost use Rattle.std.specs.Iterator.{item_count};
+ghost use Rattle.lists.specs.Walk.{lines_left, Walks};
 ghost use Rattle.meaning.specs.OpenedBooks.{book_in};
 ghost use Rattle.meaning.specs.Promises.{ReadsLine};
 
 use crate::line::read_line;
+use crate::lines::{Places, line_at};
 use meaning::{Choices, LineRead};
 
 #[derive(Clone, Copy)]
@@ -40,5 +43,22 @@ pub fn moved<'a>(reader: LineReader<'a>, next: usize) -> LineReader<'a>
     LineReader {
         text: reader.text,
         at: next,
+    }
+}
+
+impl<'a> Iterator for LineReader<'a> {
+    type Item = Places;
+
+    ghost next_gives = { Walks };
+
+    ghost remaining = { item_count lines_left };
+
+    fn next(&mut self) -> Option<Places> {
+        if self.text.len() <= self.at {
+            return None;
+        }
+        let line = line_at(self.text, self.at);
+        self.at = line.next;
+        Some(line)
     }
 }

@@ -5,13 +5,13 @@ use mathlib.Core.Path.{◌≡◌, refl}
 use Prim.Native.Nat.{ℕ}
 use borrow.Author.Tests.{eq-eqb}
 use lib.IntN.{ℤ}
+use Rattle.meaning.specs.Reading.{value}
 use Rattle.meaning.specs.Whole.{Gave, unit_number, last_of, value_of, began_at, ended_at}
-use Rattle.meaning.specs.declared.Carried.TheVariants.{Value}
 use Rattle.meaning.specs.declared.ParseUnit.{ParseUnit}
 
 module _ (u : ParseUnit) (z : ℤ) (start end : ℕ) (gave : List Gave) where
   abbrev all : List Gave
-  all = record { carried = Value u z; start = start; end = end } ∷ gave
+  all = record { carried = value u z; start = start; end = end } ∷ gave
 
   pub last-wins : (value_of all (unit_number u) ≡ z) × (began_at all (unit_number u) ≡ start) × (ended_at all (unit_number u) ≡ end)
   unfolding last_of

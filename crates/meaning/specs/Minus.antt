@@ -3,11 +3,11 @@
 use Rattle.std.specs.Prelude.{Bool, true, false, List, [], ◌∷◌, ◌≡◌, ℕ, eqb, ltb, ℤ, nat_abs}
 use Prim.Native.Char.{code}
 use Rattle.meaning.specs.Bytes.{when, both, minus, plus}
+use Rattle.meaning.specs.Rules.{zoned}
 use Rattle.meaning.specs.Writing.{is_negative, offset_digits, all_zero}
 use Rattle.meaning.specs.declared.Group.{Group}
 use Rattle.meaning.specs.declared.Role.{Role}
 use Rattle.meaning.specs.declared.Role.TheVariants as role
-use Rattle.meaning.specs.declared.Rule.TheVariants.{Zone}
 
 unfoldable pub rust_offset_text : Bool → Group → Group → ℤ → List ℕ
 rust_offset_text c minutes seconds z = when (is_negative z) minus plus ∷ offset_digits c minutes seconds (nat_abs z)
@@ -32,5 +32,5 @@ pub record ExceptedZone (utc : Bool) (count : ℕ) (does : Role) : Type 0 where
   pub colon : Bool
   pub minutes : Group
   pub seconds : Group
-  pub is-zone : does ≡ role.Symbol (Zone utc colon minutes seconds)
+  pub is-zone : does ≡ role.Symbol (zoned utc colon minutes seconds)
   pub range : (z : ℤ) → minus_nothing colon minutes seconds z ≡ excepted_at count z

@@ -3,6 +3,7 @@
 use Rattle.std.specs.Prelude.{Bool, true, false, List, [], ◌∷◌, ℕ, eqb, leb}
 use Prim.Native.Char.{code}
 use Rattle.meaning.specs.Bytes.{when}
+use Rattle.meaning.specs.declared.Group.{Group}
 use Rattle.meaning.specs.declared.Group.TheVariants.{Never, NotZero, Always}
 use Rattle.meaning.specs.declared.NameList.TheVariants.{EraAbbreviated, EraNarrow, EraWide, QuarterWide, MonthAbbreviated, MonthWide, MonthNarrow, WdayAbbreviated, WdayWide, WdayNarrow, WdayShort, PeriodUpper, PeriodLower, PeriodDotted, PeriodLetter, NoonUpper, NoonLower, NoonDotted, NoonLetter}
 use Rattle.meaning.specs.declared.Pair.{Pair}
@@ -156,15 +157,19 @@ nanos =
       otherwise = always (fraction 3 unit.Millis);
     }
 
+-- the rule of a zone of this form
+abbrev pub zoned : Bool → Bool → Group → Group → Rule
+zoned utc c minutes seconds = Zone (record { utc = utc; colon = c; minutes = minutes; seconds = seconds })
+
 -- "1 mm if not zero; 2 mm; 4 mm and ss if not zero; 5 :mm and :ss if not zero; else :mm"
 abbrev pub zone : ℕ → Bool → Symbol
 zone letter utc =
     record {
       letter = letter;
       rows =
-          just 1 is Zone utc false NotZero Never ∷ just 2 is Zone utc false Always Never
-          ∷ just 4 is Zone utc false Always NotZero ∷ just 5 is Zone utc true Always NotZero ∷ [];
-      otherwise = always (Zone utc true Always Never);
+          just 1 is zoned utc false NotZero Never ∷ just 2 is zoned utc false Always Never
+          ∷ just 4 is zoned utc false Always NotZero ∷ just 5 is zoned utc true Always NotZero ∷ [];
+      otherwise = always (zoned utc true Always Never);
     }
 
 abbrev pub date_symbols : List Symbol

@@ -1,6 +1,6 @@
 -- Specification, "Answer numbers": the whole answer of each function, with its checks in their order. Splitting; writing for
 -- a pair; reading for a pair, strict or not, in an edition; parse_offset.
-use Rattle.std.specs.Prelude.{Bool, true, false, List, [], ◌∷◌, ◌++◌, map, ℕ, suc, ◌+◌, ◌*◌, ◌-◌, ◌/◌, ◌%◌, ◌^◌, eqb, leb, ℤ, pos, neg_ℤ, nat_abs, length, get_or, drop, replicate, Result, Ok, Err}
+use Rattle.std.specs.Prelude.{Bool, true, false, List, [], ◌∷◌, ◌++◌, map, ℕ, suc, ◌+◌, ◌*◌, ◌-◌, ◌/◌, ◌%◌, ◌^◌, eqb, leb, ℤ, pos, neg_ℤ, nat_abs, length, get_or, drop, replicate, Result, Ok, Err, Option, Some, None}
 use Prim.Native.Char.{code}
 use Rattle.std.proofs.lemmas.List.Edits.{sets}
 use Rattle.meaning.specs.Answers.{◌else◌, refuse_unless, bytes_check, pattern_check, fields_check, room_check, text_check, current_year_check, rest_check}
@@ -13,7 +13,6 @@ use Rattle.meaning.specs.Splitting.{parts, no_part}
 use Rattle.meaning.specs.UnitSizes.{seconds_per_hour, seconds_per_minute}
 use Rattle.meaning.specs.Writing.{Step, steps, texts}
 use Rattle.meaning.specs.declared.Carried.{Carried}
-use Rattle.meaning.specs.declared.Carried.TheVariants.{Nothing, Value}
 use Rattle.meaning.specs.Results.{Checked, Offset, Wrote}
 use Rattle.meaning.specs.declared.Choices.{Choices}
 use Rattle.meaning.specs.declared.Edition.{Edition}
@@ -78,7 +77,7 @@ plain pair = record { pair = pair; strict = false; edition = First }
 
 -- what a part gave: the value that it carries, and all the bytes that it took, from the place of the first to that behind the last
 pub record Gave : Type 0 where
-  pub carried : Carried
+  pub carried : Option Carried
   pub start : ℕ
   pub end : ℕ
 
@@ -123,13 +122,13 @@ unit_number unit.Nanos = 13
 unit_number unit.Offset = 14
 
 -- whether that is unit k, and the value
-abbrev pub is_of : ℕ → Carried → Bool
-is_of k Nothing = false
-is_of k (Value u z) = eqb (unit_number u) k
+abbrev pub is_of : ℕ → Option Carried → Bool
+is_of k None = false
+is_of k (Some c) = eqb (unit_number c.unit) k
 
-abbrev pub value_in : Carried → ℤ
-value_in Nothing = pos 0
-value_in (Value u z) = z
+abbrev pub value_in : Option Carried → ℤ
+value_in None = pos 0
+value_in (Some c) = c.value
 
 -- "the last part winning": what there is of the last part that gave unit k, or else this
 unfoldable pub last_of : {A : Type 0} → (Gave → A) → A → List Gave → ℕ → A

@@ -146,7 +146,7 @@ rule_text book (Letters l n) f = name_text book l f
 rule_text book (Years k) f = signed_text k f.year
 rule_text book (FixedYear k) f = signed_text k f.year
 rule_text book TwoDigitYear f = two_digit_text f.year
-rule_text book (Zone utc c minutes seconds) f = zone_text utc c minutes seconds f.offset
+rule_text book (Zone zone) f = zone_text zone.utc zone.colon zone.minutes zone.seconds f.offset
 
 -- What a part does: it stands for these bytes, of which a write may lose the last; or it is a symbol with its rule.
 pub data Step : Type 0 where

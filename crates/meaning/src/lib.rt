@@ -1,6 +1,7 @@
 // The types of the specification, which every crate shares. What they mean is defined in specs/.
 #![tactic(auto)]
 
+pub mod unit_numbers;
 pub mod unit_sizes;
 
 // "The field record and the numbers": the eight fields, in its order.
@@ -114,6 +115,15 @@ pub enum Group {
     Always,
 }
 
+// The form of a zone: Z for zero or not, a colon before each group or not, and which groups.
+#[derive(Clone, Copy)]
+pub struct Zone {
+    pub utc: bool,
+    pub colon: bool,
+    pub minutes: Group,
+    pub seconds: Group,
+}
+
 // The units of a reading, in the order of the Rust's ParseUnit.
 #[derive(Clone, Copy)]
 pub enum ParseUnit {
@@ -171,13 +181,8 @@ pub enum Rule {
     FixedYear(usize),
     // yy
     TwoDigitYear,
-    // The offset: Z for zero or not, a colon before each group or not, and which groups.
-    Zone {
-        utc: bool,
-        colon: bool,
-        minutes: Group,
-        seconds: Group,
-    },
+    // The offset, in the form of a zone.
+    Zone(Zone),
 }
 
 // What a run of equal bytes does: it stands for itself, or it is a symbol. No Option: to stand for itself is no lack of a rule.
@@ -201,11 +206,11 @@ pub enum Sign {
     Bare,
 }
 
-// The value that a part carries.
+// The value that a part carries: its unit and the number.
 #[derive(Clone, Copy)]
-pub enum Carried {
-    Nothing,
-    Value(ParseUnit, i64),
+pub struct Carried {
+    pub unit: ParseUnit,
+    pub value: i64,
 }
 
 // Why a part can't be read: the refusals 8 to 11, 15 and 19.

@@ -1,12 +1,13 @@
 // The English names of the specification as constant rows, by the numbers of their tables: first those that are the same in every
 // book, then the weekdays and the months. Rows are lent and not given, so that no call lays a table on its stack.
-ghost use Rattle.std.specs.Prelude.{◌≡◌, ◌/◌, ◌<◌, length};
+ghost use Rattle.std.specs.Prelude.{◌≡◌, ◌*◌, ◌/◌, ◌<◌, length};
 ghost use Rattle.meaning.specs.Names.{names, english};
 ghost use Rattle.names.specs.Lists.{list_at, most_at};
 ghost use Rattle.names.specs.Table.{Numbered, IsTable};
 
 use meaning::NameList;
 
+// By a match, since no cast gives this: AM and am share a table, noon in both cases too.
 #[tactic(auto, unfolding(meaning::specs::Names::names))]
 pub fn table_of(list: NameList) -> usize
     ensures { Numbered result list }
@@ -49,7 +50,8 @@ pub fn most_of(table: usize) -> usize
 #[tactic(auto, unfolding(meaning::specs::Names::names, meaning::specs::Names::english, meaning::specs::Bytes::bytes, meaning::specs::OpenedBooks::names_at))]
 pub fn rows_of(table: usize) -> &'static [u8]
     requires { table < 17 }
-    ensures { IsTable (most_at table) (length result.now / 21) result.now (names english (list_at table)) }
+    ensures held { IsTable (most_at table) (length result.now / 21) result.now (names english (list_at table)) }
+    ensures size { length result.now ≡ 21 * length (names english (list_at table)) }
 {
     match table {
         0 => &crate::rows::ERA_ABBREVIATED,

@@ -96,6 +96,7 @@ fn put_bytes(number: u64, n: usize, out: &mut [u8], at: usize) -> usize
     ensures { Laid out.old out.new at result (bytes_of n number) }
 {
     let mut rest = number;
+    // By places, as whatever lays bytes here: a part of the output lent for the loop is no plainer.
     for j in 0..n {
         out[at + j] = (rest % 256) as u8;
         rest /= 256;
@@ -161,6 +162,7 @@ fn few_at(text: &[u8], at: usize) -> u64
     ensures { bytes_of (length text.now - at) result ≡ drop at text.now }
 {
     let mut number = 0;
+    // By places, from the last one down to where the number starts.
     for i in (at..text.len()).rev() {
         number = 256 * number + wide(text[i]);
     }
@@ -189,7 +191,8 @@ fn same_bytes(a: u64, b: u64, n: usize) -> bool
     a << away == b << away
 }
 
-// Whether a text, whose first bytes are a number, begins with a name.
+// Whether a text, whose first bytes are a number, begins with a name. Each test makes room for what the next one looks at, so that they stand in
+// lines of their own.
 fn same_letters(first: u64, spelt: Spelling, text: &[u8], at: usize) -> bool
     requires { (at ≤ length text.now) × (spelt.length ≤ 9) × (bytes_of (min 8 (length text.now - at)) first ≡ take 8 (drop at text.now)) }
     ensures { result ≡ true → take spelt.length (drop at text.now) ≡ spelled_by spelt }

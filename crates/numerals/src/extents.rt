@@ -17,14 +17,11 @@ pub fn extent(least: u8, most: u8, text: &[u8], at: usize) -> usize
     requires { at ≤ length text.now }
     ensures { result ≡ reach (most - least) least (drop at text.now) }
 {
+    // Over numbers: the text may end before the last of them, where `is_digit_at` says no.
     for k in least..most {
         if !is_digit_at(text, at + k as usize) {
             return k as usize;
         }
     }
-    if least < most {
-        most as usize
-    } else {
-        least as usize
-    }
+    least.max(most) as usize
 }

@@ -1,6 +1,6 @@
 -- The answers of the steps of reading, from what the definitions' readers give: places count from the text's start, and a
 -- step that goes on answers the moved cursor.
-use Rattle.std.specs.Prelude.{false, ℕ, ◌+◌, Result, Ok, Err}
+use Rattle.std.specs.Prelude.{false, ℕ, ◌+◌, Result, Ok, Err, Option}
 use Rattle.meaning.specs.Names.{Book}
 use Rattle.meaning.specs.Numerals.{Signed}
 use Rattle.meaning.specs.Readers.{Got, got, stopped, Reader}
@@ -40,12 +40,12 @@ matched_at = read_at
 
 -- what a part gives
 
-abbrev pub part_at : ℕ → Got Carried → Result (Read Carried) Stop
+abbrev pub part_at : ℕ → Got (Option Carried) → Result (Read (Option Carried)) Stop
 part_at = read_at
 
 -- what a part reads where its literals are not compared, the same by either pair
 abbrev pub unseen : Edition → Choices
 unseen edition = record { pair = Full; strict = false; edition = edition }
 
-abbrev pub plain_read : Edition → Book → ℕ → Step → Reader Carried
+abbrev pub plain_read : Edition → Book → ℕ → Step → Reader (Option Carried)
 plain_read edition = read_step (unseen edition)

@@ -6,7 +6,7 @@ ghost use Rattle.pattern.specs.First.{unescaped};
 ghost use Rattle.rules.specs.Steps.{means, Held};
 
 use meaning::Role;
-use pattern::quoted::{bytes_of, unescaped_length};
+use pattern::quoted::{unescaped_bytes, unescaped_length};
 use rules::step::Step;
 
 // A byte, so many times.
@@ -15,6 +15,7 @@ fn compare_times(byte: u8, count: usize, text: &[u8], end: usize) -> Option<usiz
     requires end_in_bounds { end ≤ length text.now }
     ensures { result ≡ compared_from (end - count) (replicate count byte) text.now }
 {
+    // Over places: one of them is the answer, and an iterator over a part of the text would count from where that begins.
     for i in end - count..end {
         if text[i] != byte {
             return Some(i);
@@ -29,22 +30,18 @@ fn compare_inside(inside: &[u8], text: &[u8], end: usize) -> Option<usize>
     requires end_in_bounds { end ≤ length text.now }
     ensures { result ≡ compared_from (end - length (unescaped inside.now)) (unescaped inside.now) text.now }
 {
-    let mut next = end - unescaped_length(inside);
-    // A loop by hand: a doubled quote is two bytes, and no iterator of a slice steps by one or two.
-    let mut i = 0;
-    while i < inside.len() {
-        let b = inside[i];
-        if text[next] != b {
-            return Some(next);
+    let start = end - unescaped_length(inside);
+    for (i, b) in (start..end).zip(unescaped_bytes(inside)) {
+        if text[i] != b {
+            return Some(i);
         }
-        next += 1;
-        i += bytes_of(b);
     }
     None
 }
 
 // What a step stands for with the bytes before a place. It calls itself for a run that stands for itself, which keeps it a call of
 // its own: a reading that is not strict does not carry it along.
+// An arm for each step that stands for bytes; what a symbol reads is not compared.
 pub fn compare(step: Step, pattern: &[u8], text: &[u8], end: usize) -> Option<usize>
     requires held { Held pattern.now step }
     requires ended { Ended (means pattern.now step) (length text.now) end }

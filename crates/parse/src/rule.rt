@@ -13,6 +13,7 @@ use meaning::{Carried, Edition, Rule};
 use numerals::extents::extent;
 use rules::numbers::most_read;
 
+// An arm for each rule, as the definition has a row: each carries other numbers to its reader.
 pub fn parse_rule(
     edition: Edition,
     book: &[u8],
@@ -20,7 +21,7 @@ pub fn parse_rule(
     current_year: u32,
     text: &[u8],
     cursor: Cursor,
-) -> Result<Read<Carried>, Stop>
+) -> Result<Read<Option<Carried>>, Stop>
     requires { cursor.at ≤ length text.now }
     ensures { result ≡ part_at cursor.at (read_rule edition (book_in book.now) current_year rule (drop cursor.at text.now)) }
 {
@@ -46,18 +47,13 @@ pub fn parse_rule(
         Rule::LetterQuarter => pass(2, text, cursor),
         Rule::SkippedName { names: _, length } => pass(length, text, cursor),
         Rule::MatchedName(names) => parse_name(book, names, text, cursor),
-        Rule::Letters { names, length } => {
-            let name = cursor.match_letters(book, names, length, text)?;
-            Ok(named(names, name))
-        }
+        Rule::Letters { names, length } => named(
+            names,
+            cursor.match_letters(book, names, length, text),
+        ),
         Rule::Years(_) => parse_years(text, cursor),
         Rule::FixedYear(count) => parse_fixed_year(count, text, cursor),
         Rule::TwoDigitYear => parse_two_digit_year(edition, current_year, text, cursor),
-        Rule::Zone {
-            utc,
-            colon,
-            minutes,
-            seconds,
-        } => parse_zone(utc, colon, minutes, seconds, text, cursor),
+        Rule::Zone(zone) => parse_zone(zone, text, cursor),
     }
 }

@@ -18,7 +18,7 @@ use rules::short::{short_rule, short_unit};
 use rules::step::Step;
 
 // y, more than twice.
-fn parse_year(count: usize, text: &[u8], cursor: Cursor) -> Result<Read<Carried>, Stop>
+fn parse_year(count: usize, text: &[u8], cursor: Cursor) -> Result<Read<Option<Carried>>, Stop>
     requires { cursor.at ≤ length text.now }
     ensures { result ≡ part_at cursor.at (long_year_read count (drop cursor.at text.now)) }
 {
@@ -29,6 +29,7 @@ fn parse_year(count: usize, text: &[u8], cursor: Cursor) -> Result<Read<Carried>
 }
 
 // "Literals are skipped unseen": one byte of text for each that the part stands for.
+// An arm for each step, as the definition has a row: of a literal only the length counts, of a symbol only its rule.
 fn parse_other(
     edition: Edition,
     book: &[u8],
@@ -37,7 +38,7 @@ fn parse_other(
     current_year: u32,
     text: &[u8],
     cursor: Cursor,
-) -> Result<Read<Carried>, Stop>
+) -> Result<Read<Option<Carried>>, Stop>
     requires held { Held pattern.now step }
     requires at_in_bounds { cursor.at ≤ length text.now }
     ensures { result ≡ part_at cursor.at (plain_read edition (book_in book.now) current_year (means pattern.now step) (drop cursor.at text.now)) }
@@ -105,7 +106,7 @@ pub fn parse_step(
     current_year: u32,
     text: &[u8],
     cursor: Cursor,
-) -> Result<Read<Carried>, Stop>
+) -> Result<Read<Option<Carried>>, Stop>
     requires held { Held pattern.now step }
     requires at_in_bounds { cursor.at ≤ length text.now }
     ensures { result ≡ part_at cursor.at (plain_read edition (book_in book.now) current_year (means pattern.now step) (drop cursor.at text.now)) }
@@ -115,7 +116,10 @@ pub fn parse_step(
     }
     if let Some(read) = quick_digits(edition, step, text, cursor.at) {
         return Ok(Read {
-            value: Carried::Value(quick_unit(step), read.size as i64),
+            value: Some(Carried {
+                unit: quick_unit(step),
+                value: read.size as i64,
+            }),
             next: Cursor {
                 at: cursor.at + read.taken,
             },

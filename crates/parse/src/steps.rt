@@ -7,15 +7,12 @@ use crate::cursor::{Cursor, Read, Stop};
 use meaning::{Carried, Numeral, ParseUnit};
 
 // So many bytes that carry nothing.
-pub fn pass(k: usize, text: &[u8], cursor: Cursor) -> Result<Read<Carried>, Stop>
+pub fn pass(k: usize, text: &[u8], cursor: Cursor) -> Result<Read<Option<Carried>>, Stop>
     requires { cursor.at ≤ length text.now }
     ensures { result ≡ part_at cursor.at (reading.passed k (drop cursor.at text.now)) }
 {
     let next = cursor.skip(k, text)?;
-    Ok(Read {
-        value: Carried::Nothing,
-        next,
-    })
+    Ok(Read { value: None, next })
 }
 
 fn zero_for(zero: u32, n: u32) -> u32
@@ -31,14 +28,14 @@ pub fn take_number(
     k: usize,
     text: &[u8],
     cursor: Cursor,
-) -> Result<Read<Carried>, Stop>
+) -> Result<Read<Option<Carried>>, Stop>
     requires { cursor.at ≤ length text.now }
     ensures { result ≡ part_at cursor.at (reading.taken_unit unit zero k (drop cursor.at text.now)) }
 {
     let number = cursor.take(Numeral::Count, k, text)?;
     let value = zero_for(zero, number.value.size) as i64;
     Ok(Read {
-        value: Carried::Value(unit, value),
+        value: Some(Carried { unit, value }),
         next: number.next,
     })
 }

@@ -29,14 +29,17 @@ fn take_year(
     k: usize,
     text: &[u8],
     cursor: Cursor,
-) -> Result<Read<Carried>, Stop>
+) -> Result<Read<Option<Carried>>, Stop>
     requires { cursor.at ≤ length text.now }
     ensures { result ≡ part_at cursor.at (years.year_since edition «since» k (drop cursor.at text.now)) }
 {
     let number = cursor.take(Numeral::Year, k, text)?;
     let value = counted(edition, since, number.value.negative, number.value.size);
     Ok(Read {
-        value: Carried::Value(ParseUnit::Year, value),
+        value: Some(Carried {
+            unit: ParseUnit::Year,
+            value,
+        }),
         next: number.next,
     })
 }
@@ -45,11 +48,7 @@ fn take_year(
 fn minus_first(text: &[u8], at: usize) -> usize
     ensures { result ≡ reading.minus_first (drop at text.now) }
 {
-    if at < text.len() && text[at] == b'-' {
-        1
-    } else {
-        0
-    }
+    usize::from(text.get(at) == Some(&b'-'))
 }
 
 // How many digits stand at a place.
@@ -57,6 +56,7 @@ fn digit_run(text: &[u8], at: usize) -> usize
     requires { at ≤ length text.now }
     ensures { result ≡ reading.digit_run (drop at text.now) }
 {
+    // By hand: with `take_while` and `count` the proof does not close.
     for i in at..text.len() {
         if !is_digit(text[i]) {
             return i - at;
@@ -66,7 +66,7 @@ fn digit_run(text: &[u8], at: usize) -> usize
 }
 
 // y at 1, 3, 4: an optional minus and all digits that follow.
-pub fn parse_years(text: &[u8], cursor: Cursor) -> Result<Read<Carried>, Stop>
+pub fn parse_years(text: &[u8], cursor: Cursor) -> Result<Read<Option<Carried>>, Stop>
     requires { cursor.at ≤ length text.now }
     ensures { result ≡ part_at cursor.at (reading.taken_year (reading.year_length (drop cursor.at text.now)) (drop cursor.at text.now)) }
 {
@@ -77,7 +77,11 @@ pub fn parse_years(text: &[u8], cursor: Cursor) -> Result<Read<Carried>, Stop>
 }
 
 // y from 5 up: so many bytes, and one more at a minus.
-pub fn parse_fixed_year(count: usize, text: &[u8], cursor: Cursor) -> Result<Read<Carried>, Stop>
+pub fn parse_fixed_year(
+    count: usize,
+    text: &[u8],
+    cursor: Cursor,
+) -> Result<Read<Option<Carried>>, Stop>
     requires { cursor.at ≤ length text.now }
     ensures { result ≡ part_at cursor.at (reading.taken_year (reading.minus_first (drop cursor.at text.now) + count) (drop cursor.at text.now)) }
 {
@@ -98,13 +102,7 @@ fn short_since(edition: Edition, current_year: u32) -> u32
 {
     match edition {
         Edition::First => current_year / 1000 * 1000,
-        Edition::Second => {
-            if current_year < 80 {
-                0
-            } else {
-                current_year - 80
-            }
-        }
+        Edition::Second => current_year.saturating_sub(80),
     }
 }
 
@@ -114,7 +112,7 @@ pub fn parse_two_digit_year(
     current_year: u32,
     text: &[u8],
     cursor: Cursor,
-) -> Result<Read<Carried>, Stop>
+) -> Result<Read<Option<Carried>>, Stop>
     requires { cursor.at ≤ length text.now }
     ensures { result ≡ part_at cursor.at (reading.two_digit_year edition current_year (drop cursor.at text.now)) }
 {

@@ -7,7 +7,7 @@ ghost use Rattle.parse.specs.Zones.{sign_at, counted_at, zone_from};
 
 use crate::cursor::{Cursor, Read, Stop};
 use meaning::unit_sizes::{SECS_PER_HOUR_U64, SECS_PER_MINUTE_U64};
-use meaning::{Carried, Group, Numeral, ParseUnit, Trouble};
+use meaning::{Carried, Group, Numeral, ParseUnit, Trouble, Zone};
 use numerals::extents::is_digit_at;
 use numerals::integer_of;
 
@@ -88,46 +88,43 @@ fn zone_group(colon: bool, group: Group, text: &[u8], cursor: Cursor) -> Result<
 
 // Behind the sign: hours, minutes, seconds.
 fn zone_from(
+    zone: Zone,
     negative: bool,
-    colon: bool,
-    minutes: Group,
-    seconds: Group,
     text: &[u8],
     cursor: Cursor,
-) -> Result<Read<Carried>, Stop>
+) -> Result<Read<Option<Carried>>, Stop>
     requires { cursor.at ≤ length text.now }
-    ensures { result ≡ part_at cursor.at (zone_from negative colon minutes seconds (drop cursor.at text.now)) }
+    ensures { result ≡ part_at cursor.at (zone_from negative zone.colon zone.minutes zone.seconds (drop cursor.at text.now)) }
 {
     let hours = take_count(2, text, cursor)?;
-    let minutes = zone_group(colon, minutes, text, hours.next)?;
-    let seconds = zone_group(colon, seconds, text, minutes.next)?;
+    let minutes = zone_group(zone.colon, zone.minutes, text, hours.next)?;
+    let seconds = zone_group(zone.colon, zone.seconds, text, minutes.next)?;
     let size = hours.value as u64 * SECS_PER_HOUR_U64
         + minutes.value as u64 * SECS_PER_MINUTE_U64
         + seconds.value as u64;
     Ok(Read {
-        value: Carried::Value(ParseUnit::Offset, integer_of(negative, size)),
+        value: Some(Carried {
+            unit: ParseUnit::Offset,
+            value: integer_of(negative, size),
+        }),
         next: seconds.next,
     })
 }
 
-pub fn parse_zone(
-    utc: bool,
-    colon: bool,
-    minutes: Group,
-    seconds: Group,
-    text: &[u8],
-    cursor: Cursor,
-) -> Result<Read<Carried>, Stop>
+pub fn parse_zone(zone: Zone, text: &[u8], cursor: Cursor) -> Result<Read<Option<Carried>>, Stop>
     requires { cursor.at ≤ length text.now }
-    ensures { result ≡ part_at cursor.at (reading.taken_zone utc colon minutes seconds (drop cursor.at text.now)) }
+    ensures { result ≡ part_at cursor.at (reading.taken_zone zone.utc zone.colon zone.minutes zone.seconds (drop cursor.at text.now)) }
 {
-    let sign = zone_sign(utc, text, cursor)?;
+    let sign = zone_sign(zone.utc, text, cursor)?;
     match sign.value {
         ZoneSign::Utc => Ok(Read {
-            value: Carried::Value(ParseUnit::Offset, 0),
+            value: Some(Carried {
+                unit: ParseUnit::Offset,
+                value: 0,
+            }),
             next: sign.next,
         }),
-        ZoneSign::Ahead => zone_from(false, colon, minutes, seconds, text, sign.next),
-        ZoneSign::BehindUtc => zone_from(true, colon, minutes, seconds, text, sign.next),
+        ZoneSign::Ahead => zone_from(zone, false, text, sign.next),
+        ZoneSign::BehindUtc => zone_from(zone, true, text, sign.next),
     }
 }

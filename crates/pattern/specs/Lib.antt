@@ -1,3 +1,4 @@
 pub mod First
 pub mod Next
 pub mod Walk
+pub mod Unescaping

@@ -4,7 +4,7 @@ ghost use Rattle.std.specs.List.{position};
 ghost use Rattle.meaning.specs.Answers.{bytes_check, ends_in_lone_quote, pattern_check};
 ghost use Rattle.meaning.specs.Splitting.{contents};
 
-use crate::parts::next_part;
+use crate::parts::parts_of;
 use crate::quoted::ends_in_quote;
 use meaning::Refusal;
 
@@ -37,12 +37,12 @@ fn ends_in_lone_quote(pattern: &[u8]) -> bool
     if n == 0 || pattern[n - 1] != b'\'' {
         return false;
     }
-    let mut place = 0;
-    while place + 1 < n {
-        let part = next_part(pattern, place);
-        place += part.length;
+    for part in parts_of(pattern) {
+        if part.start + 1 == n {
+            return true;
+        }
     }
-    place < n
+    false
 }
 
 // Refusals 1, 2 and 3, in this order, of a pattern that may end in a quote.

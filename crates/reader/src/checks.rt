@@ -1,5 +1,6 @@
 // What is asked before parts are read: refusals 1, 2, 3, 14 of a pattern and a year, and 6, 7 of a text.
-ghost use Rattle.std.specs.Prelude.{◌≡◌};
+ghost use Rattle.std.specs.Prelude.{◌≡◌, nat_lt};
+ghost use Rattle.std.specs.List.{position};
 ghost use Rattle.meaning.specs.Answers.{text_check};
 ghost use Rattle.reader.specs.Largest.{largest_of};
 
@@ -16,6 +17,13 @@ fn largest(text: &[u8]) -> u8
     most
 }
 
+// The place of the first byte above 127.
+fn first_above(text: &[u8]) -> Option<usize>
+    ensures { result ≡ position (λ b. nat_lt 127 b) text.now }
+{
+    text.iter().position(|b| 127 < *b)
+}
+
 // 6 and 7, byte by byte.
 fn search_text(text: &[u8]) -> Result<(), Refusal>
     ensures { result ≡ text_check text.now }
@@ -24,12 +32,10 @@ fn search_text(text: &[u8]) -> Result<(), Refusal>
     if 2048 < n {
         return Err(Refusal::TextTooLong(n));
     }
-    for i in 0..n {
-        if 127 < text[i] {
-            return Err(Refusal::TextByte(i));
-        }
+    match first_above(text) {
+        Some(i) => Err(Refusal::TextByte(i)),
+        None => Ok(()),
     }
-    Ok(())
 }
 
 // 6 and 7: where no byte is above 127, none has to be searched for.

@@ -6,27 +6,11 @@ ghost use Rattle.meaning.specs.Whole.{unit_number};
 
 use meaning::ParseUnit;
 
-// The place of a unit among the values and its bit in the mask: "units in the order of ParseUnit".
+// The place of a unit among the values and its bit in the mask: "units in the order of ParseUnit". The way back is `ParseUnit::try_from`.
 pub fn unit_number(unit: ParseUnit) -> usize
     ensures { result ≡ unit_number unit }
 {
-    match unit {
-        ParseUnit::Year => 0,
-        ParseUnit::Month => 1,
-        ParseUnit::DayOfMonth => 2,
-        ParseUnit::DayOfYear => 3,
-        ParseUnit::Hour => 4,
-        ParseUnit::Period => 5,
-        ParseUnit::PeriodHour => 6,
-        ParseUnit::Minute => 7,
-        ParseUnit::Second => 8,
-        ParseUnit::Decis => 9,
-        ParseUnit::Centis => 10,
-        ParseUnit::Millis => 11,
-        ParseUnit::Micros => 12,
-        ParseUnit::Nanos => 13,
-        ParseUnit::Offset => 14,
-    }
+    unit as usize
 }
 
 // Whether a unit was read, by the mask of a reading.

@@ -1,5 +1,5 @@
 -- The answers to a reading fit a row: each slice has fewer than 2 ^ 63 bytes, and the current year has 32 bits.
-use Rattle.std.specs.Prelude.{Ok, Err}
+use Rattle.std.specs.Prelude.{Ok, Err, Option}
 use mathlib.Core.Bool.{Bool}
 use mathlib.Core.List.{List, [], ◌∷◌}
 use Prim.Native.Nat.{ℕ, suc, ◌+◌, ◌≤◌}
@@ -73,8 +73,8 @@ rest-fits strict at s gave h =
 
 module _ (choices : Choices) (book : Book) (current : ℕ) where
   -- by what a part gave
-  part-fits : (i at room : ℕ) (g : Got Carried) (next : ℕ → Carried → Walk) → NumberFits i → NumberFits (at + room) → Within room g
-      → ((n : ℕ) (c : Carried) → n ≤ room → WalkFits (next n c))
+  part-fits : (i at room : ℕ) (g : Got (Option Carried)) (next : ℕ → Option Carried → Walk) → NumberFits i → NumberFits (at + room) → Within room g
+      → ((n : ℕ) (c : Option Carried) → n ≤ room → WalkFits (next n c))
       → WalkFits (behind_part i at next g)
   unfolding details
   part-fits i at room (got n c) next h k w on = on n c w

@@ -1,7 +1,5 @@
 -- The specification's answers as numbers: what a function returns, and the numbers that it lays over the start of a lent row.
 use Rattle.std.specs.Prelude.{List, [], ◌∷◌, ◌++◌, map, ◌≡◌, ℕ, ◌-◌, ℤ, pos, negsuc, length, replicate, Option, Some, None, Result, Ok, Err}
-use Rattle.std.proofs.Math.Option as maybe
-use Rattle.std.proofs.Math.Option.{none, some}
 use Rattle.std.proofs.lemmas.List.Edits.{sets}
 use Rattle.meaning.specs.Answers.{Answer, read_answer, bytes_check}
 use Rattle.meaning.specs.Reading.{StepUnit, itself, symbol, step_unit}
@@ -54,9 +52,9 @@ split_numbers (Ok s) = part_numbers s.parts
 split_numbers (Err why) = []
 
 -- what a part is: -1 where it stands for itself, 15 for a symbol that carries nothing, else the number of the unit
-abbrev pub carried_entry : maybe.Option ParseUnit → ℤ
-carried_entry none = pos 15
-carried_entry (some u) = pos (unit_number u)
+abbrev pub carried_entry : Option ParseUnit → ℤ
+carried_entry None = pos 15
+carried_entry (Some u) = pos (unit_number u)
 
 abbrev pub unit_entry : StepUnit → ℤ
 unit_entry itself = negsuc 0

@@ -80,6 +80,7 @@ fn change_at(row: &[i64], at: usize) -> Change
     }
 }
 
+// By places: an iterator over groups of four gives slices in an Option, which the archive for WebAssembly does without.
 pub fn are_changes(row: &[i64]) -> bool
     requires { length row.now ≤ 512 }
     ensures { result ≡ are_changes row.now }
@@ -87,6 +88,7 @@ pub fn are_changes(row: &[i64]) -> bool
     if row.len() % 4 != 0 {
         return false;
     }
+    // Over numbers: a change is four entries, and it is asked for by the row and its place.
     for i in 0..row.len() / 4 {
         if !is_change(row, 4 * i) {
             return false;
@@ -102,6 +104,7 @@ pub fn changes_held(row: &[i64]) -> Changes
 {
     let mut listed = no_changes().listed;
     let used = row.len() / 4;
+    // Over numbers, as there: each counts entries of the list and, by fours, of the row.
     for i in 0..used {
         listed[i] = change_at(row, 4 * i);
     }

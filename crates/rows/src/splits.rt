@@ -16,12 +16,7 @@ use pattern::parts::parts_of;
 fn kind_number(kind: Kind) -> u64
     ensures { result ≡ kind_number kind }
 {
-    match kind {
-        Kind::Run => 0,
-        Kind::Quotes => 1,
-        Kind::Quoted => 2,
-        Kind::Open => 3,
-    }
+    kind as u64
 }
 
 #[tactic(auto, unfolding(crate::specs::Rows::part_numbers))]
@@ -41,6 +36,7 @@ fn lay_parts(pattern: &[u8], row: &mut [i64]) -> usize
     ensures { (result ≤ 256) × (result ≡ length (splitting.parts pattern.now)) × (row.new ≡ laid (part_numbers (splitting.parts pattern.now ++ replicate (256 - result) splitting.no_part)) row.old) }
 {
     let mut used = 0;
+    // Not `enumerate`: how many there are is the answer, and its number is gone after the loop.
     for part in parts_of(pattern) {
         lay_part(part, row, 3 * used);
         used += 1;

@@ -12,7 +12,7 @@ ghost use Rattle.rows.specs.Rows.{in_row, Given, laid, carried_entry, step_entry
 
 use crate::answers::{give_count, give_refusal};
 use crate::entries::{entry, lay, lay_times};
-use meaning::{Carried, Kind, NameList, Pair, ParseUnit, Part, Role, Rule};
+use meaning::{Kind, NameList, Pair, ParseUnit, Part, Role, Rule};
 use parse::named::name_carries;
 use pattern::checks::bytes_check;
 use pattern::parts::parts_of;
@@ -33,11 +33,12 @@ fn names_entry(names: NameList) -> i64
     ensures { result ≡ carried_entry (unit_of (name_carries names 0)) }
 {
     match name_carries(names, 0) {
-        Carried::Nothing => NOTHING,
-        Carried::Value(unit, _) => unit_entry(unit),
+        None => NOTHING,
+        Some(carried) => unit_entry(carried.unit),
     }
 }
 
+// An arm for each rule, as the definition has a row: no field of a rule says which unit it carries.
 #[tactic(auto, unfolding(meaning::specs::Reading::rule_unit))]
 fn rule_entry(rule: Rule) -> i64
     ensures { result ≡ carried_entry (rule_unit rule) }
@@ -47,7 +48,7 @@ fn rule_entry(rule: Rule) -> i64
         Rule::SkippedNumber { .. } | Rule::LetterQuarter | Rule::SkippedName { .. } => NOTHING,
         Rule::MatchedName(names) | Rule::Letters { names, .. } => names_entry(names),
         Rule::Years(_) | Rule::FixedYear(_) | Rule::TwoDigitYear => unit_entry(ParseUnit::Year),
-        Rule::Zone { .. } => unit_entry(ParseUnit::Offset),
+        Rule::Zone(_) => unit_entry(ParseUnit::Offset),
     }
 }
 
@@ -78,6 +79,7 @@ fn lay_entries(pattern: &[u8], row: &mut [i64]) -> usize
     ensures { (result ≤ 256) × (result ≡ length (splitting.parts pattern.now)) × (row.new ≡ laid (map step_entry (steps Pair.Full pattern.now) ++ replicate (256 - result) (negsuc 0)) row.old) }
 {
     let mut used = 0;
+    // Not `enumerate`, as for the parts themselves.
     for part in parts_of(pattern) {
         lay(&[part_entry(pattern, part)], row, used);
         used += 1;

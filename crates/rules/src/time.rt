@@ -5,7 +5,7 @@ ghost use Rattle.std.specs.Prelude.{◌≡◌};
 ghost use Rattle.meaning.specs.Rules as table;
 
 use crate::numbers::{number, one_or_two};
-use meaning::{Group, NameList, ParseUnit, Quantity, Role, Rule};
+use meaning::{Group, NameList, ParseUnit, Quantity, Role, Rule, Zone};
 
 // So many digits of the second's fraction.
 fn fraction(digits: u8, unit: ParseUnit) -> Rule
@@ -59,12 +59,12 @@ fn zone(utc: bool, count: usize) -> Rule
         5 => (true, Group::Always, Group::NotZero),
         _ => (true, Group::Always, Group::Never),
     };
-    Rule::Zone {
+    Rule::Zone(Zone {
         utc,
         colon,
         minutes,
         seconds,
-    }
+    })
 }
 
 // The time symbols, as in the Rust's format_time_part and parse_time_part.

@@ -9,7 +9,7 @@ ghost use Rattle.sheet.specs.Sheet.{SheetReadsList, SheetReadsLine};
 
 use crate::numbers::{choices_of, is_book};
 use crate::read;
-use lists::lines::{line_end, next_line};
+use lists::lines::{Places, line_at};
 use lists::read_list;
 use meaning::Choices;
 use rows::answers::give_counted;
@@ -28,8 +28,7 @@ fn give_line(
     requires { (at < length text.now) × (51 ≤ length row.old) }
     ensures { Given (in_line (read_line choices (book_in book.now) pattern.now text.now at year)) row.old row.new result }
 {
-    let end = line_end(text, at);
-    let next = next_line(text, end);
+    let Places { end, next, .. } = line_at(text, at);
     lay(
         &[entry(at as u64), entry(end as u64), entry(next as u64)],
         row,
@@ -39,7 +38,7 @@ fn give_line(
 }
 
 // A list read with a reader's choices and the names of a lent book: day, month, year and code of each line into the four rows. The row
-// of the answer: how many lines and 0, or the refusal's details.
+// of the answer: how many lines and 0, or the refusal's details. The rows are four parameters in the C interface.
 #[unsafe(no_mangle)]
 pub extern "C" fn sheet_read_list(
     choices: u32,

@@ -1,6 +1,5 @@
 // What the numbers and rows that a caller lends stand for: the choices of a reading, its book, and the mask of one.
-ghost use Rattle.std.specs.Prelude.{◌≡◌, ◌≤◌};
-ghost use Rattle.meaning.specs.Whole.{unit_number};
+ghost use Rattle.std.specs.Prelude.{◌≡◌};
 ghost use Rattle.sheet.specs.Numbers.{pair_of, edition_of, choices_of, is_book, is_marked};
 
 use meaning::{Choices, Edition, Pair, ParseUnit};
@@ -42,36 +41,15 @@ pub fn choices_of(number: u32) -> Choices
     }
 }
 
-// The unit of a number: `unit_number` the other way round.
-fn unit_of(number: u32) -> ParseUnit
-    requires { number ≤ 14 }
-    ensures { unit_number result ≡ number }
-{
-    match number {
-        0 => ParseUnit::Year,
-        1 => ParseUnit::Month,
-        2 => ParseUnit::DayOfMonth,
-        3 => ParseUnit::DayOfYear,
-        4 => ParseUnit::Hour,
-        5 => ParseUnit::Period,
-        6 => ParseUnit::PeriodHour,
-        7 => ParseUnit::Minute,
-        8 => ParseUnit::Second,
-        9 => ParseUnit::Decis,
-        10 => ParseUnit::Centis,
-        11 => ParseUnit::Millis,
-        12 => ParseUnit::Micros,
-        13 => ParseUnit::Nanos,
-        _ => ParseUnit::Offset,
-    }
-}
-
 // No unit has a bit above the fifteen.
 pub fn is_marked(mask: i64, unit: u32) -> bool
     ensures { result ≡ is_marked mask unit }
 {
-    if mask < 0 || 14 < unit {
+    if mask < 0 {
         return false;
     }
-    was_read((mask as u64 % 32768) as u16, unit_of(unit))
+    match ParseUnit::try_from(u64::from(unit)) {
+        Ok(unit) => was_read((mask as u64 % 32768) as u16, unit),
+        Err(_) => false,
+    }
 }

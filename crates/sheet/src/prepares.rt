@@ -112,7 +112,7 @@ pub extern "C" fn sheet_prepared_check(
     check(edition_of(choices), row, year, answer)
 }
 
-// A list read by a row. The four rows and that of the answer as in any list.
+// A list read by a row. The four rows and that of the answer as in any list; they are parameters in the C interface.
 #[unsafe(no_mangle)]
 pub extern "C" fn sheet_prepared_read_list(
     choices: u32,

@@ -10,11 +10,11 @@ use crate::shape::first_wrong;
 use numerals::is_digit;
 use numerals::pairs::{digit_value, pair_at};
 
-// The nanoseconds of a fraction, and the place behind it.
+// The nanoseconds of a fraction, and how many digits it has.
 #[derive(Clone, Copy)]
 pub struct Digits {
     pub nanos: u32,
-    pub next: usize,
+    pub count: usize,
 }
 
 // What is behind the sign of an offset, and whether that is a minus.
@@ -44,25 +44,23 @@ pub struct Halted {
     pub place: usize,
 }
 
-// The digits from a place on. Those past the ninth have no weight.
-fn fraction_digits(text: &[u8], at: usize) -> Digits
-    requires { at ≤ length text.now }
-    ensures { (result.nanos ≡ weighted 9 (drop at text.now)) × (result.next ≡ at + digit_run (drop at text.now)) }
+// The digits that a text begins with. Those past the ninth have no weight.
+fn fraction_digits(text: &[u8]) -> Digits
+    ensures { (result.nanos ≡ weighted 9 text.now) × (result.count ≡ digit_run text.now) }
 {
     let mut nanos: u32 = 0;
     let mut weight: u32 = 100000000;
-    // A loop by hand: it adds up the digits and finds their end in one pass.
-    let mut i = at;
-    while i < text.len() {
-        let b = text[i];
+    for (i, &b) in text.iter().enumerate() {
         if !is_digit(b) {
-            return Digits { nanos, next: i };
+            return Digits { nanos, count: i };
         }
         nanos += digit_value(b) * weight;
         weight /= 10;
-        i += 1;
     }
-    Digits { nanos, next: i }
+    Digits {
+        nanos,
+        count: text.len(),
+    }
 }
 
 // "." and at least one digit, or nothing: the nanoseconds, and the place behind.
@@ -76,11 +74,11 @@ fn optional_secfrac(text: &[u8], at: usize) -> Result<(u32, usize), Halted>
         return Ok((0, at));
     }
     let first = at + 1;
-    let found = fraction_digits(text, first);
-    if found.next == first {
+    let found = fraction_digits(&text[first..]);
+    if found.count == 0 {
         return Err(Halted { place: first });
     }
-    Ok((found.nanos, found.next))
+    Ok((found.nanos, first + found.count))
 }
 
 fn is_z(b: u8) -> bool

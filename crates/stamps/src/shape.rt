@@ -28,6 +28,7 @@ fn search(count: usize, shape: usize, text: &[u8], at: usize) -> usize
     requires { (at + count ≤ length text.now) × (shape + count ≤ 19) }
     ensures { result ≡ first_wrong count shape at text.now }
 {
+    // Over numbers: each counts places of the shape and of the text, from where each begins.
     for i in 0..count {
         if !fits(shape + i, text[at + i]) {
             return at + i;

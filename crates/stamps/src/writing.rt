@@ -9,7 +9,15 @@ use digits::numbers::{put_marked, put_nine, zero_padded};
 use fields::signed::size;
 use format::zones::format_zone;
 use meaning::unit_sizes::{NANOS_PER_SEC, SECS_PER_HOUR, SECS_PER_MINUTE};
-use meaning::{Group, Stamp};
+use meaning::{Group, Stamp, Zone};
+
+// Z for zero, else hours and minutes with a colon.
+const OFFSET: Zone = Zone {
+    utc: true,
+    colon: true,
+    minutes: Group::Always,
+    seconds: Group::Never,
+};
 
 fn put_date(year: u32, month: u32, day: u32, out: &mut [u8], at: usize) -> usize
     requires { (year < 10000) × (month < 100) × (day < 100) × (at + 10 ≤ length out.old) }
@@ -50,7 +58,7 @@ fn put_offset(t: Stamp, out: &mut [u8], at: usize) -> usize
     if t.unknown {
         return put_bytes(b"-00:00", out, at);
     }
-    format_zone(t.offset, true, true, Group::Always, Group::Never, out, at)
+    format_zone(OFFSET, t.offset, out, at)
 }
 
 fn offset_length(t: Stamp) -> usize

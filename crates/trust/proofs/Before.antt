@@ -128,7 +128,7 @@ rule-less (Letters l n) b h = name-less l b h
 rule-less (Years k) b h = h
 rule-less (FixedYear k) b h = h
 rule-less TwoDigitYear b h = h
-rule-less (Zone utc colon minutes seconds) b h = h
+rule-less (Zone zone) b h = h
 
 step_less : (s : Step) (b : Bool) → step_second s b ≡ false → step_second s false ≡ false
 unfolding step_second

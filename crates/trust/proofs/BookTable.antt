@@ -57,7 +57,7 @@ shelf_fits (Letters l n) = both (opens_on (shelf_of l) l) (both (size_on (shelf_
 shelf_fits (Years k) = true
 shelf_fits (FixedYear k) = true
 shelf_fits TwoDigitYear = true
-shelf_fits (Zone utc colon minutes seconds) = true
+shelf_fits (Zone zone) = true
 
 -- letters are no digits
 
@@ -177,7 +177,7 @@ module _ (b : Book) (v : Valid b) where
   book-fits (Years k) e h = e
   book-fits (FixedYear k) e h = e
   book-fits TwoDigitYear e h = e
-  book-fits (Zone utc colon minutes seconds) e h = e
+  book-fits (Zone zone) e h = e
 
 -- the whole table
 

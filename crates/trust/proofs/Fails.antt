@@ -1,5 +1,6 @@
 -- Each kind of rule with a need fails for the record that the check shows, where the text behind it shows what it must not:
 -- numbers and years are cut or take a digit that follows, a zone takes it for a group that it left out, yy loses the century.
+use Rattle.std.specs.Prelude.{Option}
 use mathlib.Core.Bool.{Bool, true, false}
 use mathlib.Core.List.{List, [], ◌∷◌, ◌++◌, append_assoc, append-nil}
 use mathlib.Core.Path.{◌≡◌, refl, sym, ap, ◌∙◌}
@@ -13,10 +14,11 @@ use Rattle.meaning.specs.Bytes.{when, is_digit, digit_at, num, width, plus, minu
 use Rattle.meaning.specs.Names.{Book}
 use Rattle.meaning.specs.Numerals.{Signed, all_digits, number_of}
 use Rattle.meaning.specs.Readers.{Reader, got, ◌>>=◌, done, take_count, reach, ahead, behind_utc, zone_sign}
-use Rattle.meaning.specs.Reading.{colon_length, two_digits_mean, most_read, passed, taken_unit, zone_behind, zone_group, zone_size_with, zone_size, taken_zone, year_length, digit_run, minus_first, read_rule, carried_rule}
+use Rattle.meaning.specs.Reading.{value, colon_length, two_digits_mean, most_read, passed, taken_unit, zone_behind, zone_group, zone_size_with, zone_size, taken_zone, year_length, digit_run, minus_first, read_rule, carried_rule}
+use Rattle.meaning.specs.Whole.{value_in}
+use Rattle.meaning.specs.Rules.{zoned}
 use Rattle.meaning.specs.Writing.{quantity_of, group_text, offset_digits, is_minus, offset_text, rule_text, two_digit_text, zone_text}
 use Rattle.meaning.specs.declared.Carried.{Carried}
-use Rattle.meaning.specs.declared.Carried.TheVariants as carried
 use Rattle.meaning.specs.declared.Edition.TheVariants.{First, Second}
 use Rattle.meaning.specs.declared.Edition.{Edition}
 use Rattle.meaning.specs.declared.Group.{Group}
@@ -87,7 +89,7 @@ module _ (q : Quantity) (least most : ℕ) (fit : number_fits q least most ≡ t
       when-is (Cut q least most r) (ltb most (most_digits q)) (λ e. too_long (ltb-true most (most_digits q) e))
       (λ _. when-is (Cut q least most r) (ltb least most) (λ e. too_far (ltb-true least most e)) (λ _ h _. h))
 
-  number-fails : (u : ParseUnit) (z : ℕ) (c : Carried) → Shown (number_need q least most) r
+  number-fails : (u : ParseUnit) (z : ℕ) (c : Option Carried) → Shown (number_need q least most) r
       → taken_unit u z (reached q least most (number_need q least most) r) (num least (quantity_of q (witness (number_need q least most))) ++ r)
       ≡ got (length (num least (quantity_of q (witness (number_need q least most))))) c → ⊥
   unfolding Cut
@@ -95,7 +97,7 @@ module _ (q : Quantity) (least most : ℕ) (fit : number_fits q least most ≡ t
       let k = reached q least most (number_need q least most) r in
       number_cut shown (takes-got k (takes-unit u z k _) e)
 
-  skipped-number-fails : (c : Carried) → Shown (number_need q least most) r
+  skipped-number-fails : (c : Option Carried) → Shown (number_need q least most) r
       → passed (reached q least most (number_need q least most) r) (num least (quantity_of q (witness (number_need q least most))) ++ r)
       ≡ got (length (num least (quantity_of q (witness (number_need q least most))))) c → ⊥
   unfolding Cut
@@ -138,7 +140,7 @@ fixed-year-fails edition book current k r short e =
 
 -- yy reads 01 as a year that is no later than the last of its millennium, or of its window
 two-digit-read : (edition : Edition) (book : Book) (current : ℕ) (r : List ℕ) → read_rule edition book current TwoDigitYear (two_digit_text (pos 1000001) ++ r)
-    ≡ got 2 (carried.Value unit.Year (two_digits_mean edition current (pos 1)))
+    ≡ got 2 (value unit.Year (two_digits_mean edition current (pos 1)))
 unfolding read_rule two_digit_text num number_of
 two-digit-read edition book current r =
     let n : Signed = record { negative = false; size = 1 } in
@@ -153,9 +155,10 @@ two-digits-few Second current small = omega arith
 two-digit-year-fails : (edition : Edition) (book : Book) (current : ℕ) → current ≤ 9999 → (r : List ℕ) → Back edition book current TwoDigitYear long_year r → ⊥
 unfolding rule_text carried_rule
 two-digit-year-fails edition book current small r e =
-    let same : got 2 (carried.Value unit.Year (two_digits_mean edition current (pos 1))) ≡ got (length (two_digit_text (pos 1000001))) (carried.Value unit.Year (pos 1000001))
+    let same : got 2 (value unit.Year (two_digits_mean edition current (pos 1))) ≡ got (length (two_digit_text (pos 1000001))) (value unit.Year (pos 1000001))
     = sym (two-digit-read edition book current r) ∙ e in
-    let year : two_digits_mean edition current (pos 1) ≡ pos 1000001 = cc in
+    let carried : value unit.Year (two_digits_mean edition current (pos 1)) ≡ value unit.Year (pos 1000001) = cc in
+    let year : two_digits_mean edition current (pos 1) ≡ pos 1000001 = ap value_in carried in
     omega (arith, two-digits-few edition current small, ap nat_abs year)
 
 -- zones: whole hours, with no minutes and no seconds
@@ -223,7 +226,7 @@ module _ (edition : Edition) (book : Book) (current : ℕ) (utc colon : Bool) (m
       (takes-behind-sign negative k size s
       (takes-then (length m + (colon_length colon + 2)) (take_count 2) _ hh (m ++ r) (two_digits whole.hours (m ++ r) whole.few) (missing whole.hours))))
 
-  missing-group-fails : (c : Carried) → read_rule edition book current (Zone utc colon minutes seconds) (zone_text utc colon minutes seconds z ++ r)
+  missing-group-fails : (c : Option Carried) → read_rule edition book current (zoned utc colon minutes seconds) (zone_text utc colon minutes seconds z ++ r)
       ≡ got (length (zone_text utc colon minutes seconds z)) c → ⊥
   unfolding read_rule
   missing-group-fails c e =
@@ -244,7 +247,7 @@ digit-in-place false r shown = shown
 
 zone-fails : (edition : Edition) (book : Book) (current : ℕ) (utc colon : Bool) (minutes seconds : Group) → zone_fits minutes seconds ≡ true → (r : List ℕ)
     → Shown (group_need colon (last_group minutes seconds)) r
-    → Back edition book current (Zone utc colon minutes seconds) (witness (group_need colon (last_group minutes seconds))) r → ⊥
+    → Back edition book current (zoned utc colon minutes seconds) (witness (group_need colon (last_group minutes seconds))) r → ⊥
 unfolding rule_text
 zone-fails edition book current utc colon Never seconds fit r shown e = true-is-not-false (sym fit)
 zone-fails edition book current utc colon NotZero Never fit r shown e =
@@ -275,4 +278,4 @@ rule-fails edition book current small (FixedYear k) fit r shown e =
     when-is (λ need. Shown need r → Back edition book current (FixedYear k) (witness need) r → ⊥) (leb 7 k) (λ _ h _. h)
     (λ short _ d. fixed-year-fails edition book current k r (leb-false 7 k short) d) shown e
 rule-fails edition book current small TwoDigitYear fit r shown e = two-digit-year-fails edition book current small r e
-rule-fails edition book current small (Zone utc colon minutes seconds) fit r shown e = zone-fails edition book current utc colon minutes seconds fit r shown e
+rule-fails edition book current small (Zone zone) fit r shown e = zone-fails edition book current zone.utc zone.colon zone.minutes zone.seconds fit r shown e

@@ -1,5 +1,6 @@
 -- Names come back: skipped ones for their length, matched ones and letters since no name begins another; and what the name
 -- that is written carries is what its field is.
+use Rattle.std.specs.Prelude.{None}
 use mathlib.Core.Bool.{true}
 use mathlib.Core.List.{List, [], ◌++◌, append-nil}
 use mathlib.Core.Path.{◌≡◌, refl, sym, ap, ◌∙◌}
@@ -13,9 +14,8 @@ use lib.Seq.{take_at}
 use borrow.Author.Tests.{eqb-true, ltb-true, ltb-false, lt-ltb, le-ltb}
 use Rattle.meaning.specs.Names.{Book, names}
 use Rattle.meaning.specs.Readers.{got, first_name, letters, match_name}
-use Rattle.meaning.specs.Reading.{month_at, period_at, name_carries, period_of, carried_name, read_rule}
+use Rattle.meaning.specs.Reading.{value, month_at, period_at, name_carries, period_of, carried_name, read_rule}
 use Rattle.meaning.specs.Writing.{second_of_day, period_place, noon_place, place_of, name_text}
-use Rattle.meaning.specs.declared.Carried.TheVariants.{Nothing, Value}
 use Rattle.meaning.specs.declared.Edition.{Edition}
 use Rattle.meaning.specs.declared.Fields.{Fields}
 use Rattle.meaning.specs.declared.NameList.{NameList}
@@ -30,7 +30,7 @@ use Rattle.trust.proofs.Table.{same_length}
 
 -- what a name carries
 
-month-carried : (f : Fields) → Allowed f → month_at (f.month - 1) ≡ Value unit.Month (pos f.month)
+month-carried : (f : Fields) → Allowed f → month_at (f.month - 1) ≡ value unit.Month (pos f.month)
 month-carried f h =
     let e : suc (f.month - 1) ≡ f.month = omega arith in
     rw e
@@ -103,7 +103,7 @@ module _ (edition : Edition) (book : Book) (current : ℕ) (l : NameList) (f : F
       (every-at (λ name. eqb (length name) n) (names book l) [] e (place_of l f) there)
 
   pub skipped-name-comes-back : (n : ℕ) → same_length book n l ≡ true
-      → read_rule edition book current (SkippedName l n) (name_text book l f ++ r) ≡ got (length (name_text book l f)) Nothing
+      → read_rule edition book current (SkippedName l n) (name_text book l f ++ r) ≡ got (length (name_text book l f)) None
   unfolding read_rule
   skipped-name-comes-back n e =
       let size : length (name_text book l f) ≡ n = name-same_length n e in

@@ -188,7 +188,7 @@ rule-first book (Letters l n) fit f h t year = name-first book l (both_true (nam
 rule-first book (Years k) fit f h t year = year-first k f.year t (year refl)
 rule-first book (FixedYear k) fit f h t year = year-first k f.year t (year refl)
 rule-first book TwoDigitYear fit f h t year = two-digit-first f.year t (year refl)
-rule-first book (Zone utc colon minutes seconds) fit f h t year = zone-first utc colon minutes seconds f.offset t
+rule-first book (Zone zone) fit f h t year = zone-first zone.utc zone.colon zone.minutes zone.seconds f.offset t
 
 -- The second byte, where d says of the byte behind the rule's text that it can be a digit.
 pub rule-second : (book : Book) (rule : Rule) → fits book rule ≡ true → (f : Fields) → Allowed f → (d : Bool) (t : List ℕ) → rule_second rule d ≡ false
@@ -204,7 +204,7 @@ rule-second book (Letters l n) fit f h d t e behind = name-second book l (both_t
 rule-second book (Years k) fit f h d t e behind = true-is-not-false e
 rule-second book (FixedYear k) fit f h d t e behind = true-is-not-false e
 rule-second book TwoDigitYear fit f h d t e behind = true-is-not-false e
-rule-second book (Zone utc colon minutes seconds) fit f h d t e behind = true-is-not-false e
+rule-second book (Zone zone) fit f h d t e behind = true-is-not-false e
 
 pub rule-second-shown : (book : Book) (rule : Rule) → fits book rule ≡ true → (t : List ℕ)
     → digit_at 1 (rule_text book rule long_numbers ++ t) ≡ rule_second rule (digit_at 0 t)
@@ -218,4 +218,4 @@ rule-second-shown book (Letters l n) fit t = name-second-shown book l (both_true
 rule-second-shown book (Years k) fit t = year-second k t
 rule-second-shown book (FixedYear k) fit t = year-second k t
 rule-second-shown book TwoDigitYear fit t = unfold two_digit_text digit_at num digits width width_in in refl
-rule-second-shown book (Zone utc colon minutes seconds) fit t = zone-second-shown utc colon minutes seconds t
+rule-second-shown book (Zone zone) fit t = zone-second-shown zone.utc zone.colon zone.minutes zone.seconds t

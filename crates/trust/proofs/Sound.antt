@@ -1,4 +1,5 @@
 -- Each kind of rule comes back for every allowed record where the text behind it meets its need.
+use Rattle.std.specs.Prelude.{None}
 use mathlib.Core.Bool.{Bool, true, false}
 use mathlib.Core.List.{List, ◌∷◌, ◌++◌}
 use mathlib.Core.Path.{◌≡◌, refl, ap, ◌∙◌}
@@ -13,9 +14,9 @@ use borrow.Author.Tests.{eq-eqb, ne_eqb, leb-true, ltb-false}
 use Rattle.meaning.specs.Bytes.{when, both, digit_at, num}
 use Rattle.meaning.specs.Names.{Book, names}
 use Rattle.meaning.specs.Readers.{got, reach}
-use Rattle.meaning.specs.Reading.{zero_for, carried_as, most_read, passed, taken_unit, read_rule, carried_rule}
+use Rattle.meaning.specs.Reading.{value, zero_for, carried_as, most_read, passed, taken_unit, read_rule, carried_rule}
+use Rattle.meaning.specs.Rules.{zoned}
 use Rattle.meaning.specs.Writing.{hour_of, in_place_of_zero, quantity_of, rule_text}
-use Rattle.meaning.specs.declared.Carried.TheVariants as carried
 use Rattle.meaning.specs.declared.Edition.{Edition}
 use Rattle.meaning.specs.declared.Fields.{Fields}
 use Rattle.meaning.specs.declared.Group.{Group}
@@ -111,7 +112,7 @@ module _ (q : Quantity) (least most : ℕ) (fit : number_fits q least most ≡ t
   free l = (number-met q least most r met).1 (omega (arith, at_least))
 
   number-comes-back : (u : ParseUnit) → taken_unit u (zero_of q) (reach (most - least) least (num least (quantity_of q f) ++ r)) (num least (quantity_of q f) ++ r)
-      ≡ got (length (num least (quantity_of q f))) (carried.Value u (pos (quantity_of (carried_as q) f)))
+      ≡ got (length (num least (quantity_of q f))) (value u (pos (quantity_of (carried_as q) f)))
   number-comes-back u =
       let n = number_fits_lem q least most fit in
       let s = num least (quantity_of q f) in
@@ -119,11 +120,11 @@ module _ (q : Quantity) (least most : ℕ) (fit : number_fits q least most ≡ t
       let small : quantity_of q f ≤ 4294967295 = omega (arith, fits_in) in
       taken-comes-back least most s r at_least (num-some least (quantity_of q f)) at_most (all-num least (quantity_of q f)) free u (zero_of q)
       (rw decimal-num small)
-      ∙ ap (λ (m : ℕ). got (length s) (carried.Value u (pos m)))
+      ∙ ap (λ (m : ℕ). got (length s) (value u (pos m)))
       (ap (zero_for (zero_of q)) (decimal-num least (quantity_of q f)) ∙ carried-quantity q f h)
 
   skipped-number-comes-back : passed (reach (most - least) least (num least (quantity_of q f) ++ r)) (num least (quantity_of q f) ++ r)
-      ≡ got (length (num least (quantity_of q f))) carried.Nothing
+      ≡ got (length (num least (quantity_of q f))) None
   skipped-number-comes-back =
       skipped-comes-back least most (num least (quantity_of q f)) r at_least (num-some least (quantity_of q f)) at_most (all-num least (quantity_of q f)) free
 
@@ -133,7 +134,7 @@ letter-quarter-comes-back edition book current f h r =
     let n = quantity_of Quarter f in
     let size : length (num 1 n) ≡ 1 = num-fits 1 n (omega arith) (quantity-below Quarter f h) in
     rw (skip_goes_on 2 (code "Q" ∷ num 1 n ++ r) (simp length-append (omega arith)), add-zero)
-    (ap (λ (k : ℕ). got k carried.Nothing) (omega arith))
+    (ap (λ (k : ℕ). got k None) (omega arith))
 
 -- years and zones
 
@@ -147,7 +148,7 @@ group-free false NotZero r met = met
 group-free colon Always r met = tt
 
 zone-rule-comes-back : (edition : Edition) (book : Book) (current : ℕ) (utc colon : Bool) (minutes seconds : Group) → zone_fits minutes seconds ≡ true → (f : Fields) → Allowed f
-    → (r : List ℕ) → Met (group_need colon (last_group minutes seconds)) r → Back edition book current (Zone utc colon minutes seconds) f r
+    → (r : List ℕ) → Met (group_need colon (last_group minutes seconds)) r → Back edition book current (zoned utc colon minutes seconds) f r
 unfolding rule_text carried_rule
 zone-rule-comes-back edition book current utc colon Never seconds fit f h r met = true-is-not-false (rw fit)
 zone-rule-comes-back edition book current utc colon NotZero Never fit f h r met =
@@ -182,4 +183,4 @@ rule-comes-back edition book current (Letters l n) fit f h r met =
 rule-comes-back edition book current (Years k) fit f h r met = years-come-back edition book current k f.year r h.year.1 met
 rule-comes-back edition book current (FixedYear k) fit f h r met = fixed-year-comes-back edition book current k f.year r h.year.1 (seven k r met)
 rule-comes-back edition book current TwoDigitYear fit f h r met = absurd met
-rule-comes-back edition book current (Zone utc colon minutes seconds) fit f h r met = zone-rule-comes-back edition book current utc colon minutes seconds fit f h r met
+rule-comes-back edition book current (Zone zone) fit f h r met = zone-rule-comes-back edition book current zone.utc zone.colon zone.minutes zone.seconds fit f h r met

@@ -1,4 +1,5 @@
 -- A part comes back for every allowed record where the parts behind it meet its need, and else fails for the record shown.
+use Rattle.std.specs.Prelude.{None}
 use mathlib.Core.Bool.{Bool, true, false}
 use mathlib.Core.List.{List, [], ◌∷◌, ◌++◌}
 use mathlib.Core.Path.{◌≡◌, refl, sym}
@@ -11,7 +12,6 @@ use Rattle.meaning.specs.Names.{Book}
 use Rattle.meaning.specs.Readers.{got, same}
 use Rattle.meaning.specs.Reading.{literal_read, read_step, carried_step}
 use Rattle.meaning.specs.Writing.{Step, ends_in_quote, step_text, texts}
-use Rattle.meaning.specs.declared.Carried.TheVariants as carried
 use Rattle.meaning.specs.declared.Choices.{Choices}
 use Rattle.meaning.specs.declared.Fields.{Fields}
 use Rattle.laws.proofs.Fields.{Allowed, allowed}
@@ -52,7 +52,7 @@ abbrev pub StepBack : Choices → Book → ℕ → Step → List Step → Fields
 StepBack choices book current s ss f =
     read_step choices book current s (step_text book f s ++ texts book f ss) ≡ got (length (step_text book f s)) (carried_step s f)
 
-literal-comes-back : (strict : Bool) (s r : List ℕ) → literal_read strict s (s ++ r) ≡ got (length s) carried.Nothing
+literal-comes-back : (strict : Bool) (s r : List ℕ) → literal_read strict s (s ++ r) ≡ got (length s) None
 literal-comes-back true s r = rw (same-goes-on s r, add-zero)
 literal-comes-back false s r = rw (skip_goes_on (length s) (s ++ r) (simp length-append (omega arith)), add-zero)
 
@@ -75,7 +75,7 @@ takes-literal true s t = takes-done (length s) (same s) _ t (takes_same s t)
 takes-literal false s t = takes-passed (length s) t
 
 lost-fails : (strict : Bool) (s r : List ℕ) → ends_in_quote s ≡ true
-    → literal_read strict s (take (length s - 1) s ++ r) ≡ got (length (take (length s - 1) s)) carried.Nothing → ⊥
+    → literal_read strict s (take (length s - 1) s ++ r) ≡ got (length (take (length s - 1) s)) None → ⊥
 lost-fails strict s r k e =
     let t = take (length s - 1) s ++ r in
     omega (arith, has-a-quote s k, length-take (length s - 1) s, takes-got (length s) (takes-literal strict s t) e)

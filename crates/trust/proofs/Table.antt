@@ -96,7 +96,7 @@ fits book (Letters l n) = both (names_fit book l) (both (same_length book n l) (
 fits book (Years k) = true
 fits book (FixedYear k) = true
 fits book TwoDigitYear = true
-fits book (Zone utc colon minutes seconds) = zone_fits minutes seconds
+fits book (Zone zone) = zone_fits zone.minutes zone.seconds
 
 -- a number that is read fits in either edition, and reads zero for what stands for it
 module _ (q : Quantity) (least most : ℕ) (u : ParseUnit) (z : ℕ) (book : Book) (fit : fits book (Number q least most u z) ≡ true) where

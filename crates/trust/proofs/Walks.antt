@@ -1,6 +1,6 @@
 -- Where every part comes back, a read of what was written goes through all parts, takes the whole text, and gives what each
 -- part carries, read from where its own text stands.
-use Rattle.std.specs.Prelude.{Ok}
+use Rattle.std.specs.Prelude.{Ok, Option}
 use mathlib.Core.List.{List, [], ◌∷◌, ◌++◌, reverse, append-nil, reverse-cons}
 use mathlib.Core.Path.{◌≡◌, ap, ◌∙◌}
 use Prim.Native.Nat.{ℕ, suc, ◌+◌, ◌<◌}
@@ -29,7 +29,7 @@ newest-last c cs gave = ap (λ (l : List _). l ++ gave) (reverse-cons c cs) ∙ 
 
 module _ (choices : Choices) (book : Book) (current : ℕ) where
   -- a part that is read
-  walk-on : (i at : ℕ) (step : Step) (ss : List Step) (s : List ℕ) (gave : List Gave) {n : ℕ} {c : Carried}
+  walk-on : (i at : ℕ) (step : Step) (ss : List Step) (s : List ℕ) (gave : List Gave) {n : ℕ} {c : Option Carried}
       → read_step choices book current step s ≡ got n c
       → walk choices book current i at (step ∷ ss) s gave
       ≡ walk choices book current (suc i) (at + n) ss (drop n s) (record { carried = c; start = at; end = at + n } ∷ gave)

@@ -63,7 +63,7 @@ rule_first (Letters l n) = name_first l
 rule_first (Years k) = true
 rule_first (FixedYear k) = true
 rule_first TwoDigitYear = true
-rule_first (Zone utc colon minutes seconds) = false
+rule_first (Zone zone) = false
 
 unfoldable pub rule_second : Rule → Bool → Bool
 unfolding has_letters most_digits
@@ -76,7 +76,7 @@ rule_second (Letters l n) behind = name_second l behind
 rule_second (Years k) behind = true
 rule_second (FixedYear k) behind = true
 rule_second TwoDigitYear behind = true
-rule_second (Zone utc colon minutes seconds) behind = true
+rule_second (Zone zone) behind = true
 
 -- The same of a part. What an unclosed one loses is a quote at the end of all, so no digit.
 unfoldable pub step_first : Step → Bool

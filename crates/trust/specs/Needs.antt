@@ -42,7 +42,7 @@ rule_need edition (Letters l n) = Nothing
 rule_need edition (Years k) = NoDigit
 rule_need edition (FixedYear k) = when (leb 7 k) Nothing LosesYear
 rule_need edition TwoDigitYear = LosesYear
-rule_need edition (Zone utc colon minutes seconds) = group_need colon (last_group minutes seconds)
+rule_need edition (Zone zone) = group_need zone.colon (last_group zone.minutes zone.seconds)
 
 -- "`'abc''` writes abc, yet a read skips 4 bytes"
 unfoldable pub step_need : Edition → Step → Need

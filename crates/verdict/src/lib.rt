@@ -19,7 +19,7 @@ use pattern::parts::next_part;
 use rules::step::step_of;
 use trust::{Need, Unmet};
 
-// Whether what the parts from a place on can write meets a need.
+// Whether what the parts from a place on can write meets a need: each arm is a row of the definition's table.
 #[tactic(auto, unfolding(trust::specs::Check::meets))]
 fn meets(need: Need, pattern: &[u8], place: usize) -> bool
     ensures { result ≡ trust.meets need (steps Pair.Full (drop place pattern.now)) }

@@ -50,6 +50,7 @@ fn name_first(list: NameList) -> bool
     matches!(opening_of(list), Opening::Digit)
 }
 
+// An arm for each row of the definition; a symbol added to the table has to be given one here.
 #[tactic(auto, unfolding(trust::specs::Ahead::rule_first))]
 fn rule_first(rule: Rule) -> bool
     ensures { result ≡ ahead.rule_first rule }
@@ -79,6 +80,7 @@ fn number_second(quantity: Quantity, least: u8, behind: bool) -> bool
     2 <= least || 2 <= most_digits(quantity) || behind
 }
 
+// The same table for the second byte: which arm asks about the parts behind differs.
 #[tactic(auto, unfolding(trust::specs::Ahead::rule_second))]
 fn rule_second(rule: Rule, behind: bool) -> bool
     ensures { result ≡ ahead.rule_second rule behind }
@@ -136,6 +138,7 @@ fn times_second(b: u8, count: usize, behind: bool) -> bool
 }
 
 // Short numbers and years begin with two digits, for some record at least; names with two letters.
+// An arm for each step, as the bytes that it can write are told by its kind alone.
 #[tactic(auto, using(crate::proofs::lookahead::Literals::run_first, crate::proofs::lookahead::Quick::year_first, pattern::proofs::parts::Walks::rest_all), unfolding(trust::specs::Ahead::step_first, trust::specs::Ahead::rule_first, trust::specs::Ahead::name_first, trust::specs::Ahead::opening))]
 fn step_first(step: Step, pattern: &[u8]) -> bool
     requires { Held pattern.now step }
@@ -154,6 +157,7 @@ fn step_first(step: Step, pattern: &[u8]) -> bool
     }
 }
 
+// An arm for each step, as for the first byte.
 #[tactic(auto, using(crate::proofs::lookahead::Quick::short_second, crate::proofs::lookahead::Quick::year_second, pattern::proofs::parts::Walks::rest_all), unfolding(crate::specs::Insides::inside_second, trust::specs::Ahead::step_second, trust::specs::Ahead::has_letters, trust::specs::Ahead::opening))]
 fn step_second(step: Step, pattern: &[u8], behind: bool) -> bool
     requires { Held pattern.now step }

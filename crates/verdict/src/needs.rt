@@ -83,6 +83,7 @@ fn fixed_year_need(count: usize) -> Need
     }
 }
 
+// An arm for each rule, as the table of needs has a row.
 #[tactic(auto, unfolding(trust::specs::Needs::rule_need))]
 fn rule_need(edition: Edition, rule: Rule) -> Need
     ensures { result ≡ needs.rule_need edition rule }
@@ -106,12 +107,7 @@ fn rule_need(edition: Edition, rule: Rule) -> Need
         Rule::Years(_) => Need::NoDigit,
         Rule::FixedYear(count) => fixed_year_need(count),
         Rule::TwoDigitYear => Need::LosesYear,
-        Rule::Zone {
-            colon,
-            minutes,
-            seconds,
-            ..
-        } => group_need(colon, last_group(minutes, seconds)),
+        Rule::Zone(zone) => group_need(zone.colon, last_group(zone.minutes, zone.seconds)),
     }
 }
 
@@ -128,6 +124,7 @@ fn year_need(edition: Edition, count: usize) -> Need
 }
 
 // An unclosed part that loses a byte when it is written does not come back: a read skips that byte too.
+// An arm for each step, as for a rule: which of its fields the need hangs on differs.
 #[tactic(auto, unfolding(trust::specs::Needs::step_need, trust::specs::Needs::rule_need))]
 pub fn step_need(edition: Edition, step: Step, pattern: &[u8]) -> Need
     requires { Held pattern.now step }

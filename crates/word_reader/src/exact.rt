@@ -1,5 +1,5 @@
 // Reading piece by piece, straight into the row: every text is read or refused here as the definitions say, whatever the words are.
-ghost use Rattle.std.specs.Prelude.{[], map, ◌≡◌, ◌+◌, ◌-◌, ◌≤◌, ◌%◌, min, length, take, drop, replicate};
+ghost use Rattle.std.specs.Prelude.{[], map, ◌≡◌, ◌+◌, ◌-◌, ◌≤◌, ◌%◌, length, take, drop, replicate};
 ghost use Rattle.meaning.specs.Answers.{read_answer};
 ghost use Rattle.meaning.specs.OpenedBooks.{book_in};
 ghost use Rattle.meaning.specs.Reading.{literal_read, read_step};
@@ -9,7 +9,7 @@ ghost use Rattle.parse.specs.Steps.{part_at};
 ghost use Rattle.rows.specs.Rows.{in_row, Given};
 ghost use Rattle.words.specs.Pieces.{held_bytes, piece_step, steps_of};
 
-use crate::keeping::{finish, keep};
+use crate::keeping::{Moved, finish};
 use meaning::{Carried, Choices, Refusal, Trouble};
 use parse::cursor::{Cursor, Read, Stop};
 use parse::literals::compare;
@@ -25,8 +25,8 @@ fn compare_held(held: &[u64], text: &[u8], at: usize) -> Option<usize>
     requires { at + length held.now ≤ length text.now }
     ensures { result ≡ compared_from at (map (λ w. w % 256) held.now) text.now }
 {
-    for i in 0..held.len() {
-        if text[at + i] != (held[i] % 256) as u8 {
+    for (i, w) in held.iter().enumerate() {
+        if text[at + i] != (*w % 256) as u8 {
             return Some(at + i);
         }
     }
@@ -43,7 +43,12 @@ fn differs(place: usize) -> Stop
 }
 
 // Held bytes: passed over, or by a strict reading compared.
-fn read_held(strict: bool, held: &[u64], text: &[u8], cursor: Cursor) -> Result<Read<Carried>, Stop>
+fn read_held(
+    strict: bool,
+    held: &[u64],
+    text: &[u8],
+    cursor: Cursor,
+) -> Result<Read<Option<Carried>>, Stop>
     requires { cursor.at ≤ length text.now }
     ensures { result ≡ part_at cursor.at (literal_read strict (map (λ w. w % 256) held.now) (drop cursor.at text.now)) }
 {
@@ -64,7 +69,7 @@ fn read_times(
     count: usize,
     text: &[u8],
     cursor: Cursor,
-) -> Result<Read<Carried>, Stop>
+) -> Result<Read<Option<Carried>>, Stop>
     requires { cursor.at ≤ length text.now }
     ensures { result ≡ part_at cursor.at (literal_read strict (replicate count byte) (drop cursor.at text.now)) }
 {
@@ -80,13 +85,8 @@ fn read_times(
     pass(count, text, cursor)
 }
 
-fn smaller(a: usize, b: usize) -> usize
-    ensures { result ≡ min a b }
-{
-    if a <= b { a } else { b }
-}
-
 // One piece, with a literal compared where the reading is strict.
+// An arm for each of the three pieces: the proof of each needs which one it is.
 pub fn read_piece(
     choices: Choices,
     book: &[u8],
@@ -95,7 +95,7 @@ pub fn read_piece(
     current_year: u32,
     text: &[u8],
     cursor: Cursor,
-) -> Result<Read<Carried>, Stop>
+) -> Result<Read<Option<Carried>>, Stop>
     requires { cursor.at ≤ length text.now }
     ensures { result ≡ part_at cursor.at (read_step choices (book_in book.now) current_year (piece_step tail.now piece) (drop cursor.at text.now)) }
 {
@@ -108,8 +108,8 @@ pub fn read_piece(
             count,
             lost: _,
         } => {
-            let start = smaller(from, tail.len());
-            let end = start + smaller(count, tail.len() - start);
+            let start = from.min(tail.len());
+            let end = start + count.min(tail.len() - start);
             read_held(strict, &tail[start..end], text, cursor)
         }
         Piece::Symbol(rule) => { parse_rule(edition, book, rule, current_year, text, cursor) }
@@ -150,8 +150,8 @@ pub fn read_pieces(
             Ok(read) => {
                 let start = at;
                 at = read.next.at;
-                if let Carried::Value(unit, value) = read.value {
-                    let kept = keep(unit, value, start, at, mask, answer);
+                if let Some(carried) = read.value {
+                    let kept = Moved { next: start, mask }.keep(carried, at, at, answer);
                     mask = kept.mask;
                 }
             }

@@ -6,8 +6,8 @@ ghost use Rattle.word_reader.specs.Quick as quick;
 ghost use Rattle.words.specs.Coding.{is_spelled};
 ghost use Rattle.words.specs.Fields as field;
 
-use crate::keeping::{Moved, keep, pass_behind};
-use meaning::{Choices, ParseUnit};
+use crate::keeping::{Moved, pass_behind};
+use meaning::{Carried, Choices, ParseUnit};
 use names::letters::spelled_at;
 use names::rooms::OPENED;
 use words::coding::{is_spelled, is_weekday, most_letters};
@@ -17,26 +17,27 @@ fn english_name(
     choices: Choices,
     w: u64,
     text: &[u8],
-    at: usize,
-    mask: u16,
+    from: Moved,
     answer: &mut [i64],
 ) -> Option<Moved>
-    requires { (field.code w ≡ 22) × (is_spelled w ≡ true) × quick.Ready text.now at answer.old }
-    ensures { quick.Named choices english w text.now at mask answer.old answer.new result }
+    requires { (field.code w ≡ 22) × (is_spelled w ≡ true) × quick.Ready text.now from.next answer.old }
+    ensures { quick.Named choices english w text.now from answer.old answer.new result }
 {
     let weekday = is_weekday(w);
-    let found = spelled_at(weekday, most_letters(w), text, at)?;
-    let end = at + found.length;
+    let found = spelled_at(weekday, most_letters(w), text, from.next)?;
+    let end = from.next + found.length;
     let next = pass_behind(choices, w, text, end)?;
     if weekday {
-        return Some(Moved { next, mask });
+        return Some(Moved {
+            next,
+            mask: from.mask,
+        });
     }
-    let month = (found.name + 1) as i64;
-    let kept = keep(ParseUnit::Month, month, at, end, mask, answer);
-    Some(Moved {
-        next,
-        mask: kept.mask,
-    })
+    let month = Carried {
+        unit: ParseUnit::Month,
+        value: (found.name + 1) as i64,
+    };
+    Some(from.keep(month, end, next, answer))
 }
 
 // A name, if it is spelled and no book is lent.
@@ -45,18 +46,17 @@ pub fn hot_name(
     book: &[u8],
     w: u64,
     text: &[u8],
-    at: usize,
-    mask: u16,
+    from: Moved,
     answer: &mut [i64],
 ) -> Option<Moved>
-    requires { (field.code w ≡ 22) × quick.Ready text.now at answer.old }
-    ensures { quick.Named choices (book_in book.now) w text.now at mask answer.old answer.new result }
+    requires { (field.code w ≡ 22) × quick.Ready text.now from.next answer.old }
+    ensures { quick.Named choices (book_in book.now) w text.now from answer.old answer.new result }
 {
     if book.len() == OPENED {
         return None;
     }
     if is_spelled(w) {
-        return english_name(choices, w, text, at, mask, answer);
+        return english_name(choices, w, text, from, answer);
     }
     None
 }

@@ -1,11 +1,12 @@
 // Words that go the plain way are read at once: a byte, digits that stand where they are expected. Of any other the row stays as it was.
 ghost use Rattle.std.specs.Prelude.{◌≡◌, ◌+◌, ◌-◌, ◌≤◌, ◌<◌, pos, length, drop, Some, None, IfSome};
 ghost use Rattle.meaning.specs.Bytes.{when, is_digit};
+ghost use Rattle.meaning.specs.Reading as reading;
 ghost use Rattle.parse.specs.ShortReads.{short_digits};
 ghost use Rattle.word_reader.specs.Quick as quick;
 ghost use Rattle.words.specs.Fields as field;
 
-use crate::keeping::{Moved, keep, pass_behind, pass_byte};
+use crate::keeping::{Moved, pass_behind, pass_byte};
 use meaning::{Carried, Choices, ParseUnit};
 use numerals::is_digit;
 use parse::short::Digits;
@@ -66,44 +67,37 @@ fn year_at(text: &[u8], at: usize) -> Option<u32>
     Some(century * 100 + rest)
 }
 
-// Two digits of a number, by its slot.
-fn hot_two(
-    choices: Choices,
-    w: u64,
-    text: &[u8],
-    at: usize,
-    mask: u16,
-    answer: &mut [i64],
-) -> Option<Moved>
-    requires { (field.code w ≡ 3) × quick.Ready text.now at answer.old }
-    ensures { quick.Hot choices w text.now at mask answer.old answer.new result }
+// A unit's value that counts up from zero.
+fn of_count(unit: ParseUnit, n: u32) -> Carried
+    ensures { result ≡ record { unit = unit; value = pos n } }
 {
-    let end = at + 2;
+    Carried {
+        unit,
+        value: n as i64,
+    }
+}
+
+// Two digits of a number, by its slot.
+fn hot_two(choices: Choices, w: u64, text: &[u8], from: Moved, answer: &mut [i64]) -> Option<Moved>
+    requires { (field.code w ≡ 3) × quick.Ready text.now from.next answer.old }
+    ensures { quick.Hot choices w text.now from answer.old answer.new result }
+{
+    let end = from.next + 2;
     if text.len() < end {
         return None;
     }
-    let n = two_at(text, at)?;
-    let next = pass_behind(choices, w, text, end)?;
+    let n = two_at(text, from.next)?;
     let unit = short_unit(short_in(slot(w)));
-    let kept = keep(unit, n as i64, at, end, mask, answer);
-    Some(Moved {
-        next,
-        mask: kept.mask,
-    })
+    let next = pass_behind(choices, w, text, end)?;
+    Some(from.keep(of_count(unit, n), end, next, answer))
 }
 
 // One digit or two of a number, by its slot.
-fn hot_few(
-    choices: Choices,
-    w: u64,
-    text: &[u8],
-    at: usize,
-    mask: u16,
-    answer: &mut [i64],
-) -> Option<Moved>
-    requires { (field.code w ≡ 4) × quick.Ready text.now at answer.old }
-    ensures { quick.Hot choices w text.now at mask answer.old answer.new result }
+fn hot_few(choices: Choices, w: u64, text: &[u8], from: Moved, answer: &mut [i64]) -> Option<Moved>
+    requires { (field.code w ≡ 4) × quick.Ready text.now from.next answer.old }
+    ensures { quick.Hot choices w text.now from answer.old answer.new result }
 {
+    let at = from.next;
     if text.len() <= at {
         return None;
     }
@@ -111,41 +105,24 @@ fn hot_few(
     let edition = choices.edition;
     let most = most_read(edition, short_quantity(short), short_most(short, 1));
     let read = few_at(most, text, at)?;
+    let unit = short_unit(short);
     let end = at + read.taken;
     let next = pass_behind(choices, w, text, end)?;
-    let kept = keep(short_unit(short), read.size as i64, at, end, mask, answer);
-    Some(Moved {
-        next,
-        mask: kept.mask,
-    })
+    Some(from.keep(of_count(unit, read.size), end, next, answer))
 }
 
 // A year of four digits, where the word asks for no more.
-fn hot_year(
-    choices: Choices,
-    w: u64,
-    text: &[u8],
-    at: usize,
-    mask: u16,
-    answer: &mut [i64],
-) -> Option<Moved>
-    requires { (field.code w ≡ 9) × quick.Ready text.now at answer.old }
-    ensures { quick.Hot choices w text.now at mask answer.old answer.new result }
+fn hot_year(choices: Choices, w: u64, text: &[u8], from: Moved, answer: &mut [i64]) -> Option<Moved>
+    requires { (field.code w ≡ 9) × quick.Ready text.now from.next answer.old }
+    ensures { quick.Hot choices w text.now from answer.old answer.new result }
 {
-    let end = at + 4;
-    if text.len() < end {
+    let end = from.next + 4;
+    if text.len() < end || 4 < slot(w) {
         return None;
     }
-    if 4 < slot(w) {
-        return None;
-    }
-    let n = year_at(text, at)?;
+    let n = year_at(text, from.next)?;
     let next = pass_behind(choices, w, text, end)?;
-    let kept = keep(ParseUnit::Year, n as i64, at, end, mask, answer);
-    Some(Moved {
-        next,
-        mask: kept.mask,
-    })
+    Some(from.keep(of_count(ParseUnit::Year, n), end, next, answer))
 }
 
 // The bytes between three numbers.
@@ -177,109 +154,84 @@ const DATE: Units = Units {
     third: ParseUnit::DayOfMonth,
 };
 
-// Keeps three numbers: one that ends at a place, and behind it two of two digits with a byte before each.
-fn keep_three(
+// The last two of three numbers, after a first of so many digits; all three are kept.
+fn hot_rest<const WIDTH: usize>(
+    choices: Choices,
+    w: u64,
     units: Units,
-    a: u32,
-    b: u32,
-    c: u32,
-    at: usize,
-    end: usize,
-    next: usize,
-    mask: u16,
+    first: u32,
+    text: &[u8],
+    from: Moved,
     answer: &mut [i64],
-) -> Moved
-    requires { (48 ≤ length answer.old) × (at ≤ end) × (end + 6 ≤ 2048) }
-    ensures { (result.next ≡ next) × quick.Kept (quick.gave_three (Carried.Value units.first (pos a)) (Carried.Value units.second (pos b)) (Carried.Value units.third (pos c)) at end) answer.old answer.new mask result.mask × (drop 48 answer.new ≡ drop 48 answer.old) }
+) -> Option<Moved>
+    requires { (48 ≤ length answer.old) × (length text.now ≤ 2048) × (from.next + WIDTH + 6 ≤ length text.now) }
+    ensures { quick.Three choices w (reading.value units.first (pos first)) units.second units.third text.now from (from.next + WIDTH) answer.old answer.new result }
 {
-    let first = units.first;
-    let second = units.second;
-    let third = units.third;
-    let one = keep(first, a as i64, at, end, mask, answer);
-    let two = keep(second, b as i64, end + 1, end + 3, one.mask, answer);
-    let all = keep(third, c as i64, end + 4, end + 6, two.mask, answer);
-    Moved {
-        next,
-        mask: all.mask,
-    }
+    let end = from.next + WIDTH;
+    let second = two_at(text, end + 1)?;
+    let third = two_at(text, end + 4)?;
+    between(choices.strict, w, text, end, end + 3)?;
+    let next = pass_behind(choices, w, text, end + 6)?;
+    let one = from.keep(of_count(units.first, first), end, end + 1, answer);
+    let two = one.keep(of_count(units.second, second), end + 3, end + 4, answer);
+    Some(two.keep(of_count(units.third, third), end + 6, next, answer))
 }
 
 // Three numbers: the hour, the minute and the second.
-fn hot_time(
-    choices: Choices,
-    w: u64,
-    text: &[u8],
-    at: usize,
-    mask: u16,
-    answer: &mut [i64],
-) -> Option<Moved>
-    requires { (field.code w ≡ 10) × quick.Ready text.now at answer.old }
-    ensures { quick.Hot choices w text.now at mask answer.old answer.new result }
+fn hot_time(choices: Choices, w: u64, text: &[u8], from: Moved, answer: &mut [i64]) -> Option<Moved>
+    requires { (field.code w ≡ 10) × quick.Ready text.now from.next answer.old }
+    ensures { quick.Hot choices w text.now from answer.old answer.new result }
 {
-    let end = at + 2;
-    if text.len() < end + 6 {
+    if text.len() < from.next + 8 {
         return None;
     }
-    let hour = two_at(text, at)?;
-    let minute = two_at(text, end + 1)?;
-    let second = two_at(text, end + 4)?;
-    between(choices.strict, w, text, end, end + 3)?;
-    let next = pass_behind(choices, w, text, end + 6)?;
-    Some(keep_three(TIME, hour, minute, second, at, end, next, mask, answer))
+    let hour = two_at(text, from.next)?;
+    hot_rest::<2>(choices, w, TIME, hour, text, from, answer)
 }
 
 // Three numbers: the year of four digits, the month and the day.
-fn hot_date(
-    choices: Choices,
-    w: u64,
-    text: &[u8],
-    at: usize,
-    mask: u16,
-    answer: &mut [i64],
-) -> Option<Moved>
-    requires { (field.code w ≡ 15) × quick.Ready text.now at answer.old }
-    ensures { quick.Hot choices w text.now at mask answer.old answer.new result }
+fn hot_date(choices: Choices, w: u64, text: &[u8], from: Moved, answer: &mut [i64]) -> Option<Moved>
+    requires { (field.code w ≡ 15) × quick.Ready text.now from.next answer.old }
+    ensures { quick.Hot choices w text.now from answer.old answer.new result }
 {
-    let end = at + 4;
-    if text.len() < end + 6 {
+    if text.len() < from.next + 10 {
         return None;
     }
-    let year = year_at(text, at)?;
-    let month = two_at(text, end + 1)?;
-    let day = two_at(text, end + 4)?;
-    between(choices.strict, w, text, end, end + 3)?;
-    let next = pass_behind(choices, w, text, end + 6)?;
-    Some(keep_three(DATE, year, month, day, at, end, next, mask, answer))
+    let year = year_at(text, from.next)?;
+    hot_rest::<4>(choices, w, DATE, year, text, from, answer)
 }
 
 // A byte by itself.
-fn hot_byte(choices: Choices, w: u64, text: &[u8], at: usize, mask: u16) -> Option<Moved>
-    requires { (field.code w ≡ 1) × (at ≤ length text.now) }
-    ensures { (row : quick.Row) → quick.Hot choices w text.now at mask row row result }
+fn hot_byte(choices: Choices, w: u64, text: &[u8], from: Moved) -> Option<Moved>
+    requires { (field.code w ≡ 1) × (from.next ≤ length text.now) }
+    ensures { (row : quick.Row) → quick.Hot choices w text.now from row row result }
 {
-    let next = pass_byte(choices.strict, last_byte(w), text, at)?;
-    Some(Moved { next, mask })
+    let next = pass_byte(choices.strict, last_byte(w), text, from.next)?;
+    Some(Moved {
+        next,
+        mask: from.mask,
+    })
 }
 
 // A word, if it goes the plain way.
+// An arm for each code: the function that it calls asks for a word of this code.
 pub fn hot_word(
     choices: Choices,
     w: u64,
     text: &[u8],
-    at: usize,
-    mask: u16,
+    from: Moved,
     answer: &mut [i64],
 ) -> Option<Moved>
-    requires { quick.Ready text.now at answer.old }
-    ensures { quick.Hot choices w text.now at mask answer.old answer.new result }
+    requires { quick.Ready text.now from.next answer.old }
+    ensures { quick.Hot choices w text.now from answer.old answer.new result }
 {
     match code(w) {
-        1 => hot_byte(choices, w, text, at, mask),
-        3 => hot_two(choices, w, text, at, mask, answer),
-        4 => hot_few(choices, w, text, at, mask, answer),
-        9 => hot_year(choices, w, text, at, mask, answer),
-        10 => hot_time(choices, w, text, at, mask, answer),
-        15 => hot_date(choices, w, text, at, mask, answer),
+        1 => hot_byte(choices, w, text, from),
+        3 => hot_two(choices, w, text, from, answer),
+        4 => hot_few(choices, w, text, from, answer),
+        9 => hot_year(choices, w, text, from, answer),
+        10 => hot_time(choices, w, text, from, answer),
+        15 => hot_date(choices, w, text, from, answer),
         _ => None,
     }
 }

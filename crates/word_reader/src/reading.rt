@@ -1,5 +1,5 @@
 // Reading a text by a prepared pattern.
-ghost use Rattle.std.specs.Prelude.{true, [], ◌≡◌, ◌≤◌, nat_abs, length, take, Ok};
+ghost use Rattle.std.specs.Prelude.{[], ◌≡◌, ◌≤◌, nat_abs, length, take, Ok, Some};
 ghost use Rattle.meaning.specs.Answers.{current_year_check, text_check, read_answer};
 ghost use Rattle.meaning.specs.OpenedBooks.{book_in};
 ghost use Rattle.meaning.specs.Whole.{read_by, walk};
@@ -35,7 +35,7 @@ fn read_exactly(
     }
 }
 
-// A text that passes 6 and 7, if its words can be read; whether they were.
+// A text that passes 6 and 7, if its words can be read.
 // The counts and values are cleared here, the places by quick_words: a whole row at once would be a call.
 fn read_quickly(
     choices: Choices,
@@ -45,14 +45,14 @@ fn read_quickly(
     text: &[u8],
     year: i32,
     answer: &mut [i64],
-) -> bool
+) -> Option<()>
     requires { (used ≤ length tail.now) × (48 ≤ length answer.old) }
-    ensures { Whole choices (book_in book.now) (nat_abs year) (steps_of tail.now (take used tail.now)) text.now answer.old answer.new result × (result ≡ true → text_check text.now ≡ Ok tt) }
+    ensures { Whole choices (book_in book.now) (nat_abs year) (steps_of tail.now (take used tail.now)) text.now answer.old answer.new result × (result ≡ Some tt → text_check text.now ≡ Ok tt) }
 {
     lay_zeros(18, answer, 0);
     match text_check(text) {
         Ok(()) => quick_words(choices, book, tail, used, text, size(year), answer),
-        Err(_) => false,
+        Err(_) => None,
     }
 }
 
@@ -69,8 +69,8 @@ pub fn read_words(
     requires { (used ≤ length tail.now) × (48 ≤ length answer.old) × (current_year_check choices.edition year ≡ Ok tt) }
     ensures { Given (in_row 48 (read_answer (read_steps (Ok tt) choices (book_in book.now) (steps_of tail.now (take used tail.now)) text.now year))) answer.old answer.new result }
 {
-    if read_quickly(choices, book, tail, used, text, year, answer) {
-        return 0;
+    match read_quickly(choices, book, tail, used, text, year, answer) {
+        Some(()) => 0,
+        None => read_exactly(choices, book, tail, used, text, year, answer),
     }
-    read_exactly(choices, book, tail, used, text, year, answer)
 }

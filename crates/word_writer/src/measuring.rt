@@ -36,21 +36,14 @@ pub fn most_of(words: &[u64]) -> usize
 fn behind_length(w: u64) -> usize
     ensures { (result ≡ length (behind_text w)) × (result ≤ 1) }
 {
-    if last_byte(w) == 0 { 0 } else { 1 }
+    usize::from(last_byte(w) != 0)
 }
 
 // So many, but none that lie behind the end.
 fn at_most(count: usize, from: usize, end: usize) -> usize
     ensures { result ≡ min count (end - from) }
 {
-    if end <= from {
-        return 0;
-    }
-    if end - from < count {
-        end - from
-    } else {
-        count
-    }
+    count.min(end.saturating_sub(from))
 }
 
 // How many of the bytes that a word holds in the row are written.
@@ -68,6 +61,7 @@ fn years_length(f: Fields, digits: usize) -> usize
     year_length(f.year, digits)
 }
 
+// An arm for each code, as the text of a word is defined.
 fn word_length(book: &[u8], tail: &[u64], w: u64, f: Fields) -> usize
     requires { fields_check f ≡ Ok tt }
     ensures { result ≡ length (word_text book.now tail.now f w) }
@@ -96,8 +90,8 @@ pub fn words_length(book: &[u8], tail: &[u64], used: usize, f: Fields) -> usize
     ensures { result ≡ length (words_text book.now tail.now f (take used tail.now)) }
 {
     let mut n = 0;
-    for i in 0..used {
-        n += word_length(book, tail, tail[i], f);
+    for &w in &tail[..used] {
+        n += word_length(book, tail, w, f);
     }
     n
 }

@@ -1,4 +1,5 @@
-// Writing by words: each lays the text of its steps behind that of the words before it.
+// Writing by words: each lays the text of its steps behind that of the words before it. The output and the place in it are handed on as
+// the leaves of digits and format take them: a struct of both would be taken apart at each.
 ghost use Rattle.std.specs.Prelude.{true, false, ◌++◌, ◌≡◌, ◌+◌, ◌-◌, ◌≤◌, ◌<◌, length, take, get_or, Ok};
 ghost use Rattle.laws.specs.Laid.{Laid};
 ghost use Rattle.meaning.specs.Answers.{fields_check};
@@ -82,14 +83,15 @@ fn put_held(tail: &[u64], from: usize, n: usize, out: &mut [u8], at: usize) -> u
     requires n_in_bounds_2 { at + n ≤ length out.old }
     ensures { Laid out.old out.new at result (held_bytes tail.now from n) }
 {
+    // Over numbers: where nothing is held, the place may lie past the row's end, so there is no slice to go over.
     for j in 0..n {
         out[at + j] = (tail[from + j] % 256) as u8;
     }
     at + n
 }
 
-// Whether a word is one of those that patterns have most, with a year of four digits where it writes one. An arm for each code: joined by `|`, a prepared
-// write takes up to 2 per cent more instructions.
+// Whether a word is one of those that patterns have most, with a year of four digits where it writes one. An arm for each code: by `matches!`, a prepared
+// write takes up to 4 per cent more instructions.
 fn is_quick(w: u64, year: u32) -> bool
     ensures { result ≡ is_quick year w }
 {
@@ -97,12 +99,7 @@ fn is_quick(w: u64, year: u32) -> bool
         1 => true,
         3 => true,
         4 => true,
-        9 => {
-            if slot(w) == 4 {
-                return year < 10000;
-            }
-            false
-        }
+        9 => slot(w) == 4 && year < 10000,
         10 => true,
         15 => year < 10000,
         _ => false,
@@ -111,6 +108,7 @@ fn is_quick(w: u64, year: u32) -> bool
 
 // A quick word. The place of each number is taken from the word, also where the code alone says which it is: so no digit is worked out but those
 // that are written.
+// An arm for each code, as for `is_quick`.
 fn put_quick(w: u64, numbers: &[u32; 11], out: &mut [u8], at: usize) -> usize
     requires small { Small numbers.now }
     requires w_value { is_quick (get_or numbers.now 10 0) w ≡ true }
@@ -174,7 +172,7 @@ fn put_name(book: &[u8], w: u64, f: Fields, out: &mut [u8], at: usize) -> usize
     put_behind(w, out, next)
 }
 
-// What is rarest.
+// What is rarest: an arm for each code, as the text of a word is defined.
 fn put_other(tail: &[u64], w: u64, f: Fields, out: &mut [u8], at: usize) -> usize
     requires f_value { fields_check f ≡ Ok tt }
     requires w_in_bounds { at + length (other_text tail.now f w) ≤ length out.old }
@@ -197,6 +195,7 @@ fn put_other(tail: &[u64], w: u64, f: Fields, out: &mut [u8], at: usize) -> usiz
 }
 
 // Any word that is not quick. The rarest are called at two places: so they stay a call, and nothing of them is worked out where it is not asked for.
+// An arm for each code, as there.
 fn put_slow(book: &[u8], tail: &[u64], w: u64, f: Fields, out: &mut [u8], at: usize) -> usize
     requires f_value { fields_check f ≡ Ok tt }
     requires w_value { is_quick (plain_year f) w ≡ false }
@@ -248,8 +247,7 @@ fn put_words(book: &[u8], tail: &[u64], used: usize, f: Fields, out: &mut [u8]) 
     let numbers = numbers_of(f);
     let year = numbers[10];
     let mut at = 0;
-    for i in 0..used {
-        let w = tail[i];
+    for &w in &tail[..used] {
         if is_quick(w, year) {
             at = put_quick(w, &numbers, out, at);
         } else {

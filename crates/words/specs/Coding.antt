@@ -11,6 +11,7 @@ use Rattle.meaning.specs.declared.Quantity.{Quantity}
 use Rattle.meaning.specs.declared.Quantity.TheVariants as quantities
 use Rattle.meaning.specs.declared.Rule.{Rule}
 use Rattle.meaning.specs.declared.Rule.TheVariants.{Number, SkippedNumber, LetterQuarter, SkippedName, MatchedName, Letters, TwoDigitYear, Zone}
+use Rattle.meaning.specs.declared.Zone as zone
 use Rattle.words.specs.Fields.{kind, item, least, most, unit, zero, size, utc, colon, minutes, seconds}
 
 -- what a number is of; the last, so many digits of the second's fraction
@@ -75,6 +76,9 @@ unit_in n =
 abbrev pub group_in : ℕ → Group
 group_in n = when (eqb n 0) Never (when (eqb n 1) NotZero Always)
 
+abbrev pub zone_in : ℕ → zone.Zone
+zone_in w = record { utc = utc w; colon = colon w; minutes = group_in (minutes w); seconds = group_in (seconds w) }
+
 -- the rule of each kind; years have words of their own
 unfoldable pub rule_of_kind : ℕ → ℕ → Rule
 unfolding quantity_in list_in unit_in
@@ -86,7 +90,7 @@ rule_of_kind k w =
     (when (eqb k 4) (MatchedName (list_in (item w)))
     (when (eqb k 5) (Letters (list_in (item w)) (size w))
     (when (eqb k 6) TwoDigitYear
-    (Zone (utc w) (colon w) (group_in (minutes w)) (group_in (seconds w)))))))))
+    (Zone (zone_in w))))))))
 
 abbrev pub rule_in : ℕ → Rule
 rule_in w = rule_of_kind (kind w) w

@@ -101,8 +101,9 @@ rule_word (Letters l n) = 182 + 512 * list_number l + 2147483648 * n
 rule_word (Years k) = 9 + 32 * k
 rule_word (FixedYear k) = 29 + 32 * k
 rule_word TwoDigitYear = 214
-rule_word (Zone utc c minutes seconds) =
-    246 + 17179869184 * bit utc + 34359738368 * bit c + 68719476736 * group_number minutes + 274877906944 * group_number seconds
+rule_word (Zone zone) =
+    246 + 17179869184 * bit zone.utc + 34359738368 * bit zone.colon + 68719476736 * group_number zone.minutes
+    + 274877906944 * group_number zone.seconds
 
 -- a byte by itself, and one that stands so often
 abbrev pub byte_word : ℕ → ℕ

@@ -3,8 +3,9 @@ ghost use Rattle.std.specs.Prelude.{◌≡◌, eqb};
 ghost use Rattle.words.specs.Coding as coding;
 ghost use Rattle.words.specs.Fields as field;
 
-use meaning::{Group, NameList, ParseUnit, Quantity, Rule};
+use meaning::{Group, NameList, ParseUnit, Quantity, Rule, Zone};
 
+// By matches, since there is no cast from a number: the one table of each numbering of `rule_words`.
 fn quantity_in(n: u64, digits: u8) -> Quantity
     ensures { result ≡ coding.quantity_in n digits }
 {
@@ -52,28 +53,6 @@ fn list_in(n: u64) -> NameList
     }
 }
 
-fn unit_in(n: u64) -> ParseUnit
-    ensures { result ≡ coding.unit_in n }
-{
-    match n {
-        0 => ParseUnit::Year,
-        1 => ParseUnit::Month,
-        2 => ParseUnit::DayOfMonth,
-        3 => ParseUnit::DayOfYear,
-        4 => ParseUnit::Hour,
-        5 => ParseUnit::Period,
-        6 => ParseUnit::PeriodHour,
-        7 => ParseUnit::Minute,
-        8 => ParseUnit::Second,
-        9 => ParseUnit::Decis,
-        10 => ParseUnit::Centis,
-        11 => ParseUnit::Millis,
-        12 => ParseUnit::Micros,
-        13 => ParseUnit::Nanos,
-        _ => ParseUnit::Offset,
-    }
-}
-
 fn group_in(n: u64) -> Group
     ensures { result ≡ coding.group_in n }
 {
@@ -114,10 +93,17 @@ pub fn list(w: u64) -> NameList
     list_in(w / 512 % 32)
 }
 
-fn zone(w: u64) -> Rule
-    ensures { result ≡ Rule.Zone (field.utc w) (field.colon w) (coding.group_in (field.minutes w)) (coding.group_in (field.seconds w)) }
+// A number that no unit has stands for the last of them.
+fn unit(w: u64) -> ParseUnit
+    ensures { result ≡ coding.unit_in (field.unit w) }
 {
-    Rule::Zone {
+    ParseUnit::try_from(w / 4194304 % 16).unwrap_or(ParseUnit::Offset)
+}
+
+fn zone_in(w: u64) -> Zone
+    ensures { result ≡ coding.zone_in w }
+{
+    Zone {
         utc: w / 17179869184 % 2 == 1,
         colon: w / 34359738368 % 2 == 1,
         minutes: group_in(w / 68719476736 % 4),
@@ -165,7 +151,7 @@ pub fn rule_in(w: u64) -> Rule
             quantity: quantity(w),
             least: least(w),
             most: most(w),
-            unit: unit_in(w / 4194304 % 16),
+            unit: unit(w),
             zero: (w / 67108864 % 32) as u32,
         },
         1 => Rule::SkippedNumber {
@@ -184,6 +170,6 @@ pub fn rule_in(w: u64) -> Rule
             length: size(w),
         },
         6 => Rule::TwoDigitYear,
-        _ => zone(w),
+        _ => Rule::Zone(zone_in(w)),
     }
 }

@@ -11,7 +11,7 @@ ghost use Rattle.words.specs.Packing.{bit, times_word, role_word, held_word, hel
 
 use crate::rule_words::rule_word;
 use meaning::{Kind, NameList, Pair, Part, Role, Rule};
-use pattern::quoted::{bytes_of, ends_in_quote, unescaped_length};
+use pattern::quoted::{ends_in_quote, unescaped_bytes, unescaped_length};
 use rules::short::short_rule;
 use rules::step::{Step, step_of};
 
@@ -47,6 +47,7 @@ fn year_rule(count: usize) -> Rule
 }
 
 // What the table has for a run, by the step that was chosen for it.
+// An arm for each step: this undoes, kind by kind, what chose it.
 fn role_meant(step: Step) -> Role
     ensures { result ≡ role_meant step }
 {
@@ -61,6 +62,7 @@ fn role_meant(step: Step) -> Role
     }
 }
 
+// The word of a run: a byte that stands for itself, or a rule. There is no third role.
 fn run_word(pair: Pair, pattern: &[u8], part: Part) -> u64
     requires next { Next pattern.now part.start part }
     requires kind_value { (part.kind ≡ kinds.Run) × (part.length ≤ 256) }
@@ -80,14 +82,8 @@ fn lay_held(src: &[u8], tail: &mut [u64], at: usize)
     requires { at + length (unescaped src.now) ≤ length tail.old }
     ensures { tail.new ≡ sets tail.old at (unescaped src.now) }
 {
-    let mut next = at;
-    // A loop by hand: a doubled quote is two bytes, and no iterator of a slice steps by one or two.
-    let mut i = 0;
-    while i < src.len() {
-        let b = src[i];
-        tail[next] = b as u64;
-        next += 1;
-        i += bytes_of(b);
+    for (i, b) in unescaped_bytes(src).enumerate() {
+        tail[at + i] = u64::from(b);
     }
 }
 

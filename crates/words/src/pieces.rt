@@ -46,6 +46,7 @@ fn behind_count(w: u64) -> usize
 }
 
 // How many pieces a word has.
+// An arm for each code, as the definition of a word has a row.
 pub fn piece_count(w: u64) -> usize
     ensures { (result ≡ length (pieces.pieces_in w)) × (result ≤ 6) }
 {
@@ -89,6 +90,7 @@ fn yearly(digits: usize) -> Piece
 }
 
 // The first piece of a word that has one.
+// An arm for each code, as there.
 pub fn first_piece(w: u64) -> Piece
     ensures { result ≡ get_or (pieces.pieces_in w) 0 (pieces.once 0) }
 {
@@ -129,6 +131,7 @@ fn of_three(second: Short, third: Short, w: u64, k: usize) -> Piece
 }
 
 // The k-th piece of a word.
+// Only the two codes of three numbers have more than a piece and a byte.
 pub fn piece_in(w: u64, k: usize) -> Piece
     requires { k < length (pieces.pieces_in w) }
     ensures { result ≡ get_or (pieces.pieces_in w) k (pieces.once 0) }

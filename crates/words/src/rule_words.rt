@@ -1,10 +1,10 @@
 // The word of a rule: the numbers that `coding` takes apart again.
 ghost use Rattle.std.specs.Prelude.{◌≡◌, ◌<◌};
-ghost use Rattle.meaning.specs.Whole.{unit_number};
 ghost use Rattle.words.specs.Packing.{quantity_number, list_number, group_number, slot_number, slot_word, rule_word};
 
-use meaning::{Group, NameList, ParseUnit, Quantity, Rule};
+use meaning::{Group, NameList, ParseUnit, Quantity, Rule, Zone};
 
+// By a match, since no cast gives this: a fraction has its digits in it.
 fn quantity_number(quantity: Quantity) -> u64
     ensures { (result ≡ quantity_number quantity) × (result < 14) }
 {
@@ -29,59 +29,13 @@ fn quantity_number(quantity: Quantity) -> u64
 fn list_number(names: NameList) -> u64
     ensures { (result ≡ list_number names) × (result < 19) }
 {
-    match names {
-        NameList::EraAbbreviated => 0,
-        NameList::EraNarrow => 1,
-        NameList::EraWide => 2,
-        NameList::QuarterWide => 3,
-        NameList::MonthAbbreviated => 4,
-        NameList::MonthWide => 5,
-        NameList::MonthNarrow => 6,
-        NameList::WdayAbbreviated => 7,
-        NameList::WdayWide => 8,
-        NameList::WdayNarrow => 9,
-        NameList::WdayShort => 10,
-        NameList::PeriodUpper => 11,
-        NameList::PeriodLower => 12,
-        NameList::PeriodDotted => 13,
-        NameList::PeriodLetter => 14,
-        NameList::NoonUpper => 15,
-        NameList::NoonLower => 16,
-        NameList::NoonDotted => 17,
-        NameList::NoonLetter => 18,
-    }
-}
-
-fn unit_number(unit: ParseUnit) -> u64
-    ensures { (result ≡ unit_number unit) × (result < 15) }
-{
-    match unit {
-        ParseUnit::Year => 0,
-        ParseUnit::Month => 1,
-        ParseUnit::DayOfMonth => 2,
-        ParseUnit::DayOfYear => 3,
-        ParseUnit::Hour => 4,
-        ParseUnit::Period => 5,
-        ParseUnit::PeriodHour => 6,
-        ParseUnit::Minute => 7,
-        ParseUnit::Second => 8,
-        ParseUnit::Decis => 9,
-        ParseUnit::Centis => 10,
-        ParseUnit::Millis => 11,
-        ParseUnit::Micros => 12,
-        ParseUnit::Nanos => 13,
-        ParseUnit::Offset => 14,
-    }
+    names as u64
 }
 
 fn group_number(group: Group) -> u64
     ensures { (result ≡ group_number group) × (result < 3) }
 {
-    match group {
-        Group::Never => 0,
-        Group::NotZero => 1,
-        Group::Always => 2,
-    }
+    group as u64
 }
 
 // The slot of a number that patterns have most; 5 for any other.
@@ -120,20 +74,21 @@ fn number_word(quantity: Quantity, least: u8, most: u8, unit: ParseUnit, zero: u
     22 + 512 * quantity_number(quantity)
         + 16384 * least as u64
         + 262144 * most as u64
-        + 4194304 * unit_number(unit)
+        + 4194304 * unit as u64
         + 67108864 * zero as u64
 }
 
-fn zone_word(utc: bool, colon: bool, minutes: Group, seconds: Group) -> u64
-    ensures { result ≡ rule_word (Rule.Zone utc colon minutes seconds) }
+fn zone_word(zone: Zone) -> u64
+    ensures { result ≡ rule_word (Rule.Zone zone) }
 {
-    246 + 17179869184 * u64::from(utc)
-        + 34359738368 * u64::from(colon)
-        + 68719476736 * group_number(minutes)
-        + 274877906944 * group_number(seconds)
+    246 + 17179869184 * u64::from(zone.utc)
+        + 34359738368 * u64::from(zone.colon)
+        + 68719476736 * group_number(zone.minutes)
+        + 274877906944 * group_number(zone.seconds)
 }
 
 // The word of a rule, where no byte is behind it.
+// A formula for each rule, as the definition has them: other numbers go to other places of the word.
 pub fn rule_word(rule: Rule) -> u64
     requires { rule_word rule < 72057594037927936 }
     ensures { result ≡ rule_word rule }
@@ -162,11 +117,6 @@ pub fn rule_word(rule: Rule) -> u64
         Rule::Years(k) => 9 + 32 * k as u64,
         Rule::FixedYear(k) => 29 + 32 * k as u64,
         Rule::TwoDigitYear => 214,
-        Rule::Zone {
-            utc,
-            colon,
-            minutes,
-            seconds,
-        } => zone_word(utc, colon, minutes, seconds),
+        Rule::Zone(zone) => zone_word(zone),
     }
 }

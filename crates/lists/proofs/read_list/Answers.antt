@@ -1,5 +1,5 @@
 -- The checks in their order, and then the lines.
-use mathlib.Core.Path.{refl, ◌∙◌}
+use mathlib.Core.Path.{◌≡◌, refl, ◌∙◌}
 use borrow.Author.Rules.{rules}
 use mir.Syntax.{w32}
 use mir.ValLaws.{to_z-of_z}
@@ -8,6 +8,7 @@ use Rattle.laws.proofs.Told.{by_whole}
 use Rattle.meaning.specs.Lists.{rows_of, read_lines, read_list, list_rows}
 use Rattle.meaning.specs.OpenedBooks.{book_in}
 use Rattle.meaning.specs.Whole.{read}
+use Rattle.lists.specs.LentRows.{rows_in}
 use Rattle.lists.proofs.Checks.{list-checks}
 use Rattle.lists.proofs.cells.Line.{pattern-cells}
 use Rattle.lists.proofs.read_list.Goals as goal
@@ -31,4 +32,5 @@ returns c =
     let checks = list-checks a.choices.edition a.pattern.now a.text.now a.year rows in
     let laid = c.lay_list.ensures.rows (λ line. read a.choices (book_in a.book.now) a.pattern.now line a.year)
     (λ line row left code long given. pattern-cells a.choices a.book.now a.pattern.now line.now a.year long (search rules)) in
-    (by_whole (c.lay_list.ensures.listed ∙ rw (checks, ← once, c.in_ok-trust_check.was) refl), laid ∙ rw (checks, ← once, c.in_ok-trust_check.was) refl)
+    let done : rows_in c.lay_list.new.rows ≡ list_rows a.choices (book_in a.book.now) a.pattern.now a.text.now a.year rows = laid ∙ rw (checks, ← once, c.in_ok-trust_check.was) refl in
+    (by_whole (c.lay_list.ensures.listed ∙ rw (checks, ← once, c.in_ok-trust_check.was) refl), search rules)

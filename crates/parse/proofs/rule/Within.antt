@@ -1,4 +1,5 @@
 -- No reader takes more than there is, and none stops behind it: a year, a name, a rule, a part.
+use Rattle.std.specs.Prelude.{Option}
 use mathlib.Core.Bool.{Bool, true, false}
 use mathlib.Core.List.{List, [], ◌∷◌}
 use mathlib.Core.Path.{◌≡◌, refl}
@@ -68,11 +69,11 @@ within-rule edition book current (Letters l n) s =
 within-rule edition book current (Years k) s = within-full-year _ s
 within-rule edition book current (FixedYear k) s = within-full-year _ s
 within-rule edition book current TwoDigitYear s =
-    when-is (λ (g : Got Carried). Within (length s) g) (eqb (minus_first s) 1) (λ _. within-full-year 3 s)
+    when-is (λ (g : Got (Option Carried)). Within (length s) g) (eqb (minus_first s) 1) (λ _. within-full-year 3 s)
     (λ _. within_on (take_year 2 s) _ s (within-year 2 s) (λ z t. omega arith))
-within-rule edition book current (Zone z c minutes seconds) s =
-    within_on ((zone_sign z >>= zone_behind (zone_size c minutes seconds)) s) _ s
-    (within_on (zone_sign z s) _ s (within-sign z s) (λ g t. within-zone c minutes seconds g t)) (λ o t. omega arith)
+within-rule edition book current (Zone zone) s =
+    within_on ((zone_sign zone.utc >>= zone_behind (zone_size zone.colon zone.minutes zone.seconds)) s) _ s
+    (within_on (zone_sign zone.utc s) _ s (within-sign zone.utc s) (λ g t. within-zone zone.colon zone.minutes zone.seconds g t)) (λ o t. omega arith)
 
 -- a difference lies in the literal, and the literal in the text
 within-differing : (k room : ℕ) → k ≤ room → (i : ℕ) (w s : List ℕ) → i + length w ≤ k → Within room (same_by k (first_differing i w s))

@@ -15,8 +15,7 @@ use Rattle.laws.proofs.Tests.{by-test}
 use Rattle.meaning.specs.Bytes.{when, is_digit, digit_at}
 use Rattle.meaning.specs.Numerals.{all_digits, decimal}
 use Rattle.meaning.specs.Readers.{got, reach}
-use Rattle.meaning.specs.Reading.{zero_for, taken_unit}
-use Rattle.meaning.specs.declared.Carried.TheVariants.{Value}
+use Rattle.meaning.specs.Reading.{value, zero_for, taken_unit}
 use Rattle.meaning.specs.declared.ParseUnit.{ParseUnit}
 use Rattle.parse.specs.ShortReads.{digit_first, found, second_digits, short_digits}
 use Rattle.parse.specs.declared.short.Digits.{Digits}
@@ -44,7 +43,7 @@ digits n k = record { size = n; taken = k }
 -- a number read from one digit or two
 module _ (u : ParseUnit) (least most : ℕ) (some' : 0 < least) (order : least ≤ most) (few : most ≤ 2) where
   abbrev Reads : List ℕ → Digits → Type 0
-  Reads s d = taken_unit u 0 (reach (most - least) least s) s ≡ got d.taken (Value u (pos d.size))
+  Reads s d = taken_unit u 0 (reach (most - least) least s) s ≡ got d.taken (value u (pos d.size))
 
   one-read : (a : ℕ) (s : List ℕ) → is_digit a ≡ true → least ≤ 1 → (1 < most → digit_at 0 s ≡ false) → Reads (a ∷ s) (digits (a - 48) 1)
   unfolding decimal all_digits

@@ -12,8 +12,7 @@ use types.Run.{OneOf, miss}
 use Rattle.laws.proofs.Tests.{by-test}
 use Rattle.meaning.specs.Names.{Book, english}
 use Rattle.meaning.specs.Readers.{got}
-use Rattle.meaning.specs.Reading.{most_read, read_rule, read_step}
-use Rattle.meaning.specs.declared.Carried.TheVariants.{Value}
+use Rattle.meaning.specs.Reading.{value, most_read, read_rule, read_step}
 use Rattle.meaning.specs.declared.Edition.{Edition}
 use Rattle.meaning.specs.declared.Edition.TheVariants.{First, Second}
 use Rattle.meaning.specs.declared.ParseUnit.TheVariants.{DayOfMonth}
@@ -70,7 +69,7 @@ none-there told = absurd (let z : ◌≡◌ {A = ℕ} 0 1 = cc in omega arith)
 -- where the digits are there, they are what the step reads
 module _ (p s : List ℕ) where
   pub quick-read : (edition : Edition) (book : Book) (current : ℕ) (k : Step) {d : Digits} → Held p k → Some d ≡ quick_digits edition k s
-      → plain_read edition book current (means p k) s ≡ got d.taken (Value (quick_unit k) (pos d.size))
+      → plain_read edition book current (means p k) s ≡ got d.taken (value (quick_unit k) (pos d.size))
   unfolding read_step read_rule
   quick-read edition book current (step.Times b n) held told = none-there told
   quick-read edition book current (step.Quoted from to) held told = none-there told

@@ -1,7 +1,8 @@
 -- No step takes more than there is, and none stops behind it; nor do steps one after the other. So a cursor that moves on stays in its text.
-use Rattle.std.specs.Prelude.{Ok}
+use Rattle.std.specs.Prelude.{Ok, Option}
 use mathlib.Core.List.{List}
-use mathlib.Core.Option.{Option, none, some}
+use mathlib.Core.Option as maths
+use mathlib.Core.Option.{none, some}
 use mathlib.Core.Path.{◌≡◌, ap}
 use Rattle.parse.proofs.cursor.Moves.{same_ok}
 use Prim.Native.Nat.{ℕ, ◌+◌, ◌≤◌}
@@ -39,7 +40,7 @@ pub within-skip : (k : ℕ) (s : List ℕ) → Within (length s) (skip k s)
 unfolding skip
 within-skip k s = when-is (λ (g : Got Unit). Within (length s) g) (ltb (length s) k) (λ _. omega arith) (λ e. ltb-false (length s) k e)
 
-within-taken : (k : ℕ) (n : Option Signed) (room : ℕ) → k ≤ room → Within room (taken_number k n)
+within-taken : (k : ℕ) (n : maths.Option Signed) (room : ℕ) → k ≤ room → Within room (taken_number k n)
 within-taken k none room h = omega arith
 within-taken k (some n) room h = h
 
@@ -61,7 +62,7 @@ module _ (at : ℕ) (text : List ℕ) where
   read_stays {A} (got n c) {read = read} h k e = let d : at + n ≡ read.next.at = ap (λ (r : Read A). r.next.at) (same_ok e) in omega (arith, length-drop at text)
   read_stays (stopped why i) h k e = absurd (let z : ◌≡◌ {A = ℕ} 0 1 = cc in omega arith)
 
-  pub part_stays : (g : Got Carried) {read : Read Carried} → at ≤ length text → Within (length (drop at text)) g
+  pub part_stays : (g : Got (Option Carried)) {read : Read (Option Carried)} → at ≤ length text → Within (length (drop at text)) g
       → part_at at g ≡ Ok read → read.next.at ≤ length text
   part_stays = read_stays
 

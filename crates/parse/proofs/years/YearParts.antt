@@ -1,5 +1,5 @@
 -- Laws of what so many bytes of a year give, counted from one, and that the sum fits.
-use Rattle.std.specs.Prelude.{Err}
+use Rattle.std.specs.Prelude.{Err, Option}
 use Rattle.parse.proofs.cursor.Moves.{stop}
 use mathlib.Core.Bool.{Bool, true, false}
 use mathlib.Core.List.{List}
@@ -26,14 +26,14 @@ use Rattle.parse.proofs.steps.Parts.{made_of, made, made-twice, number_by, numbe
 use Rattle.parse.specs.Steps.{taken_at, part_at}
 use Rattle.parse.specs.Years.{counted, year_since, short_since}
 
-abbrev counted_year : Edition → ℕ → ℤ → Carried
+abbrev counted_year : Edition → ℕ → ℤ → Option Carried
 counted_year edition since z = year (counted edition since z)
 
 pub part-year : (edition : Edition) (since k at : ℕ) (s : List ℕ)
     → part_at at (year_since edition since k s) ≡ number_by (λ n. counted_year edition since (integer n)) (taken_at at (take_number Year k s))
 part-year edition since k at s =
     rw (
-      made {B = Carried} (counted_year edition since) (take_number Year k >>= λ n. done (integer n)) s,
+      made {B = Option Carried} (counted_year edition since) (take_number Year k >>= λ n. done (integer n)) s,
       made {B = ℤ} (λ (n : Signed). integer n) (take_number Year k) s,
       made-twice (λ (n : Signed). integer n) (counted_year edition since) (take_number Year k s),
     )

@@ -1,5 +1,5 @@
 -- Laws of zones: what each step gives at a cursor, from what the step before it gave.
-use Rattle.std.specs.Prelude.{Result, Ok, Err}
+use Rattle.std.specs.Prelude.{Result, Ok, Err, Option}
 use mathlib.Core.Bool.{Bool, true, false}
 use mathlib.Core.List.{List}
 use mathlib.Core.Path.{◌≡◌, refl, sym, ap, ◌∙◌}
@@ -14,13 +14,13 @@ use lib.Seq.{drop-cons, drop-drop}
 use Rattle.meaning.specs.Bytes.{when, both, plus, minus}
 use Rattle.meaning.specs.Numerals.{Signed}
 use Rattle.meaning.specs.Readers.{Got, got, stopped, Reader, behind, go_on, ◌>>=◌, done, skip, take_count, take_number, ZoneSign, utc, ahead, behind_utc, zone_sign}
-use Rattle.meaning.specs.Reading.{taken_zone, take_group, colon_length, zone_behind, zone_size_with, zone_size, zone_group}
+use Rattle.meaning.specs.Reading.{value, taken_zone, take_group, colon_length, zone_behind, zone_size_with, zone_size, zone_group}
 use Rattle.meaning.specs.declared.Carried.{Carried}
-use Rattle.meaning.specs.declared.Carried.TheVariants.{Value}
 use Rattle.meaning.specs.declared.Group.{Group}
 use Rattle.meaning.specs.declared.Numeral.TheVariants.{Count}
 use Rattle.meaning.specs.declared.ParseUnit.TheVariants as unit
 use Rattle.meaning.specs.declared.Trouble.TheVariants.{TooFew, NoSign}
+use Rattle.meaning.specs.declared.Zone.{Zone}
 use Rattle.parse.proofs.steps.Parts.{made_of, made}
 use Rattle.numerals.specs.declared.Number.{Number}
 use borrow.Author.Tests.{ltb-true, ltb-false}
@@ -39,7 +39,7 @@ use Rattle.parse.specs.Zones.{counted_at, sign_at, offset, zone_from}
 further : (at n m : ℕ) → at + (n + m) ≡ at + n + m
 further at n m = omega arith
 
-part-behind : (at n : ℕ) (g : Got Carried) → part_at at (behind n g) ≡ part_at (at + n) g
+part-behind : (at n : ℕ) (g : Got (Option Carried)) → part_at at (behind n g) ≡ part_at (at + n) g
 part-behind at n (got m c) = rw (further at n m)
 part-behind at n (stopped why i) = rw (further at n i)
 
@@ -110,11 +110,11 @@ group-taken at c text = group-on at text (skip (colon_length c) (drop at text))
 
 -- what follows a number
 
-abbrev pub counted_by : (ℕ → Reader Carried) → List ℕ → Result (Read ℕ) Stop → Result (Read Carried) Stop
+abbrev pub counted_by : (ℕ → Reader (Option Carried)) → List ℕ → Result (Read ℕ) Stop → Result (Read (Option Carried)) Stop
 counted_by next text (Err stopped') = Err stopped'
 counted_by next text (Ok read) = part_at read.next.at (next read.value (drop read.next.at text))
 
-pub counted-then : (at : ℕ) (text : List ℕ) (g : Got ℕ) (next : ℕ → Reader Carried)
+pub counted-then : (at : ℕ) (text : List ℕ) (g : Got ℕ) (next : ℕ → Reader (Option Carried))
     → part_at at (go_on g next (drop at text)) ≡ counted_by next text (counted_at at g)
 counted-then at text (got n a) next = rw (drop-drop n at text) (part-behind at n (next a (drop (at + n) text)))
 counted-then at text (stopped why i) next = refl
@@ -139,42 +139,43 @@ zone-made negative c minutes seconds s =
     (λ mm u. made-goes-on (offset negative) (zone_group c seconds u) _ _ (λ ss v. refl) u) t)
     s
 
-abbrev pub behind_sign : Bool → Group → Group → List ℕ → Cursor → sign.ZoneSign → Result (Read Carried) Stop
-behind_sign c minutes seconds text next Utc = Ok (record { value = Value unit.Offset (pos 0); next = next })
+abbrev pub behind_sign : Bool → Group → Group → List ℕ → Cursor → sign.ZoneSign → Result (Read (Option Carried)) Stop
+behind_sign c minutes seconds text next Utc = Ok (record { value = value unit.Offset (pos 0); next = next })
 behind_sign c minutes seconds text next Ahead = part_at next.at (zone_from false c minutes seconds (drop next.at text))
 behind_sign c minutes seconds text next BehindUtc = part_at next.at (zone_from true c minutes seconds (drop next.at text))
 
-abbrev pub signed_by : Bool → Group → Group → List ℕ → Result (Read sign.ZoneSign) Stop → Result (Read Carried) Stop
+abbrev pub signed_by : Bool → Group → Group → List ℕ → Result (Read sign.ZoneSign) Stop → Result (Read (Option Carried)) Stop
 signed_by c minutes seconds text (Err stopped') = Err stopped'
 signed_by c minutes seconds text (Ok read) = behind_sign c minutes seconds text read.next read.value
 
 -- a size, its sign and its unit
-sized-as : (negative : Bool) (f : ℕ → ℤ) → ((m : ℕ) → Value unit.Offset (f m) ≡ offset negative m) → (g : Got ℕ)
-    → made_of (Value unit.Offset) (made_of f g) ≡ made_of (offset negative) g
+sized-as : (negative : Bool) (f : ℕ → ℤ) → ((m : ℕ) → value unit.Offset (f m) ≡ offset negative m) → (g : Got ℕ)
+    → made_of (value unit.Offset) (made_of f g) ≡ made_of (offset negative) g
 sized-as negative f h (got n m) = rw (h m)
 sized-as negative f h (stopped why i) = refl
 
 signed-size : (negative : Bool) (at n : ℕ) (c : Bool) (minutes seconds : Group) (text : List ℕ) (f : ℕ → ℤ)
-    → ((m : ℕ) → Value unit.Offset (f m) ≡ offset negative m)
-    → part_at at (made_of (Value unit.Offset) (behind n ((zone_size c minutes seconds >>= λ m. done (f m)) (drop n (drop at text)))))
+    → ((m : ℕ) → value unit.Offset (f m) ≡ offset negative m)
+    → part_at at (made_of (value unit.Offset) (behind n ((zone_size c minutes seconds >>= λ m. done (f m)) (drop n (drop at text)))))
     ≡ part_at (at + n) (zone_from negative c minutes seconds (drop (at + n) text))
 signed-size negative at n c minutes seconds text f h =
     let t = drop (at + n) text in
     rw (drop-drop n at text, made f (zone_size c minutes seconds) t, made-behind)
-    (part-behind at n (made_of (Value unit.Offset) (made_of f (zone_size c minutes seconds t)))
+    (part-behind at n (made_of (value unit.Offset) (made_of f (zone_size c minutes seconds t)))
     ∙ ap (part_at (at + n)) (sized-as negative f h (zone_size c minutes seconds t) ∙ sym (zone-made negative c minutes seconds t)))
 
 zone-on : (at : ℕ) (c : Bool) (minutes seconds : Group) (text : List ℕ) (g : Got ZoneSign)
-    → part_at at (made_of (Value unit.Offset) (go_on g (zone_behind (zone_size c minutes seconds)) (drop at text)))
+    → part_at at (made_of (value unit.Offset) (go_on g (zone_behind (zone_size c minutes seconds)) (drop at text)))
     ≡ signed_by c minutes seconds text (sign_at at g)
 zone-on at c minutes seconds text (got n utc) = rw add-zero
 zone-on at c minutes seconds text (got n ahead) = signed-size false at n c minutes seconds text pos (λ m. refl)
 zone-on at c minutes seconds text (got n behind_utc) = signed-size true at n c minutes seconds text (λ m. neg_ℤ (pos m)) (λ m. refl)
 zone-on at c minutes seconds text (stopped why i) = refl
 
-pub part-zone : (at : ℕ) (z c : Bool) (minutes seconds : Group) (text : List ℕ)
-    → part_at at (taken_zone z c minutes seconds (drop at text))
-    ≡ signed_by c minutes seconds text (sign_at at (zone_sign z (drop at text)))
-part-zone at z c minutes seconds text =
-    rw (made {B = Carried} (Value unit.Offset) (zone_sign z >>= zone_behind (zone_size c minutes seconds)) (drop at text))
-    (zone-on at c minutes seconds text (zone_sign z (drop at text)))
+pub part-zone : (at : ℕ) (zone : Zone) (text : List ℕ)
+    → part_at at (taken_zone zone.utc zone.colon zone.minutes zone.seconds (drop at text))
+    ≡ signed_by zone.colon zone.minutes zone.seconds text (sign_at at (zone_sign zone.utc (drop at text)))
+part-zone at zone text =
+    let size = zone_size zone.colon zone.minutes zone.seconds in
+    rw (made {B = Option Carried} (value unit.Offset) (zone_sign zone.utc >>= zone_behind size) (drop at text))
+    (zone-on at zone.colon zone.minutes zone.seconds text (zone_sign zone.utc (drop at text)))

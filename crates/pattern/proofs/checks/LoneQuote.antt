@@ -3,7 +3,7 @@
 use Rattle.std.specs.Prelude.{Ok, Err}
 use mathlib.Core.Bool.{Bool, true, false}
 use mathlib.Core.List.{List, [], ◌∷◌}
-use mathlib.Core.Path.{◌≡◌, refl, sym, ◌∙◌}
+use mathlib.Core.Path.{◌≡◌, refl, sym, ap, ◌∙◌}
 use Prim.Native.Nat.{ℕ, zero, suc, ◌+◌, ◌-◌, ◌≤◌, ◌<◌}
 use native.Mathlib.Omega.{arith}
 use lib.Dec.{eqb, ltb}
@@ -18,7 +18,8 @@ use Rattle.meaning.specs.Results.{Checked}
 use Rattle.meaning.specs.declared.Part.{Part}
 use Rattle.meaning.specs.declared.Refusal.{Refusal}
 use Rattle.meaning.specs.declared.Refusal.TheVariants.{LoneQuote}
-use Rattle.pattern.specs.First.{inside_of, first_content, part_of}
+use Rattle.pattern.specs.First.{inside_of, first_content, part_of, content_of}
+use Rattle.pattern.specs.Next.{Next}
 use Rattle.laws.proofs.Checks.{fine-short}
 use Rattle.pattern.proofs.parts.First.{inside-length, by_first, contents-first}
 use Rattle.pattern.proofs.parts.Next.{next}
@@ -68,6 +69,14 @@ module _ (p : List ℕ) (at : ℕ) where
       (λ e.
       let k : at ≡ length p - 1 = omega (arith, ltb-true at (length p) e) in
       rw (e, k, eq-eqb (get_or p (length p - 1) 0) quote q)) (λ e. rw e)
+
+-- what a turn of a walk finds is the first content of what is left
+pub found-first : {p : List ℕ} {at : ℕ} {part : Part} → Next p at part → part ≡ part_of at (first_content (drop at p))
+found-first {p} {at} {part} n =
+    let some : 0 < length (drop at p) = omega (arith, length-drop at p, n.some, n.fits) in
+    let first = contents-first (drop at p) some in
+    let same : content_of p part ≡ first_content (drop at p) = cc (first, n.walk) in
+    n.itself ∙ ap (part_of at) same
 
 -- a pattern whose last byte is no quote does not end in a lone one
 no-lone-from : (n : ℕ) (p : List ℕ) (at : ℕ) → length p ≤ at + n → (get_or p (length p - 1) 0 ≡ quote → ⊥)

@@ -1,15 +1,15 @@
--- Laws of the inside of a quoted part, for a loop over its bytes, and of what an unclosed part loses.
+-- Laws of the inside of a quoted part, for a walk over its bytes, and of what an unclosed part loses.
 use mathlib.Core.Bool.{false}
 use mathlib.Core.List.{List, [], ◌∷◌}
 use mathlib.Core.Path.{◌≡◌, refl, sym, ap, ◌∙◌}
 use Prim.Native.Nat.{ℕ, suc, ◌+◌, ◌-◌, ◌≤◌, ◌<◌}
 use native.Mathlib.Omega.{arith}
 use lib.Dec.{eqb}
-use lib.ListN.{length, get_or, take, drop}
+use lib.ListN.{length, get_or, take, drop, drop_of_length-le}
 use lib.Seq.{drop-drop}
 use borrow.Author.Tests.{eqb-false}
 use Rattle.laws.proofs.Elements.{by-elements}
-use Rattle.laws.proofs.Tests.{by-test, when-is}
+use Rattle.laws.proofs.Tests.{by-test}
 use Rattle.meaning.specs.Bytes.{when, quote}
 use Rattle.meaning.specs.Writing.{ends_in_quote}
 use Rattle.pattern.specs.First.{inside_size, unescaped}
@@ -22,7 +22,7 @@ unfolding unescaped
 unescaped-first a [] = by-test (eqb a quote) (λ e. rw e) (λ e. rw e)
 unescaped-first a (b ∷ s) = by-test (eqb a quote) (λ e. rw e) (λ e. rw e)
 
--- a turn of a loop over the bytes of an inside: a quote takes two
+-- a turn of a walk over the bytes of an inside, where a quote takes two, its end, and how many bytes there are at most
 pub unescaped-turn : (s : List ℕ) (i : ℕ) → i < length s
     → unescaped (drop i s) ≡ get_or s i 0 ∷ unescaped (drop (i + when (eqb (get_or s i 0) quote) 2 1) s)
 unescaped-turn s i h =
@@ -30,10 +30,16 @@ unescaped-turn s i h =
     by-test (eqb (get_or s i 0) quote) (λ e. rw e (omega arith)) (λ e. rw e (omega arith)) in
     rw (from-here s i h, unescaped-first (get_or s i 0) (drop (i + 1) s), drop-drop, k)
 
--- how many bytes that is
-pub one-or-two : (b : ℕ) {r : ℕ} → r ≡ when (eqb b quote) 2 1 → (1 ≤ r) × (r ≤ 2)
-one-or-two b e =
-    rw e (when-is (λ (n : ℕ). (1 ≤ n) × (n ≤ 2)) (eqb b quote) (λ _. (omega arith, omega arith)) (λ _. (omega arith, omega arith)))
+pub unescaped-done : (s : List ℕ) (i : ℕ) → length s ≤ i → unescaped (drop i s) ≡ []
+unfolding unescaped
+unescaped-done s i h = rw (drop_of_length-le s h)
+
+pub unescaped-fits : (s : List ℕ) → length (unescaped s) ≤ length s
+unfolding unescaped
+unescaped-fits [] = omega arith
+unescaped-fits (a ∷ []) = omega arith
+unescaped-fits (a ∷ b ∷ s) =
+    by-test (eqb a quote) (λ e. rw e (omega (arith, unescaped-fits s))) (λ e. rw e (omega (arith, unescaped-fits (b ∷ s))))
 
 -- a byte in front changes neither the last one nor what is lost
 

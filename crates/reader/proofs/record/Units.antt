@@ -1,6 +1,7 @@
 -- Laws of the record of a reading, for a reader that keeps the values, where their parts began and ended, and the mask as it goes
 -- from part to part: what they are before the first part and after one more, whether a unit was read, and that the ones count of
 -- the mask is how many different units were read.
+use Rattle.std.specs.Prelude.{None}
 use mathlib.Core.Bool.{Bool, true, false}
 use mathlib.Core.List.{List, [], ◌∷◌, map}
 use mathlib.Core.Path.{◌≡◌, refl, ap, ◌∙◌}
@@ -13,10 +14,10 @@ use lib.Dec.{eqb, eqb-zero-suc, eqb-suc-zero, eqb-suc-suc}
 use lib.IntN.{ℤ, pos}
 use lib.ListN.{length, set, replicate}
 use lib.Pow.{pow-lt}
+use Rattle.meaning.specs.Reading.{value}
 use Rattle.meaning.specs.Bytes.{when}
 use Rattle.laws.proofs.Marks.{entries, get-entry, half, odd, marked-bits}
 use Rattle.meaning.specs.Whole.{Gave, unit_number, value_in, last_of, was_read, value_of, began_at, ended_at, fifteen, bits, how_many, marked, reading_of}
-use Rattle.meaning.specs.declared.Carried.TheVariants.{Nothing, Value}
 use Rattle.meaning.specs.declared.ParseUnit.{ParseUnit}
 use Rattle.meaning.specs.declared.ParseUnit.TheVariants as unit
 use Rattle.meaning.specs.declared.Reading.{Reading}
@@ -99,7 +100,7 @@ marked-read gave u =
 -- one more part that carries a value
 
 abbrev valued : ParseUnit → ℤ → ℕ → ℕ → Gave
-valued u z start end = record { carried = Value u z; start = start; end = end }
+valued u z start end = record { carried = value u z; start = start; end = end }
 
 module _ (gave : List Gave) (u : ParseUnit) (z : ℤ) (start end : ℕ) where
   row-set : {A : Type 0} (of : Gave → A) (other : A)
@@ -128,13 +129,13 @@ unfolding last_of bits
 holds-none = record { values-are = refl; starts-are = refl; ends-are = refl; mask_is = refl }
 
 module _ {gave : List Gave} {values : List ℤ} {starts ends : List ℕ} {mask : ℕ} (h : Holds gave values starts ends mask) (start end : ℕ) where
-  pub holds-nothing : Holds (record { carried = Nothing; start = start; end = end } ∷ gave) values starts ends mask
+  pub holds-nothing : Holds (record { carried = None; start = start; end = end } ∷ gave) values starts ends mask
   unfolding last_of
   holds-nothing =
       record { values-are = h.values-are; starts-are = h.starts-are; ends-are = h.ends-are; mask_is = h.mask_is }
 
   pub holds-value : (u : ParseUnit) (z : ℤ)
-      → Holds (record { carried = Value u z; start = start; end = end } ∷ gave)
+      → Holds (record { carried = value u z; start = start; end = end } ∷ gave)
       (set values (unit_number u) z) (set starts (unit_number u) start) (set ends (unit_number u) end) (bit_or mask (1 * 2 ^ unit_number u % 65536))
   holds-value u z =
       record {

@@ -1,5 +1,5 @@
 -- Laws of the walk over the parts of a pattern: a part more, and the end.
-use Rattle.std.specs.Prelude.{Result, Ok, Err, Some, None}
+use Rattle.std.specs.Prelude.{Result, Ok, Err, Some, None, Option}
 use mathlib.Core.Bool.{true, false}
 use mathlib.Core.List.{List, [], ◌∷◌}
 use mathlib.Core.Logic.{◌⊎◌, inl, inr}
@@ -44,7 +44,7 @@ pub step-here : {pair : Pair} {p : List ℕ} {place : ℕ} {part : Part} {k : ru
 step-here {pair} {p} {place} {part} n chosen = rw (steps_next pair p place part n, chosen.meant)
 
 -- a cursor that a part moves on stays in the text
-pub part-inside : (edition : Edition) (book : Book) (text : List ℕ) (at current : ℕ) (step : Step) {read : Read Carried}
+pub part-inside : (edition : Edition) (book : Book) (text : List ℕ) (at current : ℕ) (step : Step) {read : Read (Option Carried)}
     → part_at at (plain_read edition book current step (drop at text)) ≡ Ok read → at ≤ length text → read.next.at ≤ length text
 part-inside edition book text at current step e h =
     let rest = drop at text in
@@ -52,12 +52,12 @@ part-inside edition book text at current step e h =
 
 module _ (choices : Choices) (book : Book) (current i : ℕ) (text : List ℕ) (gave : List Gave) where
   -- what follows a part that began at a place, by what it gave
-  abbrev pub walk_by : ℕ → List Step → Result (Read Carried) Stop → Walk
+  abbrev pub walk_by : ℕ → List Step → Result (Read (Option Carried)) Stop → Walk
   walk_by at ss (Err stop) = refused_at (InPart stop.trouble i stop.place)
   walk_by at ss (Ok read) =
       walk choices book current (i + 1) read.next.at ss (drop read.next.at text) (record { carried = read.value; start = at; end = read.next.at } ∷ gave)
 
-  by_part : (at : ℕ) (ss : List Step) (g : Got Carried)
+  by_part : (at : ℕ) (ss : List Step) (g : Got (Option Carried))
       → behind_part i at (λ n c. walk choices book current (suc i) (at + n) ss (drop n (drop at text)) (record { carried = c; start = at; end = at + n } ∷ gave)) g
       ≡ walk_by at ss (part_at at g)
   by_part at ss (got n c) = rw (drop-drop n at text, add-one i)
@@ -74,10 +74,10 @@ module _ (choices : Choices) (book : Book) (current i : ℕ) (text : List ℕ) (
     abbrev Walked : Walk → Type 0
     Walked w = walk choices book current i at (steps choices.pair (drop place p)) (drop at text) gave ≡ w
 
-    abbrev Gives : Result (Read Carried) Stop → Type 0
+    abbrev Gives : Result (Read (Option Carried)) Stop → Type 0
     Gives g = part_at at (plain_read choices.edition book current (means p k) (drop at text)) ≡ g
 
-    walk_step : {g : Result (Read Carried) Stop} → Gives g
+    walk_step : {g : Result (Read (Option Carried)) Stop} → Gives g
         → Walked (walk_by at (steps choices.pair (drop (place + part.length) p)) (strict_by choices.strict (means p k) text g))
     walk_step e =
         let pair = choices.pair in
@@ -87,11 +87,11 @@ module _ (choices : Choices) (book : Book) (current i : ℕ) (text : List ℕ) (
     pub walk-stops : {stop : Stop} → Gives (Err stop) → Walked (refused_at (InPart stop.trouble i stop.place))
     walk-stops e = walk_step e
 
-    pub walk-differs : {read : Read Carried} {found : ℕ} → Gives (Ok read) → choices.strict ≡ true
+    pub walk-differs : {read : Read (Option Carried)} {found : ℕ} → Gives (Ok read) → choices.strict ≡ true
         → compared (means p k) text read.next.at ≡ Some found → Walked (refused_at (InPart LiteralDiffers i found))
     walk-differs e strict differs = walk_step e ∙ rw (strict, differs)
 
-    pub walk-goes-on : {read : Read Carried} → Gives (Ok read)
+    pub walk-goes-on : {read : Read (Option Carried)} → Gives (Ok read)
         → when choices.strict (compared (means p k) text read.next.at) None ≡ None
         → Walked (walk_by at (steps choices.pair (drop (place + part.length) p)) (Ok read))
     walk-goes-on e same = walk_step e ∙ rw same

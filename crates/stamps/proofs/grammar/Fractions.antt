@@ -12,7 +12,7 @@ use lib.Dec.{ltb}
 use lib.ListN.{length, get_or, take, drop, replicate, drop_of_length-le}
 use lib.Seq.{drop-cons}
 use Rattle.laws.proofs.Digits.{digit-bounds}
-use Rattle.laws.proofs.Tests.{by-test, passes-there}
+use Rattle.laws.proofs.Tests.{by-test, when-is, passes-there}
 use Rattle.meaning.specs.Bytes.{is_digit, digit_at}
 use Rattle.meaning.specs.Numerals.{decimal}
 use Rattle.meaning.specs.Reading.{digit_run}
@@ -54,20 +54,27 @@ pub run_end : (s : List ℕ) (i : ℕ) → length s ≤ i → i + digit_run (dro
 unfolding digit_run
 run_end s i h = rw (drop_of_length-le s h) (omega arith)
 
--- a turn, by how many digits still count
+pub run_fits : (s : List ℕ) → digit_run s ≤ length s
+unfolding digit_run
+run_fits [] = omega arith
+run_fits (b ∷ s) =
+    let rest = run_fits s in
+    when-is (λ (n : ℕ). n ≤ suc (length s)) (is_digit b) (λ _. omega arith) (λ _. omega arith)
 
-module _ (at i w : ℕ) (h : at ≤ i) (weighty : w ≡ weight (9 - (i - at))) where
-  fewer : 9 - (i + 1 - at) ≡ 9 - (i - at) - 1
+-- a turn, by how many digits are passed
+
+module _ (k w : ℕ) (weighty : w ≡ weight (9 - k)) where
+  fewer : 9 - (k + 1) ≡ 9 - k - 1
   fewer = omega arith
 
-  pub turn-lighter : w / 10 ≡ weight (9 - (i + 1 - at))
-  turn-lighter = rw (fewer, weighty) (lighter (9 - (i - at)))
+  pub turn-lighter : w / 10 ≡ weight (9 - (k + 1))
+  turn-lighter = rw (fewer, weighty) (lighter (9 - k))
 
-  pub turn-weighs : (s : List ℕ) (nanos d total : ℕ) → i < length s → is_digit (get_or s i 0) ≡ true → d ≡ get_or s i 0 - 48
-      → nanos + weighted (9 - (i - at)) (drop i s) ≡ total
-      → nanos + d * w + weighted (9 - (i + 1 - at)) (drop (i + 1) s) ≡ total
-  turn-weighs s nanos d total k yes' value sum =
-      rw (value, weighty, fewer) (omega (arith, weighs s i k (9 - (i - at)) yes'))
+  pub turn-weighs : (s : List ℕ) (nanos d total : ℕ) → k < length s → is_digit (get_or s k 0) ≡ true → d ≡ get_or s k 0 - 48
+      → nanos + weighted (9 - k) (drop k s) ≡ total
+      → nanos + d * w + weighted (9 - (k + 1)) (drop (k + 1) s) ≡ total
+  turn-weighs s nanos d total h yes' value sum =
+      rw (value, weighty, fewer) (omega (arith, weighs s k h (9 - k) yes'))
 
 -- whether there is a digit at all
 pub some-run : (s : List ℕ) (i : ℕ) → digit_at i s ≡ true → i < i + digit_run (drop i s)

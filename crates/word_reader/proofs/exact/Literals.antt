@@ -15,7 +15,6 @@ use Rattle.laws.proofs.Tests.{by-test}
 use Rattle.meaning.specs.Names.{english}
 use Rattle.meaning.specs.Reading.{passed, literal_read, read_step}
 use Rattle.meaning.specs.Writing.{literal}
-use Rattle.meaning.specs.declared.Carried.TheVariants.{Nothing}
 use Rattle.meaning.specs.declared.Edition.TheVariants.{First}
 use Rattle.meaning.specs.declared.Pair.TheVariants.{Full}
 use Rattle.meaning.specs.declared.Trouble.TheVariants.{TooFew, LiteralDiffers}
@@ -70,7 +69,7 @@ module _ (w text : List ℕ) (at k : ℕ) (long : length w ≡ k) where
   unfolding read_step
   read_by strict = rw (← long) (compared-read text at (record { pair = Full; strict = strict; edition = First }) english 0 (literal w false))
 
-  there : k ≤ length text - at → part_at at (passed k rest) ≡ Ok (record { value = Nothing; next = record { at = at + k } })
+  there : k ≤ length text - at → part_at at (passed k rest) ≡ Ok (record { value = None; next = record { at = at + k } })
   there h = rw (skip_goes_on k rest (rw length-drop h), add-zero)
 
   start : at + k - length w ≡ at

@@ -1,5 +1,5 @@
 -- The walk over the pieces of words: a word is done, a piece more, and the end.
-use Rattle.std.specs.Prelude.{Err}
+use Rattle.std.specs.Prelude.{Err, Option}
 use mathlib.Core.Bool.{false, true}
 use mathlib.Core.List.{List, [], ◌∷◌, ◌++◌}
 use mathlib.Core.Logic.{◌⊎◌}
@@ -72,7 +72,7 @@ module _ (choices : Choices) (book : Book) (current : ℕ) (row text : List ℕ)
     word-ends e = rw (steps-past row (take used row) i inside k (rw (get_or-take used row i 0 there) e))
 
     module _ (more : k < length (pieces_in (get_or row i 0))) {piece : Piece} (is : piece ≡ get_or (pieces_in (get_or row i 0)) k (once 0)) where
-      abbrev Gives : Result (Read Carried) Stop → Type 0
+      abbrev Gives : Result (Read (Option Carried)) Stop → Type 0
       Gives g = part_at at (read_step choices book current (piece_step row piece) (drop at text)) ≡ g
 
       piece-here : drop k (steps_of row (drop i (take used row))) ≡ piece_step row piece ∷ drop (k + 1) (steps_of row (drop i (take used row)))
@@ -80,7 +80,7 @@ module _ (choices : Choices) (book : Book) (current : ℕ) (row text : List ℕ)
           rw (is, ← get_or-take used row i 0 there)
           (steps_next row (take used row) i inside k (rw (get_or-take used row i 0 there) more))
 
-      turn : {g : Result (Read Carried) Stop} → Gives g → Left (walk_by choices book current part text gave at (drop (k + 1) (steps_of row (drop i (take used row)))) g)
+      turn : {g : Result (Read (Option Carried)) Stop} → Gives g → Left (walk_by choices book current part text gave at (drop (k + 1) (steps_of row (drop i (take used row)))) g)
       turn e =
           rw (← e, piece-here)
           (walk-on choices book current part text gave at (piece_step row piece) (drop (k + 1) (steps_of row (drop i (take used row)))))
@@ -88,7 +88,7 @@ module _ (choices : Choices) (book : Book) (current : ℕ) (row text : List ℕ)
       pub piece-stops : {stop : Stop} → Gives (Err stop) → Left (refused_at (InPart stop.trouble part stop.place))
       piece-stops e = turn e
 
-      pub piece-goes-on : {read : Read Carried} → Gives (Ok read)
+      pub piece-goes-on : {read : Read (Option Carried)} → Gives (Ok read)
           → Left (walk_by choices book current part text gave at (drop (k + 1) (steps_of row (drop i (take used row)))) (Ok read))
       piece-goes-on e = turn e
 
@@ -104,7 +104,7 @@ module _ (choices : Choices) (book : Book) (current : ℕ) (row text : List ℕ)
     words-done ends = rw none_left (end-done choices book current part text gave at ends)
 
 -- a cursor that a piece moves on stays in the text
-pub piece_inside : (choices : Choices) (book : Book) (current : ℕ) (text : List ℕ) (at : ℕ) (step : Step) {read : Read Carried}
+pub piece_inside : (choices : Choices) (book : Book) (current : ℕ) (text : List ℕ) (at : ℕ) (step : Step) {read : Read (Option Carried)}
     → part_at at (read_step choices book current step (drop at text)) ≡ Ok read → at ≤ length text → read.next.at ≤ length text
 piece_inside choices book current text at step e h =
     part_stays at text (read_step choices book current step (drop at text)) h (within_step choices book current step (drop at text)) e

@@ -1,5 +1,5 @@
 -- Steps read one after the other, and what they give kept in a row.
-use Rattle.std.specs.Prelude.{Ok}
+use Rattle.std.specs.Prelude.{Ok, Option, None}
 use mathlib.Core.List.{List, [], ◌∷◌, ◌++◌, map, append_assoc}
 use mathlib.Core.Path.{◌≡◌, refl, ap, ◌∙◌}
 use Prim.Native.Nat.{ℕ, zero, suc, ◌+◌, ◌*◌, ◌^◌, ◌%◌, ◌≤◌, ◌<◌}
@@ -11,11 +11,10 @@ use lib.ListN.{length, set, drop, length-append, length-map, length-set}
 use lib.Seq.{set-append_left, drop-set-lt}
 use Rattle.meaning.specs.Names.{Book}
 use Rattle.meaning.specs.Readers.{got}
-use Rattle.meaning.specs.Reading.{read_step}
+use Rattle.meaning.specs.Reading.{value, read_step}
 use Rattle.meaning.specs.Whole.{Gave, unit_number, last_of, reading_of}
 use Rattle.meaning.specs.Writing.{Step}
 use Rattle.meaning.specs.declared.Carried.{Carried}
-use Rattle.meaning.specs.declared.Carried.TheVariants.{Nothing, Value}
 use Rattle.meaning.specs.declared.Choices.{Choices}
 use Rattle.meaning.specs.declared.ParseUnit.{ParseUnit}
 use Rattle.meaning.specs.declared.Reading.{Reading}
@@ -33,7 +32,7 @@ module _ (choices : Choices) (book : Book) (current : ℕ) (text : List ℕ) whe
   pub moves-none : (at : ℕ) → at ≤ length text → Moves choices book current [] text at at []
   moves-none at h = record { inside = h; goes = λ i rest gave. rw add-zero }
 
-  pub moves-part : (at : ℕ) (step : Step) {read : Read Carried} → at ≤ length text
+  pub moves-part : (at : ℕ) (step : Step) {read : Read (Option Carried)} → at ≤ length text
       → part_at at (read_step choices book current step (drop at text)) ≡ Ok read
       → Moves choices book current (step ∷ []) text at read.next.at (gave_one read.value at read.next.at)
   moves-part at step h e =
@@ -42,11 +41,11 @@ module _ (choices : Choices) (book : Book) (current : ℕ) (text : List ℕ) whe
         goes = λ i rest gave. walk-on choices book current i text gave at step rest ∙ rw e;
       }
 
-  pub moves-one : (at : ℕ) (step : Step) {n : ℕ} {c : Carried} → at ≤ length text → read_step choices book current step (drop at text) ≡ got n c
+  pub moves-one : (at : ℕ) (step : Step) {n : ℕ} {c : Option Carried} → at ≤ length text → read_step choices book current step (drop at text) ≡ got n c
       → Moves choices book current (step ∷ []) text at (at + n) (gave_one c at (at + n))
   moves-one at step {n} {c} h e = moves-part at step {read = record { value = c; next = record { at = at + n } }} h (rw e)
 
-  pub moves-to : (at next : ℕ) (step : Step) {n : ℕ} {c : Carried} → at ≤ length text → next ≡ at + n → read_step choices book current step (drop at text) ≡ got n c
+  pub moves-to : (at next : ℕ) (step : Step) {n : ℕ} {c : Option Carried} → at ≤ length text → next ≡ at + n → read_step choices book current step (drop at text) ≡ got n c
       → Moves choices book current (step ∷ []) text at next (gave_one c at next)
   moves-to at next step h e r = rw e (moves-one at step h r)
 
@@ -65,7 +64,7 @@ module _ (choices : Choices) (book : Book) (current : ℕ) (text : List ℕ) whe
 pub kept-none : {row : List ℤ} {mask : ℕ} → Kept [] row row mask mask
 kept-none = record { keeps = λ gave rest lies is. (lies, is) }
 
-pub kept-nothing : {row : List ℤ} {mask from to : ℕ} → Kept (gave_one Nothing from to) row row mask mask
+pub kept-nothing : {row : List ℤ} {mask from to : ℕ} → Kept (gave_one None from to) row row mask mask
 unfolding row_of mask_of last_of
 kept-nothing = record { keeps = λ gave rest lies is. (lies, is) }
 
@@ -140,13 +139,13 @@ module _ (u : ParseUnit) (z : ℤ) (from to : ℕ) {old : List ℤ} {mask : ℕ}
   r = reading_of 0 gave
 
   abbrev s : Reading
-  s = reading_of 0 (gave_one (Value u z) from to ++ gave)
+  s = reading_of 0 (gave_one (value u z) from to ++ gave)
 
   held : Holds gave r.values r.starts r.ends mask
   unfolding mask_of
   held = record { values-are = refl; starts-are = refl; ends-are = refl; mask_is = is }
 
-  new_row : set (set (set old (3 + k) z) (18 + k) (pos from)) (33 + k) (pos to) ≡ row_of (gave_one (Value u z) from to ++ gave) ++ rest
+  new_row : set (set (set old (3 + k) z) (18 + k) (pos from)) (33 + k) (pos to) ≡ row_of (gave_one (value u z) from to ++ gave) ++ rest
   unfolding row_of
   new_row =
       let new = holds-value held from to u z in
@@ -155,12 +154,12 @@ module _ (u : ParseUnit) (z : ℤ) (from to : ℕ) {old : List ℤ} {mask : ℕ}
       ∙ ap (λ (l : List ℕ). row_by s.values l (set r.ends k to) rest) new.starts-are
       ∙ ap (λ (l : List ℕ). row_by s.values s.starts l rest) new.ends-are
 
-  new-mask : bit_or mask (1 * 2 ^ k % 65536) ≡ mask_of (gave_one (Value u z) from to ++ gave)
+  new-mask : bit_or mask (1 * 2 ^ k % 65536) ≡ mask_of (gave_one (value u z) from to ++ gave)
   unfolding mask_of
   new-mask = (holds-value held from to u z).mask_is
 
 pub kept-value : (u : ParseUnit) (z : ℤ) (from to : ℕ) {old : List ℤ} {mask : ℕ}
-    → Kept (gave_one (Value u z) from to) old
+    → Kept (gave_one (value u z) from to) old
     (set (set (set old (3 + unit_number u) z) (18 + unit_number u) (pos from)) (33 + unit_number u) (pos to)) mask (bit_or mask (1 * 2 ^ unit_number u % 65536))
 kept-value u z from to =
     record { keeps = λ gave rest lies is. (new_row u z from to gave rest lies is, new-mask u z from to gave rest lies is) }

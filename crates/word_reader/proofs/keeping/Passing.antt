@@ -1,4 +1,5 @@
 -- A byte that stands for itself, where one is there: passed over, or the same one.
+use Rattle.std.specs.Prelude.{None}
 use mathlib.Core.Bool.{Bool, true, false}
 use mathlib.Core.List.{List, [], ◌∷◌}
 use mathlib.Core.Logic.{◌⊎◌, inl, inr}
@@ -12,7 +13,6 @@ use Rattle.laws.proofs.Readers.{skip_goes_on, same-goes-on}
 use Rattle.meaning.specs.Readers.{got}
 use Rattle.meaning.specs.Reading.{literal_read, read_step}
 use Rattle.meaning.specs.Writing.{literal}
-use Rattle.meaning.specs.declared.Carried.TheVariants.{Nothing}
 use Rattle.meaning.specs.declared.Choices.{Choices}
 use Rattle.words.specs.Fields.{last_byte}
 use Rattle.words.specs.Pieces.{piece_step}
@@ -21,14 +21,14 @@ use Rattle.word_reader.proofs.keeping.Moving.{moves-none, moves-to, kept-none, k
 use Rattle.word_reader.specs.Quick.{gave_one, Moves, Behind, Passed}
 
 pub byte-passes : (strict : Bool) (b : ℕ) (text : List ℕ) (at : ℕ) → at < length text → (strict ≡ false) ⊎ (get_or text at 0 ≡ b)
-    → literal_read strict (b ∷ []) (drop at text) ≡ got 1 Nothing
+    → literal_read strict (b ∷ []) (drop at text) ≡ got 1 None
 byte-passes false b text at h e = rw (skip_goes_on 1 (drop at text) (rw length-drop (omega arith)))
 byte-passes true b text at h (inl e) = absurd (let z : ◌≡◌ {A = ℕ} 0 1 = cc in omega arith)
 byte-passes true b text at h (inr e) = rw (drop-cons text at 0 h, e, same-goes-on (b ∷ []) (drop (suc at) text))
 
 -- as a step
 pub moves-byte : (choices : Choices) (book : Book) (current : ℕ) (text : List ℕ) (at next b : ℕ) → next ≡ at + 1 → Passed choices.strict b text at
-    → Moves choices book current (literal (b ∷ []) false ∷ []) text at next (gave_one Nothing at next)
+    → Moves choices book current (literal (b ∷ []) false ∷ []) text at next (gave_one None at next)
 unfolding read_step
 moves-byte choices book current text at next b e p = moves-to choices book current text at next (literal (b ∷ []) false) (omega (arith, p.0)) e p.1
 
@@ -41,4 +41,4 @@ pub one-behind : (choices : Choices) (w : ℕ) (text : List ℕ) (at next : ℕ)
     → Behind choices w text at next
 unfolding piece_step
 one-behind choices w text at next n e p book current row =
-    rw (ne_eqb (last_byte w) 0 n) (gave_one Nothing at next, moves-byte choices book current text at next (last_byte w) e p, λ old mask. kept-nothing)
+    rw (ne_eqb (last_byte w) 0 n) (gave_one None at next, moves-byte choices book current text at next (last_byte w) e p, λ old mask. kept-nothing)

@@ -1,6 +1,6 @@
 -- The row of a reading: zeros before the first part, the counts behind the last; and a row laid over a row.
-use Rattle.std.specs.Prelude.{Ok, Err}
-use mathlib.Core.Bool.{Bool}
+use Rattle.std.specs.Prelude.{Ok, Err, Option, ⊤}
+use Rattle.std.proofs.lemmas.Option.{IfSome_then}
 use mathlib.Core.List.{List, [], ◌++◌}
 use mathlib.Core.Path.{◌≡◌, refl, ap, sym, ◌∙◌}
 use Prim.Native.Nat.{ℕ, ◌+◌, ◌-◌, ◌≤◌}
@@ -42,10 +42,10 @@ pub zero-places : (old : List ℤ) {row : List ℤ} → 48 ≤ length old → Cl
 unfolding row_of last_of
 zero-places old h clear e = e ∙ sets-eq (replicate 30 (pos 0)) old 18 (omega arith) ∙ ap (λ (counts : List ℤ). counts ++ replicate 30 (pos 0) ++ drop 48 old) clear
 
-pub whole-over : {choices : Choices} {book : Book} {current : ℕ} {ss : List Step} {text : List ℕ} {old mid new : List ℤ} {r : Bool} → drop 48 mid ≡ drop 48 old
+pub whole-over : {choices : Choices} {book : Book} {current : ℕ} {ss : List Step} {text : List ℕ} {old mid new : List ℤ} (r : Option ⊤) → drop 48 mid ≡ drop 48 old
     → Whole choices book current ss text mid new r → Whole choices book current ss text old new r
-whole-over e whole =
-    record { beyond = whole.beyond ∙ e; reads = λ h. let read = whole.reads h in (read.0, read.1, read.2, rw e at read.3) }
+whole-over r e whole =
+    record { beyond = whole.beyond ∙ e; reads = IfSome_then r whole.reads (λ _ read. (read.0, read.1, read.2, rw e at read.3)) }
 
 pub no-mask : 0 ≡ mask_of []
 unfolding mask_of last_of bits

@@ -3,7 +3,7 @@ use mathlib.Core.Bool.{Bool, true, false}
 use mathlib.Core.List.{List, [], ◌++◌}
 use mathlib.Core.Logic.{⊎_elim}
 use mathlib.Core.Path.{◌≡◌, refl, sym, ap, ◌∙◌}
-use Rattle.std.specs.Prelude.{None, Some}
+use Rattle.std.specs.Prelude.{None, Some, Option}
 use Rattle.std.proofs.lemmas.Option.{none-some}
 use Prim.Native.Nat.{ℕ, ◌+◌, ◌-◌, ◌≤◌, ◌<◌}
 use native.Mathlib.Nat.{add-zero}
@@ -16,10 +16,9 @@ use Rattle.laws.proofs.Tests.{every, true-is-not-false}
 use Rattle.meaning.specs.Bytes.{bytes}
 use Rattle.meaning.specs.Names.{Book, names, english}
 use Rattle.meaning.specs.Readers.{got, match_name}
-use Rattle.meaning.specs.Reading.{month_at, name_carries, read_rule, read_step}
+use Rattle.meaning.specs.Reading.{value, month_at, name_carries, read_rule, read_step}
 use Rattle.meaning.specs.Writing.{field}
 use Rattle.meaning.specs.declared.Carried.{Carried}
-use Rattle.meaning.specs.declared.Carried.TheVariants.{Nothing, Value}
 use Rattle.meaning.specs.declared.Choices.{Choices}
 use Rattle.meaning.specs.declared.NameList.{NameList}
 use Rattle.meaning.specs.declared.ParseUnit.TheVariants.{Month}
@@ -45,8 +44,8 @@ module _ (w : ℕ) (text : List ℕ) (at : ℕ) (r : Spelled) where
       let size = begun.size ∙ sym (ap length begun.letters) in
       omega (arith, size, length-take r.length (drop at text), length-drop at text)
 
-month-carried : (n : ℕ) → month_at (n - 0) ≡ Value Month (pos (n + 1))
-month-carried n = ap (λ (k : ℕ). Value Month (pos k)) (omega arith)
+month-carried : (n : ℕ) → month_at (n - 0) ≡ value Month (pos (n + 1))
+month-carried n = ap (λ (k : ℕ). value Month (pos k)) (omega arith)
 
 module _ (text : List ℕ) (r : Spelled) where
   -- in a list whose names are those from a number on
@@ -77,11 +76,11 @@ module _ (text : List ℕ) (r : Spelled) where
         let l = list_in (item w) in
         rw (word.0, found l (first_spelled w) (most_letters w) word.1 facts.0 facts.1 facts.2 begun.size begun.letters, add-zero)
 
-    pub weekday-carries : is_weekday w ≡ true → name_carries (list_in (item w)) (r.name - first_spelled w) ≡ Nothing
+    pub weekday-carries : is_weekday w ≡ true → name_carries (list_in (item w)) (r.name - first_spelled w) ≡ None
     unfolding name_carries list_in
     weekday-carries h = rw (eqb-true (item w) 8 h)
 
-    pub month-carries : is_weekday w ≡ false → name_carries (list_in (item w)) (r.name - first_spelled w) ≡ Value Month (pos (r.name + 1))
+    pub month-carries : is_weekday w ≡ false → name_carries (list_in (item w)) (r.name - first_spelled w) ≡ value Month (pos (r.name + 1))
     unfolding name_carries list_in
     month-carries h =
         ⊎_elim (λ e. rw e (month-carried r.name))
@@ -89,19 +88,20 @@ module _ (text : List ℕ) (r : Spelled) where
         (spelled-kinds w spelled)
 
 -- given up, with the row as it was
-pub named-lost : {choices : Choices} {book : Book} {w : ℕ} {text : List ℕ} {at mask : ℕ} {row : List ℤ} → Named choices book w text at mask row row None
+pub named-lost : {choices : Choices} {book : Book} {w : ℕ} {text : List ℕ} {from : Moved} {row : List ℤ} → Named choices book w text from row row None
 named-lost =
     record { lost = λ _. refl; quick = λ current row. record { beyond = refl; reads = tt } }
 
 -- a name, and the byte behind it
-pub named-read : (choices : Choices) (w : ℕ) (text : List ℕ) (at mask : ℕ) {old new : List ℤ} (r : Moved) (s : Spelled) {c : Carried}
-    → code w ≡ 22 → (spelled : is_spelled w ≡ true) → at ≤ length text → (begun : Begun (is_weekday w) (most_letters w) (drop at text) s)
-    → name_carries (list_in (item w)) (s.name - first_spelled w) ≡ c → Behind choices w text (at + s.length) r.next
-    → Kept (gave_one c at (at + s.length)) old new mask r.mask → drop 48 new ≡ drop 48 old → Named choices english w text at mask old new (Some r)
-named-read choices w text at mask r s e spelled h begun carries back kept beyond =
+pub named-read : (choices : Choices) (w : ℕ) (text : List ℕ) (from : Moved) {old new : List ℤ} (r : Moved) (s : Spelled) {c : Option Carried}
+    → code w ≡ 22 → (spelled : is_spelled w ≡ true) → from.next ≤ length text → (begun : Begun (is_weekday w) (most_letters w) (drop from.next text) s)
+    → name_carries (list_in (item w)) (s.name - first_spelled w) ≡ c → Behind choices w text (from.next + s.length) r.next
+    → Kept (gave_one c from.next (from.next + s.length)) old new from.mask r.mask → drop 48 new ≡ drop 48 old → Named choices english w text from old new (Some r)
+named-read choices w text from r s e spelled h begun carries back kept beyond =
     record {
       lost = λ k. absurd (none-some r (sym k));
       quick = λ current row.
+          let at = from.next in
           let moves = moves-to choices english current text at (at + s.length) (field (rule_in w)) h refl (rw carries at (name-read (drop at text) s w spelled begun choices current)) in
-          quick-symbol choices english current w row text (rule-steps w row e) moves back kept beyond;
+          quick-symbol choices english current w row text r (rule-steps w row e) moves back kept beyond;
     }

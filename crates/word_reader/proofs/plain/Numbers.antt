@@ -16,9 +16,8 @@ use Rattle.meaning.specs.Bytes.{is_digit, digit_at}
 use Rattle.meaning.specs.Names.{Book, english}
 use Rattle.meaning.specs.Numerals.{all_digits, decimal}
 use Rattle.meaning.specs.Readers.{got}
-use Rattle.meaning.specs.Reading.{most_read, minus_first, digit_run, read_rule, read_step}
+use Rattle.meaning.specs.Reading.{value, most_read, minus_first, digit_run, read_rule, read_step}
 use Rattle.meaning.specs.Writing.{field}
-use Rattle.meaning.specs.declared.Carried.TheVariants.{Value}
 use Rattle.meaning.specs.declared.Choices.{Choices}
 use Rattle.meaning.specs.declared.Edition.{Edition}
 use Rattle.meaning.specs.declared.Edition.TheVariants.{First, Second}
@@ -68,7 +67,7 @@ two-most Second short.Second = refl
 
 module _ (choices : Choices) (book : Book) (current : ℕ) (s : Short) (text : List ℕ) (at : ℕ) where
   pub two-got : (n : ℕ) → at + 2 ≤ length text → Two text at n
-      → read_step choices book current (field (short_rule s 2)) (drop at text) ≡ got 2 (Value (short_unit s) (pos n))
+      → read_step choices book current (field (short_rule s 2)) (drop at text) ≡ got 2 (value (short_unit s) (pos n))
   unfolding read_step read_rule
   two-got n h two =
       rw (two-most choices.edition s) (digits-read (short_unit s) 2 2 (omega arith) (omega arith) (omega arith) (drop at text) (two-found text at n h two))
@@ -89,7 +88,7 @@ module _ (choices : Choices) (book : Book) (current : ℕ) (s : Short) (text : L
   few-most Second short.Second = (omega arith, omega arith)
 
   pub few-got : {d : Digits} → short_digits 1 (most_read choices.edition (short_quantity s) (short_most s 1)) (drop at text) ≡ Some d
-      → read_step choices book current (field (short_rule s 1)) (drop at text) ≡ got d.taken (Value (short_unit s) (pos d.size))
+      → read_step choices book current (field (short_rule s 1)) (drop at text) ≡ got d.taken (value (short_unit s) (pos d.size))
   unfolding read_step read_rule
   few-got told =
       let most = few-most choices.edition s in
@@ -124,19 +123,19 @@ module _ (choices : Choices) (book : Book) (current k : ℕ) (few : k ≤ 4) (te
   unfolding all_digits
   all_digits_lem = rw (high.0, high.1, low.0, low.1)
 
-  value : decimal 0 digits ≡ n
+  counts : decimal 0 digits ≡ n
   unfolding decimal
-  value = omega (arith, high.2, low.2, four.4)
+  counts = omega (arith, high.2, low.2, four.4)
 
-  pub four-got : read_step choices book current (field (long_year k)) (drop at text) ≡ got 4 (Value unit.Year (pos n))
+  pub four-got : read_step choices book current (field (long_year k)) (drop at text) ≡ got 4 (value unit.Year (pos n))
   unfolding read_step read_rule
   four-got =
       let rest = drop (at + 4) text in
-      let small : decimal 0 digits ≤ 2147483647 = rw value (omega (arith, four.4, two-small text at four.0 high, two-small text (at + 2) four.1 low)) in
+      let small : decimal 0 digits ≤ 2147483647 = rw counts (omega (arith, four.4, two-small text at four.0 high, two-small text (at + 2) four.1 low)) in
       let number = digits-come-back Year digits (omega arith) all_digits_lem small in
       let long : minus_first (digits ++ rest) + digit_run (drop (minus_first (digits ++ rest)) (digits ++ rest)) ≡ 4
       = rw (no_minus digits rest all_digits_lem (omega arith)) (omega (arith, run-of-digits digits rest all_digits_lem four.5)) in
-      rw (le-leb k 4 few, four-there text at there, ← value) (year-carried (λ z. z) _ digits rest _ long number)
+      rw (le-leb k 4 few, four-there text at there, ← counts) (year-carried (λ z. z) _ digits rest _ long number)
 
 -- none, one by itself, or what follows it too
 

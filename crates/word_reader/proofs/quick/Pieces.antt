@@ -17,7 +17,7 @@ use Rattle.parse.specs.Steps.{part_at}
 use Rattle.meaning.specs.declared.Carried.{Carried}
 use Rattle.parse.specs.declared.cursor.Read.{Read}
 use Rattle.parse.specs.declared.cursor.Stop.{Stop}
-use Rattle.std.specs.Prelude.{Result, Some}
+use Rattle.std.specs.Prelude.{Result, Some, Option}
 use Rattle.words.proofs.pieces.Codes.{of_code}
 use Rattle.words.specs.Coding.{rule_in}
 use Rattle.words.specs.Fields.{code}
@@ -26,6 +26,7 @@ use Rattle.words.specs.declared.pieces.Piece.{Piece}
 use Rattle.word_reader.proofs.exact.Pieces.{word-steps}
 use Rattle.word_reader.proofs.keeping.Moving.{moves-then, kept_then}
 use Rattle.word_reader.specs.Quick.{Moves, Kept, Quick, Behind}
+use Rattle.word_reader.specs.declared.keeping.Moved.{Moved}
 
 module _ (row : List ℕ) (w k : ℕ) where
   steps-long : length (steps_in row w) ≡ length (pieces_in w)
@@ -43,7 +44,7 @@ module _ (row : List ℕ) (w k : ℕ) where
 
 -- a symbol, and the byte behind it
 
-pub rule-part : (choices : Choices) (book : Book) (current : ℕ) (text : List ℕ) (at : ℕ) (rule : Rule) {g : Result (Read Carried) Stop}
+pub rule-part : (choices : Choices) (book : Book) (current : ℕ) (text : List ℕ) (at : ℕ) (rule : Rule) {g : Result (Read (Option Carried)) Stop}
     → part_at at (read_rule choices.edition book current rule (drop at text)) ≡ g → part_at at (read_step choices book current (field rule) (drop at text)) ≡ g
 unfolding read_step
 rule-part choices book current text at rule e = e
@@ -52,16 +53,16 @@ pub rule-steps : (w : ℕ) (row : List ℕ) → code w ≡ 22 → steps_in row w
 unfolding steps_in pieces_of_code piece_step
 rule-steps w row e = rw (of_code w e)
 
-pub quick-symbol : (choices : Choices) (book : Book) (current w : ℕ) (row text : List ℕ) {rule : Rule} {at end next mask more : ℕ} {gs : List Gave} {old new : List ℤ}
-    → steps_in row w ≡ field rule ∷ map (piece_step row) (behind w) → Moves choices book current (field rule ∷ []) text at end gs
-    → Behind choices w text end next → Kept gs old new mask more → drop 48 new ≡ drop 48 old
-    → Quick choices book current (steps_in row w) text at mask old new (Some (record { next = next; mask = more }))
-quick-symbol choices book current w row text {more = more} {gs = gs} {new = new} steps moves back kept beyond =
+pub quick-symbol : (choices : Choices) (book : Book) (current w : ℕ) (row text : List ℕ) {rule : Rule} {from : Moved} {end : ℕ} {gs : List Gave} {old new : List ℤ} (r : Moved)
+    → steps_in row w ≡ field rule ∷ map (piece_step row) (behind w) → Moves choices book current (field rule ∷ []) text from.next end gs
+    → Behind choices w text end r.next → Kept gs old new from.mask r.mask → drop 48 new ≡ drop 48 old
+    → Quick choices book current (steps_in row w) text from old new (Some r)
+quick-symbol choices book current w row text {gs = gs} {new = new} r steps moves back kept beyond =
     record {
       beyond = beyond;
       reads =
           let last = back book current row in
-          (last.0 ++ gs, rw steps (moves-then choices book current text moves last.1), kept_then kept (last.2 new more));
+          (last.0 ++ gs, rw steps (moves-then choices book current text moves last.1), kept_then kept (last.2 new r.mask));
     }
 
 -- one word more

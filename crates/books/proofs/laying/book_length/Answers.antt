@@ -25,11 +25,11 @@ pub loop-place-preserved : goal.loop-place-preserved
 loop-place-preserved c =
     let a = c.args in
     let L = c.loop-place in
-    let size = shelved-length a.bytes.now a.places.now L.place-index (omega (arith, c.told-places)) in
+    let size = shelved-length a.bytes.now a.places.now L.place-index (omega (arith, c.requires)) in
     (omega (arith, short c), omega (arith, L.invariant.1, rw (← c.name_at.ensures) at size))
 
 pub returns : goal.returns
 returns c =
     let a = c.args in
-    let none = none-shelved a.bytes.now a.places.now c.loop-place.place-index (omega (arith, c.told-places)) in
+    let none = none-shelved a.bytes.now a.places.now c.loop-place.place-index (omega (arith, c.requires)) in
     omega (arith, rw none at c.loop-place.invariant.1)

@@ -5,5 +5,5 @@ use Rattle.meaning.specs.Books.{names_in}
 use Rattle.books.proofs.places.Laws.{walked}
 use Rattle.books.proofs.places.find_names.Given as goal
 
-abbrev pub invariant-loop-i : goal.invariant-loop-i
-invariant-loop-i l = (length l.places ≡ 64) × (walked l.bytes l.places l.i l.at ≡ names_in 64 (drop 5 l.bytes))
+abbrev pub invariant-loop-place : goal.invariant-loop-place
+invariant-loop-place l = (length l.places ≡ 64) × (walked l.bytes l.places l.place-index l.at ≡ names_in 64 (drop 5 l.bytes))

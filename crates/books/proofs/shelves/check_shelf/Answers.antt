@@ -16,7 +16,7 @@ returns-then-not-is_good c =
     let L = c.loop-count in
     let good = c.is_good in
     sym
-    (bad-name (meant a.shelf) a.bytes.now a.places.now a.first L.count a.shelf.count (omega (arith, c.told-places)) c.loop-count-test.true
+    (bad-name (meant a.shelf) a.bytes.now a.places.now a.first L.count a.shelf.count (omega (arith, c.requires.places_len, c.requires.count_bound)) c.loop-count-test.true
     (sym good.ensures ∙ c.if-not-is_good.true))
     ∙ L.invariant
 
@@ -26,7 +26,7 @@ loop-count-preserved c =
     let L = c.loop-count in
     let good = c.is_good in
     sym
-    (good-name (meant a.shelf) a.bytes.now a.places.now a.first L.count a.shelf.count (omega (arith, c.told-places)) c.loop-count-test.true
+    (good-name (meant a.shelf) a.bytes.now a.places.now a.first L.count a.shelf.count (omega (arith, c.requires.places_len, c.requires.count_bound)) c.loop-count-test.true
     (sym good.ensures ∙ c.if-not-is_good.false))
     ∙ L.invariant
 

@@ -14,7 +14,7 @@ returns-then-is_z c =
 pub overflow_add-result : goal.overflow_add-result
 overflow_add-result c =
     let n = c.size-n.result in
-    omega (arith, c.group_length-m.ensures, group-most c.args.colon c.args.minutes (n % 3600 / 60) (omega arith))
+    omega (arith, c.group_length-m.ensures, group-most c.args.zone.colon c.args.zone.minutes (n % 3600 / 60) (omega arith))
 
 pub overflow_add-result-2 : goal.overflow_add-result-2
 overflow_add-result-2 c =
@@ -23,13 +23,13 @@ overflow_add-result-2 c =
       arith,
       c.group_length-m.ensures,
       c.group_length.ensures,
-      group-most c.args.colon c.args.minutes (n % 3600 / 60) (omega arith),
-      group-most c.args.colon c.args.seconds (n % 60) (omega arith),
+      group-most c.args.zone.colon c.args.zone.minutes (n % 3600 / 60) (omega arith),
+      group-most c.args.zone.colon c.args.zone.seconds (n % 60) (omega arith),
     )
 
 pub returns : goal.returns
 returns c =
     let n = rw (to_z-of_z w32 c.args.z c.ranges.z) at c.size-n.ensures in
-    let long = offset-length c.args.colon c.args.minutes c.args.seconds c.args.z c.requires in
+    let long = offset-length c.args.zone.colon c.args.zone.minutes c.args.zone.seconds c.args.z c.requires in
     rw (← (rw n at c.is_z.ensures), c.if-is_z.false)
     (omega (arith, rw (← n) at long, c.group_length-m.ensures, c.group_length.ensures))

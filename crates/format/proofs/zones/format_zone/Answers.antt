@@ -35,5 +35,5 @@ returns c =
     let e = to_z-of_z w32 c.args.z c.ranges.z in
     let n = rw e at c.size-n.ensures in
     let test = rw n at c.is_z.ensures in
-    let sign = rw e at (c.is_minus.ensures c.args.colon) in
+    let sign = rw e at c.is_minus.ensures in
     rw (← test, c.if-is_z.false, ← sign, ← n) c.put_zone.ensures

@@ -8,10 +8,6 @@ pub overflow_cast-size : goal.overflow_cast-size
 overflow_cast-size c =
     omega (arith, c.type_inv.rows (c.args.index * 21))
 
-pub returns-then-size-most : goal.returns-then-size-most
-returns-then-size-most c =
-    omega (arith, (room c.args.most c.args.rows.now c.args.index c.requires.0 c.requires.1).size)
-
-pub returns-else-size-most : goal.returns-else-size-most
-returns-else-size-most c =
-    omega (arith, (room c.args.most c.args.rows.now c.args.index c.requires.0 c.requires.1).size)
+pub returns : goal.returns
+returns c =
+    omega (arith, c.min.ensures, (room c.args.most c.args.rows.now c.args.index c.requires.0 c.requires.1).size)

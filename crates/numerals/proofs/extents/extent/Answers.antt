@@ -1,4 +1,7 @@
 use native.Mathlib.Omega.{arith}
+use lib.Dec.{ltb}
+use borrow.Author.Tests.{ltb-true, ltb-false}
+use Rattle.laws.proofs.Tests.{by-test}
 use mathlib.Core.Path.{sym, ◌∙◌}
 use Rattle.numerals.proofs.extents.Reaches.{reach-more, reach-stops, reach-done}
 use Rattle.numerals.proofs.extents.extent.Goals as goal
@@ -15,13 +18,13 @@ loop-k-preserved c =
     let L = c.loop-k in
     omega (arith, reach-more a.text.now a.at L.k a.most c.loop-k-test.true (sym c.is_digit_at.ensures ∙ c.if-not-is_digit_at.false), L.invariant)
 
-pub returns-then-least-most : goal.returns-then-least-most
-returns-then-least-most c =
+pub returns : goal.returns
+returns c =
     let a = c.args in
     let L = c.loop-k in
-    omega (arith, reach-done a.text.now a.at L.k a.most c.loop-k-test.false, L.invariant, L.auto.k-end)
-
-pub returns-else-least-most : goal.returns-else-least-most
-returns-else-least-most c =
-    let a = c.args in
-    omega (arith, reach-done a.text.now a.at a.least a.most c.if-least-most.false)
+    let end = reach-done a.text.now a.at L.k a.most c.loop-k-test.false in
+    by-test (ltb a.least a.most)
+    (λ e. omega (arith, ltb-true a.least a.most e, end, L.invariant, L.auto.k-end, c.max.ensures))
+    (λ e.
+    let none = ltb-false a.least a.most e in
+    omega (arith, none, reach-done a.text.now a.at a.least a.most none, c.max.ensures))

@@ -1,6 +1,4 @@
 -- Each arm reads as its rule says.
-use mathlib.Core.Path.{sym, ◌∙◌}
-use Rattle.parse.proofs.cursor.Moves.{left_by}
 use lib.ListN.{drop}
 use Rattle.laws.proofs.OpenedBooks.{opened-as-many}
 use Rattle.meaning.specs.Names.{names}
@@ -16,7 +14,7 @@ named-requires c =
     let at = a.cursor.at in
     let text = a.text.now in
     let l = c.in-Letters.names in
-    rw (← opened-as-many a.book.now l) (letters-below at c.in-Letters.length _ (drop at text) (sym c.match_letters.ensures ∙ c.in_ok-name-in-Letters.was))
+    rw (c.match_letters.ensures, ← opened-as-many a.book.now l) (letters-below at _ _ (drop at text))
 
 pub returns-in-Number : goal.returns-in-Number
 unfolding read_rule
@@ -44,15 +42,15 @@ pub returns-in-MatchedName : goal.returns-in-MatchedName
 unfolding read_rule
 returns-in-MatchedName c = rw c.in-MatchedName.is c.parse_name.ensures
 
-pub returns-in_ok-name-in-Letters : goal.returns-in_ok-name-in-Letters
+pub returns-in-Letters : goal.returns-in-Letters
 unfolding read_rule
-returns-in_ok-name-in-Letters c =
+returns-in-Letters c =
     let a = c.args in
     let at = a.cursor.at in
     let text = a.text.now in
     let l = c.in-Letters.names in
     let k = c.in-Letters.length in
-    rw (c.in-Letters.is, part-named l at (letters k (names (book_in a.book.now) l)) (drop at text), ← c.match_letters.ensures, c.in_ok-name-in-Letters.was, c.named.ensures)
+    rw (c.in-Letters.is, part-named l at (letters k (names (book_in a.book.now) l)) (drop at text), ← c.match_letters.ensures) c.named.ensures
 
 pub returns-in-Years : goal.returns-in-Years
 unfolding read_rule
@@ -69,12 +67,3 @@ returns-in-TwoDigitYear c = rw c.in-TwoDigitYear.is c.parse_two_digit_year.ensur
 pub returns-in-Zone : goal.returns-in-Zone
 unfolding read_rule
 returns-in-Zone c = rw c.in-Zone.is c.parse_zone.ensures
-
-pub returns-in_err-name-in-Letters : goal.returns-in_err-name-in-Letters
-unfolding read_rule
-returns-in_err-name-in-Letters c =
-    let a = c.args in
-    let at = a.cursor.at in
-    let l = c.in-Letters.names in
-    let k = c.in-Letters.length in
-    rw (c.in-Letters.is, part-named l at (letters k (names (book_in a.book.now) l)) (drop at a.text.now), ← c.match_letters.ensures, c.in_err-name-in-Letters.was) (left_by c.from_residual.ensures.1)

@@ -29,7 +29,7 @@ zone_group-requires-2 c =
     let s = drop at text in
     let inside = counted-stays at text (take_count 2 s) c.requires (within_count 2 s) (sym c.take_count.ensures ∙ c.in_ok-hours.was) in
     let next = c.in_ok-hours.hours.next.at in
-    counted-stays next text (zone_group a.colon a.minutes (drop next text)) inside (within-group a.colon a.minutes (drop next text))
+    counted-stays next text (zone_group a.zone.colon a.zone.minutes (drop next text)) inside (within-group a.zone.colon a.zone.minutes (drop next text))
     (sym c.zone_group.ensures ∙ c.in_ok-minutes.was)
 
 pub returns-in_err-hours : goal.returns-in_err-hours

@@ -1,8 +1,11 @@
 -- By what the row is opened as.
+use mathlib.Core.Path.{◌≡◌}
 use native.Mathlib.Omega.{arith}
 use mir.Syntax.{w32}
 use mir.ValLaws.{to_z-of_z}
+use Rattle.lists.specs.LentRows.{rows_in}
 use Rattle.meaning.specs.Lists.{rows_of}
+use Rattle.prepared.specs.Uses.{prepared_rows}
 use Rattle.prepared.proofs.listing.ListSteps.{steps-list-fits}
 use Rattle.prepared.proofs.opening.OpenedRows.{opened_nothing, opened-refusal, opened-words, prepared-given, unprepared-given, tail-length}
 use Rattle.meaning.specs.Prepared.{list_steps_check, read_list_steps, list_rows_steps}
@@ -44,4 +47,6 @@ returns-in-Ok c =
     let year = to_z-of_z w32 c.args.year c.ranges.year in
     let listed = rw year at c.list_in_year.ensures.listed in
     let rows = rw year at c.list_in_year.ensures.rows in
-    (prepared-given o.prepared (rw (o.checks, ← listed) c.give_counted.ensures), rw (o.prepared, o.checks, ← o.uses) rows)
+    let a = c.args in
+    let laid : rows_in c.list_in_year.new.rows ≡ prepared_rows a.choices a.book.now a.row.now a.text.now a.year (rows_of a.days.now a.months.now a.years.now a.codes.now) = rw (o.prepared, o.checks, ← o.uses) rows in
+    (prepared-given o.prepared (rw (o.checks, ← listed) c.give_counted.ensures), search rules)

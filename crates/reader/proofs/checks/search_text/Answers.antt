@@ -1,13 +1,20 @@
-use Rattle.std.specs.Prelude.{Err}
-use mathlib.Core.List.{List}
-use mathlib.Core.Path.{◌≡◌, sym, ◌∙◌}
-use Prim.Native.Nat.{ℕ, ◌≤◌, ◌<◌}
+-- The check of a text's bytes is the search for the first that is refused.
+use Rattle.std.proofs.Common.{Option, Some, None}
+use Rattle.std.specs.Prelude.{not, nat_lt, Ok, Err}
+use Rattle.std.specs.List.{position, position_from}
+use Rattle.std.proofs.lemmas.Iterator.Adapters.{position_from-zero}
+use Rattle.std.proofs.lemmas.Bool.Decides.{nat_tests}
+use mathlib.Core.List.{List, [], ◌∷◌}
+use mathlib.Core.Path.{◌≡◌, refl, sym, ap, ◌∙◌}
+use Prim.Native.Nat.{ℕ, suc, ◌≤◌, ◌<◌}
+use native.Mathlib.Numerals.{add-one}
 use native.Mathlib.Omega.{arith}
-use lib.ListN.{length, get_or}
+use lib.ListN.{length}
 use borrow.Author.Tests.{le-leb, lt-leb}
-use Rattle.meaning.specs.Answers.{byte_check, text_check}
+use Rattle.laws.proofs.Tests.{by-test}
+use Rattle.meaning.specs.Answers.{within, byte_check, text_check}
+use Rattle.meaning.specs.Results.{Checked}
 use Rattle.meaning.specs.declared.Refusal.TheVariants.{TextTooLong, TextByte}
-use Rattle.pattern.proofs.checks.Checks.{within-yes, within-above, bytes-more, bytes-stop, bytes-done}
 use Rattle.reader.proofs.checks.search_text.Goals as goal
 
 long-text : (s : List ℕ) → 2048 < length s → text_check s ≡ Err (TextTooLong (length s))
@@ -18,30 +25,29 @@ short-text : (s : List ℕ) → length s ≤ 2048 → text_check s ≡ byte_chec
 unfolding text_check
 short-text s h = rw (le-leb (length s) 2048 h)
 
+-- what closes the search
+abbrev refused_at : Option ℕ → Checked
+refused_at None = Ok tt
+refused_at (Some i) = Err (TextByte i)
+
+allowed : (b : ℕ) → within 0 127 b ≡ not (nat_lt 127 b)
+allowed b = grind (arith, nat_tests)
+
+byte_check-from : (i : ℕ) (s : List ℕ) → byte_check TextByte 0 127 i s ≡ refused_at (position_from (λ b. nat_lt 127 b) i s)
+unfolding byte_check
+byte_check-from i [] = refl
+byte_check-from i (b ∷ s) =
+    by-test (nat_lt 127 b) (λ e. let w = allowed b ∙ ap not e in rw (w, e, byte_check))
+    (λ e. let w = allowed b ∙ ap not e in rw (w, e, byte_check, add-one i) (byte_check-from (suc i) s))
+
+text_check-position : (s : List ℕ) → length s ≤ 2048 → text_check s ≡ refused_at (position (λ b. nat_lt 127 b) s)
+text_check-position s h = short-text s h ∙ byte_check-from 0 s ∙ ap refused_at (sym (position_from-zero (λ b. nat_lt 127 b) s))
+
 pub returns-then-n-gt2048 : goal.returns-then-n-gt2048
 returns-then-n-gt2048 c = sym (long-text c.args.text.now c.if-n-gt2048.true)
 
-pub loop-i-init : goal.loop-i-init
-loop-i-init c = (omega arith, short-text c.args.text.now c.if-n-gt2048.false)
+pub returns-in-Some : goal.returns-in-Some
+returns-in-Some c = sym (text_check-position c.args.text.now c.if-n-gt2048.false ∙ ap refused_at (sym c.first_above.ensures ∙ c.in-Some.is))
 
-pub returns-then-text-i-gt127 : goal.returns-then-text-i-gt127
-returns-then-text-i-gt127 c =
-    let l = c in
-    let s = l.args.text.now in
-    let i = l.loop-i.i in
-    let bad = within-above 0 127 (get_or s i 0) (omega arith) c.if-text-i-gt127.true in
-    sym (l.loop-i.invariant.1 ∙ bytes-stop TextByte 0 127 s i (omega arith) bad)
-
-pub loop-i-preserved : goal.loop-i-preserved
-loop-i-preserved c =
-    let l = c in
-    let s = l.args.text.now in
-    let i = l.loop-i.i in
-    let good = within-yes 0 127 (get_or s i 0) (omega arith) c.if-text-i-gt127.false in
-    (omega arith, l.loop-i.invariant.1 ∙ bytes-more TextByte 0 127 s i (omega arith) good)
-
-pub returns : goal.returns
-returns c =
-    let l = c in
-    let s = l.args.text.now in
-    sym (l.loop-i.invariant.1 ∙ bytes-done TextByte 0 127 s l.loop-i.i (omega arith))
+pub returns-in-None : goal.returns-in-None
+returns-in-None c = sym (text_check-position c.args.text.now c.if-n-gt2048.false ∙ ap refused_at (sym c.first_above.ensures ∙ c.in-None.is))

@@ -1,4 +1,4 @@
-use Rattle.std.specs.Prelude.{Ok, Err}
+use Rattle.std.specs.Prelude.{Ok, Err, Some, None}
 use Prim.Native.Nat.{◌≤◌}
 use borrow.Author.Rules.{rules}
 use lib.ListN.{length}
@@ -10,7 +10,6 @@ use mir.Syntax.{w64}
 use mir.ValLaws.{to_z-of_z}
 use native.Mathlib.Omega.{arith}
 use Rattle.meaning.specs.OpenedBooks.{book_in}
-use Rattle.meaning.specs.declared.Carried.TheVariants.{Nothing, Value}
 use Rattle.parse.proofs.literals.Strict.{same-either, value_same, ended}
 use Rattle.pattern.proofs.parts.Next.{starts-here}
 use Rattle.pattern.proofs.parts.Walks.{found_in}
@@ -18,7 +17,7 @@ use Rattle.rules.specs.Steps.{means}
 use Rattle.reader.proofs.walk.Walks.{step-here, part-inside, walk-stops, walk-differs, walk-goes-on, walk-left, walk-done}
 use Rattle.reader.proofs.record.Units.{holds-none, unit-below, holds-nothing, holds-value, holds-reading}
 use Rattle.reader.proofs.walk.parse_parts.Goals as goal
-use Rattle.reader.proofs.walk.parse_parts.Goals.{in-Value, in_default+then-choices+in_default-compare_part, in_default+else-choices, else-choices-2-via-then-choices-2+else-at-text, else-choices-2-via-else-choices-2}
+use Rattle.reader.proofs.walk.parse_parts.Goals.{in-Some-value, in_default+then-choices+in_default-compare_part, in_default+else-choices, else-choices-2-via-then-choices-2+else-at-text, else-choices-2-via-else-choices-2}
 
 pub loop-part-init : goal.loop-part-init
 loop-part-init c =
@@ -45,10 +44,10 @@ returns-in-Err c =
     rw (← rw stops at L.invariant.2) (ap Err c.in_part.ensures)
 
 pub offset_bounds-values-k : goal.offset_bounds-values-k
-offset_bounds-values-k c = omega (arith, c.unit_number-k.ensures, unit-below c.in-Value.unit)
+offset_bounds-values-k c = omega (arith, c.unit_number-k.ensures, unit-below c.in-Some-value.carried.unit)
 
 pub bounds-values-k : goal.bounds-values-k
-bounds-values-k c = omega (arith, c.unit_number-k.ensures, unit-below c.in-Value.unit)
+bounds-values-k c = omega (arith, c.unit_number-k.ensures, unit-below c.in-Some-value.carried.unit)
 
 pub overflow_cast-starts : goal.overflow_cast-starts
 overflow_cast-starts c =
@@ -56,10 +55,10 @@ overflow_cast-starts c =
     omega (arith, m.loop-part.invariant.3, m.requires)
 
 pub offset_bounds-starts-k : goal.offset_bounds-starts-k
-offset_bounds-starts-k c = omega (arith, c.unit_number-k.ensures, unit-below c.in-Value.unit)
+offset_bounds-starts-k c = omega (arith, c.unit_number-k.ensures, unit-below c.in-Some-value.carried.unit)
 
 pub bounds-starts-k : goal.bounds-starts-k
-bounds-starts-k c = omega (arith, c.unit_number-k.ensures, unit-below c.in-Value.unit)
+bounds-starts-k c = omega (arith, c.unit_number-k.ensures, unit-below c.in-Some-value.carried.unit)
 
 pub overflow_cast-ends : goal.overflow_cast-ends
 overflow_cast-ends c =
@@ -71,16 +70,16 @@ overflow_cast-ends c =
     omega (arith, inside, m.requires)
 
 pub offset_bounds-ends-k : goal.offset_bounds-ends-k
-offset_bounds-ends-k c = omega (arith, c.unit_number-k.ensures, unit-below c.in-Value.unit)
+offset_bounds-ends-k c = omega (arith, c.unit_number-k.ensures, unit-below c.in-Some-value.carried.unit)
 
 pub bounds-ends-k : goal.bounds-ends-k
-bounds-ends-k c = omega (arith, c.unit_number-k.ensures, unit-below c.in-Value.unit)
+bounds-ends-k c = omega (arith, c.unit_number-k.ensures, unit-below c.in-Some-value.carried.unit)
 
 pub overflow_cast-mask : goal.overflow_cast-mask
-overflow_cast-mask c = omega (arith, c.unit_number-k.ensures, unit-below c.in-Value.unit)
+overflow_cast-mask c = omega (arith, c.unit_number-k.ensures, unit-below c.in-Some-value.carried.unit)
 
 pub overflow_shl-mask : goal.overflow_shl-mask
-overflow_shl-mask c = omega (arith, c.unit_number-k.ensures, unit-below c.in-Value.unit)
+overflow_shl-mask c = omega (arith, c.unit_number-k.ensures, unit-below c.in-Some-value.carried.unit)
 
 pub compare_part-requires : goal.compare_part-requires
 compare_part-requires c =
@@ -133,20 +132,19 @@ loop-part-preserved c =
     let from = L.at in
     let to = c.in-Ok.read.next.at in
     elim c.match-read.branch [
-      | in-Value w ↦
-          let u = w.in-Value.unit in
-          let z = w.in-Value.value in
-          let same = value_same text L.at a.choices.edition (book_in a.book.now) a.current_year k gave w.in-Value.is in (
-            record { carried = Value u z; start = from; end = to } ∷ L.invariant.0,
-            rw (w.values-is, w.starts-is, w.ends-is, w.mask-is, w.unit_number-k.ensures, to_z-of_z w64 z (search rules)) (holds-value L.invariant.1 from to u z),
-            rw (w.in-Value.is, ← turn.2.1) at (sym (moved (rw same (same-either a.choices.strict))) ∙ L.invariant.2),
+      | in-Some-value w ↦
+          let carried = w.in-Some-value.carried in
+          let same = value_same text L.at a.choices.edition (book_in a.book.now) a.current_year k gave w.in-Some-value.is in (
+            record { carried = Some carried; start = from; end = to } ∷ L.invariant.0,
+            rw (w.values-is, w.starts-is, w.ends-is, w.mask-is, w.unit_number-k.ensures, to_z-of_z w64 carried.value (search rules)) (holds-value L.invariant.1 from to carried.unit carried.value),
+            rw (w.in-Some-value.is, ← turn.2.1) at (sym (moved (rw same (same-either a.choices.strict))) ∙ L.invariant.2),
             inside,
             rw turn.2.1 (omega (arith, n.some)),
             turn.1 ∙ L.invariant.5,
           )
       | in_default+then-choices+in_default-compare_part w ↦
           let seen = rw (step-here (starts-here n) m.step_of-step.ensures) at w.compare_part.ensures in (
-            record { carried = Nothing; start = from; end = to } ∷ L.invariant.0,
+            record { carried = None; start = from; end = to } ∷ L.invariant.0,
             rw (w.values-is, w.starts-is, w.ends-is, w.mask-is) (holds-nothing L.invariant.1 from to),
             rw (w.in_default.is, ← turn.2.1) at (sym (moved (rw w.if-choices.true (sym seen ∙ w.in_default-compare_part.is))) ∙ L.invariant.2),
             inside,
@@ -154,7 +152,7 @@ loop-part-preserved c =
             turn.1 ∙ L.invariant.5,
           )
       | in_default+else-choices w ↦ (
-        record { carried = Nothing; start = from; end = to } ∷ L.invariant.0,
+        record { carried = None; start = from; end = to } ∷ L.invariant.0,
         rw (w.values-is, w.starts-is, w.ends-is, w.mask-is) (holds-nothing L.invariant.1 from to),
         rw (w.in_default.is, ← turn.2.1) at (sym (moved (rw w.if-choices.false)) ∙ L.invariant.2),
         inside,

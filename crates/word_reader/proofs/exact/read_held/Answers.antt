@@ -2,14 +2,9 @@
 use lib.ListN.{length, length-map}
 use mathlib.Core.Path.{sym, ◌∙◌}
 use Prim.Native.Nat.{◌%◌}
-use native.Mathlib.Omega.{arith}
 use Rattle.word_reader.proofs.exact.Literals.{low_bytes, unseen-passes, short-passes, same-passes, differs-stops}
 use Rattle.word_reader.proofs.exact.read_held.Goals as goal
 use Rattle.word_reader.proofs.exact.read_held.Goals.{then-strict+then-count-text+in_default, else-strict, else-strict-via-then-strict+else-count-text, else-strict-via-else-strict}
-
-pub compare_held-requires : goal.compare_held-requires
-compare_held-requires c = let s = c in
-    omega (arith, c.if-count-text.true, s.requires)
 
 pub returns-in-Some : goal.returns-in-Some
 returns-in-Some c = let s = c in

@@ -12,7 +12,7 @@ pub returns-in-Held : goal.returns-in-Held
 unfolding read_step piece_step
 returns-in-Held c = let s = c in
     rw (c.in-Held.is, ← held-part s.args.tail.now c.in-Held.from c.in-Held.count)
-    (rw (c.smaller.ensures, c.smaller-start.ensures) at c.read_held.ensures)
+    (rw (c.min.ensures, c.min-start.ensures) at c.read_held.ensures)
 
 pub returns-in-Symbol : goal.returns-in-Symbol
 unfolding read_step piece_step

@@ -1,17 +1,11 @@
 -- Compared where it is asked for and the bytes are there, then passed over.
 use lib.ListN.{length, replicate, length-replicate}
 use mathlib.Core.Path.{◌≡◌, sym, ◌∙◌}
-use Prim.Native.Nat.{◌+◌, ◌-◌, ◌≤◌}
+use Prim.Native.Nat.{◌+◌, ◌-◌}
 use native.Mathlib.Omega.{arith}
 use Rattle.word_reader.proofs.exact.Literals.{unseen-passes, short-passes, same-passes, differs-stops, no_bytes}
 use Rattle.word_reader.proofs.exact.read_times.Goals as goal
 use Rattle.word_reader.proofs.exact.read_times.Goals.{then-strict+then-count-gt0+then-count-text+in_default, then-strict+then-count-gt0+else-count-text, else-strict, else-strict-via-then-strict+else-count-gt0, else-strict-via-else-strict}
-
-pub compare-requires : goal.compare-requires
-compare-requires c = let s = c in
-    let a = s.args in
-    let end : a.cursor.at + a.count ≤ length a.text.now = omega (arith, c.if-count-text.true, s.requires) in
-    record { held = c.if-count-gt0.true; ended = (omega (arith, length-replicate a.count a.byte), end) }
 
 pub returns-in-Some : goal.returns-in-Some
 returns-in-Some c = let s = c in

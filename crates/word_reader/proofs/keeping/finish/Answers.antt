@@ -4,17 +4,7 @@ use mir.Facts.{to_z_pos}
 use mir.Syntax.{w64}
 use native.Mathlib.Omega.{arith}
 use lib.Count.{ones, ones-le}
-use lib.ListN.{length-set}
 use Rattle.word_reader.proofs.keeping.finish.Goals as goal
-
-pub bounds-answer-1 : goal.bounds-answer-1
-bounds-answer-1 c = simp length-set (omega (arith, c.requires.0))
-
-pub overflow_cast-answer-3 : goal.overflow_cast-answer-3
-overflow_cast-answer-3 c = record { sfits = omega (arith, ones-le 16 c.args.mask (search rules)) }
-
-pub bounds-answer-2 : goal.bounds-answer-2
-bounds-answer-2 c = simp length-set (omega (arith, c.requires.0))
 
 pub returns : goal.returns
 returns c =

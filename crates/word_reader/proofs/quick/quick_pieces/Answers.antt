@@ -12,12 +12,7 @@ use Rattle.word_reader.proofs.quick.quick_pieces.Goals as goal
 pub loop-k-init : goal.loop-k-init
 loop-k-init c =
     let a = c.args in
-    ([], moves-none a.choices (book_in a.book.now) a.current_year a.text.now a.at c.requires.1, kept-none, refl, refl, omega arith)
-
-pub quick_piece-requires : goal.quick_piece-requires
-quick_piece-requires c =
-    let L = c.loop-k in
-    (omega (arith, L.invariant.4, c.requires.0), L.invariant.1.inside, c.requires.2)
+    ([], moves-none a.choices (book_in a.book.now) a.current_year a.text.now a.from.next c.requires.1, kept-none, refl, refl, omega arith)
 
 pub loop-k-preserved : goal.loop-k-preserved
 loop-k-preserved c =

@@ -11,8 +11,8 @@ use Rattle.word_reader.proofs.quick.quick_pieces.Given as goal
 
 abbrev pub invariant-loop-k : goal.invariant-loop-k
 invariant-loop-k l = (gs : List Gave)
-    × (Moves l.choices (book_in l.book) l.current_year (take l.k (steps_in l.tail l.w)) l.text l.at l.moved.next gs)
-    × (Kept gs l.initial.answer l.answer l.mask l.moved.mask)
+    × (Moves l.choices (book_in l.book) l.current_year (take l.k (steps_in l.tail l.w)) l.text l.fn.from.next l.moved.next gs)
+    × (Kept gs l.initial.answer l.answer l.fn.from.mask l.moved.mask)
     × (drop 48 l.answer ≡ drop 48 l.initial.answer)
     × (length l.answer ≡ length l.initial.answer)
     × (l.k ≤ l.count)

@@ -1,8 +1,5 @@
 -- What the symbol carries is kept, and the byte behind it passed over.
-use borrow.Author.Rules.{rules}
 use mathlib.Core.Path.{refl, sym, ◌∙◌}
-use mir.Syntax.{w64}
-use mir.ValLaws.{to_z-of_z}
 use native.Mathlib.Omega.{arith}
 use Rattle.meaning.specs.OpenedBooks.{book_in}
 use Rattle.meaning.specs.Writing.{field}
@@ -14,43 +11,38 @@ use Rattle.word_reader.proofs.quick.quick_rule.Goals as goal
 
 pub pass_behind-requires : goal.pass_behind-requires
 pass_behind-requires c =
-    let s = c in
-    let a = s.args in
+    let a = c.args in
     let book = book_in a.book.now in
     let text = a.text.now in
-    let gave = rw c.rule_in.ensures at (rule-part a.choices book a.current_year text a.at c.rule_in.result (sym c.parse_rule.ensures ∙ c.in-Ok.is)) in
-    piece_inside a.choices book a.current_year text a.at (field (rule_in a.w)) gave s.requires.1.1
+    let gave = rw c.rule_in.ensures at (rule-part a.choices book a.current_year text a.from.next c.rule_in.result (sym c.parse_rule.ensures ∙ c.in-Ok.is)) in
+    piece_inside a.choices book a.current_year text a.from.next (field (rule_in a.w)) gave c.requires.1.1
 
-pub keep-kept-requires : goal.keep-kept-requires
-keep-kept-requires c =
-    let s = c in
-    let a = s.args in
+pub keep-requires : goal.keep-requires
+keep-requires c =
+    let a = c.args in
     let book = book_in a.book.now in
     let text = a.text.now in
-    let gave = rw c.rule_in.ensures at (rule-part a.choices book a.current_year text a.at c.rule_in.result (sym c.parse_rule.ensures ∙ c.in-Ok.is)) in
-    let inside = piece_inside a.choices book a.current_year text a.at (field (rule_in a.w)) gave s.requires.1.1 in
-    (s.requires.1.0, omega (arith, s.requires.1.1, s.requires.1.2), omega (arith, inside, s.requires.1.2))
+    let gave = rw c.rule_in.ensures at (rule-part a.choices book a.current_year text a.from.next c.rule_in.result (sym c.parse_rule.ensures ∙ c.in-Ok.is)) in
+    let inside = piece_inside a.choices book a.current_year text a.from.next (field (rule_in a.w)) gave c.requires.1.1 in
+    (c.requires.1.0, omega (arith, c.requires.1.1, c.requires.1.2), omega (arith, inside, c.requires.1.2))
 
-pub returns-in-Nothing : goal.returns-in-Nothing
-returns-in-Nothing c =
-    let s = c in
-    let a = s.args in
+pub returns-in-None : goal.returns-in-None
+returns-in-None c =
+    let a = c.args in
     let book = book_in a.book.now in
     let text = a.text.now in
-    let gave = rw c.rule_in.ensures at (rule-part a.choices book a.current_year text a.at c.rule_in.result (sym c.parse_rule.ensures ∙ c.in-Ok.is)) in
-    let moves' = moves-part a.choices book a.current_year text a.at (field (rule_in a.w)) s.requires.1.1 gave in
-    let moves = rw c.in-Nothing.is at moves' in
-    λ row. quick-symbol a.choices book a.current_year a.w row text (rule-steps a.w row s.requires.0) moves c.in_ok-next-in-Ok.ensures kept-nothing refl
+    let gave = rw c.rule_in.ensures at (rule-part a.choices book a.current_year text a.from.next c.rule_in.result (sym c.parse_rule.ensures ∙ c.in-Ok.is)) in
+    let moves = rw c.in-None.is at (moves-part a.choices book a.current_year text a.from.next (field (rule_in a.w)) c.requires.1.1 gave) in
+    λ row. quick-symbol a.choices book a.current_year a.w row text (record { next = c.in_ok-next-in-Ok.next; mask = a.from.mask })
+    (rule-steps a.w row c.requires.0) moves c.in_ok-next-in-Ok.ensures kept-nothing refl
 
-pub returns-in-Value : goal.returns-in-Value
-returns-in-Value c =
-    let s = c in
-    let a = s.args in
+pub returns-in-Some : goal.returns-in-Some
+returns-in-Some c =
+    let a = c.args in
     let book = book_in a.book.now in
     let text = a.text.now in
-    let gave = rw c.rule_in.ensures at (rule-part a.choices book a.current_year text a.at c.rule_in.result (sym c.parse_rule.ensures ∙ c.in-Ok.is)) in
-    let z = c.in-Value.value in
-    let moves' = moves-part a.choices book a.current_year text a.at (field (rule_in a.w)) s.requires.1.1 gave in
-    let moves = rw c.in-Value.is at moves' in
-    let kept = c.keep-kept.ensures in
-    λ row. quick-symbol a.choices book a.current_year a.w row text (rule-steps a.w row s.requires.0) moves c.in_ok-next-in-Ok.ensures (rw (to_z-of_z w64 z (search rules)) at kept.1) kept.2
+    let gave = rw c.rule_in.ensures at (rule-part a.choices book a.current_year text a.from.next c.rule_in.result (sym c.parse_rule.ensures ∙ c.in-Ok.is)) in
+    let moves = rw c.in-Some.is at (moves-part a.choices book a.current_year text a.from.next (field (rule_in a.w)) c.requires.1.1 gave) in
+    let kept = c.keep.ensures in
+    λ row. quick-symbol a.choices book a.current_year a.w row text c.keep.result
+    (rule-steps a.w row c.requires.0) moves (rw kept.0 c.in_ok-next-in-Ok.ensures) kept.1 kept.2

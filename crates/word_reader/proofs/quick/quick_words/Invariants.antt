@@ -12,10 +12,10 @@ use Rattle.word_reader.proofs.quick.quick_words.Given as goal
 abbrev pub invariant-loop-i : goal.invariant-loop-i
 invariant-loop-i l = (gave : List Gave)
     × (n : ℕ)
-    × (walk l.choices (book_in l.book) l.current_year n l.at (steps_of l.tail (drop l.i (take l.used l.tail))) (drop l.at l.text) gave
+    × (walk l.choices (book_in l.book) l.current_year n l.moved.next (steps_of l.tail (drop l.i (take l.used l.tail))) (drop l.moved.next l.text) gave
     ≡ walk l.choices (book_in l.book) l.current_year 0 0 (steps_of l.tail (take l.used l.tail)) l.text [])
     × (l.answer ≡ row_of gave ++ drop 48 l.initial.answer)
-    × (l.mask ≡ mask_of gave)
-    × (l.at ≤ length l.text)
+    × (l.moved.mask ≡ mask_of gave)
+    × (l.moved.next ≤ length l.text)
     × (length l.answer ≡ length l.initial.answer)
     × (l.i ≤ l.used)

@@ -13,24 +13,18 @@ use Rattle.word_reader.proofs.reading.Checked.{steps-read}
 use Rattle.word_reader.proofs.keeping.Rows.{given-quick, given-over}
 use Rattle.word_reader.proofs.reading.read_words.Goals as goal
 
-pub read_quickly-requires : goal.read_quickly-requires
-read_quickly-requires c = let s = c in (s.requires.0, s.requires.1)
-
-pub returns-then-read_quickly : goal.returns-then-read_quickly
-returns-then-read_quickly c =
+pub returns-in-Some : goal.returns-in-Some
+returns-in-Some c =
     let s = c in
     let a = s.args in
     let tail = a.tail.now in
     let quick = rw (to_z-of_z w32 a.year s.ranges.year) at c.read_quickly.ensures in
-    let whole = quick.0.reads c.if-read_quickly.true in
-    rw (steps-read a.choices (book_in a.book.now) (steps_of tail (take a.used tail)) a.text.now a.year s.requires.2, quick.1 c.if-read_quickly.true, whole.2)
+    let whole = rw c.in-Some.is at quick.0.reads in
+    rw (steps-read a.choices (book_in a.book.now) (steps_of tail (take a.used tail)) a.text.now a.year s.requires.2, quick.1 c.in-Some.is, whole.2)
     (given-quick whole.0 whole.1 s.requires.1 whole.3)
 
-pub read_exactly-requires : goal.read_exactly-requires
-read_exactly-requires c = let s = c in (s.requires.0, omega (arith, c.read_quickly.auto.answer, s.requires.1))
-
-pub returns : goal.returns
-returns c =
+pub returns-in-None : goal.returns-in-None
+returns-in-None c =
     let s = c in
     let a = s.args in
     let tail = a.tail.now in

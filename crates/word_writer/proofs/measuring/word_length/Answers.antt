@@ -20,24 +20,12 @@ use Rattle.words.specs.Fields.{slot, from}
 use Rattle.words.specs.Pieces.{short_in}
 use Rattle.word_writer.proofs.measuring.word_length.Goals as goal
 
-pub overflow_add-result : goal.overflow_add-result
-overflow_add-result c = omega (arith, c.behind_length-behind.ensures.1)
-
 pub overflow_add-result-in-4 : goal.overflow_add-result-in-4
 overflow_add-result-in-4 c =
     let number = c.short_number in
     let small : number.result < 100 = rw number.ensures (short-small c.short_in.result c.args.f (allowed c.args.f c.requires)) in
     let few : c.padded_length.result ≤ 2 = omega (arith, two_digits 1 number.result (omega arith) small, c.padded_length.ensures) in
     omega (arith, few, c.behind_length-behind.ensures.1)
-
-pub overflow_add-result-in-9 : goal.overflow_add-result-in-9
-overflow_add-result-in-9 c = omega (arith, c.years_length.ensures.1, c.behind_length-behind.ensures.1)
-
-pub overflow_add-result-in-10 : goal.overflow_add-result-in-10
-overflow_add-result-in-10 c = omega (arith, c.behind_length-behind.ensures.1)
-
-pub overflow_add-result-in-15-2 : goal.overflow_add-result-in-15-2
-overflow_add-result-in-15-2 c = omega (arith, c.years_length-in-15.ensures.1, c.behind_length-behind.ensures.1)
 
 pub rule_length-requires : goal.rule_length-requires
 rule_length-requires c =

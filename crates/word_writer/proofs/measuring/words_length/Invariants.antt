@@ -5,6 +5,6 @@ use mathlib.Core.Path.{◌≡◌}
 use Rattle.word_writer.specs.Written.{words_text}
 use Rattle.word_writer.proofs.measuring.words_length.Given as goal
 
-abbrev pub invariant-loop-i : goal.invariant-loop-i
-invariant-loop-i l =
-    l.n + length (words_text l.book l.tail l.f (drop l.i (take l.used l.tail))) ≡ length (words_text l.book l.tail l.f (take l.used l.tail))
+abbrev pub invariant-loop-w : goal.invariant-loop-w
+invariant-loop-w l =
+    l.n + length (words_text l.book l.tail l.f (drop l.w-index (take l.used l.tail))) ≡ length (words_text l.book l.tail l.f (take l.used l.tail))

@@ -18,7 +18,9 @@ pub returns-in-4 : goal.returns-in-4
 returns-in-4 c = rw (sym c.code.ensures ∙ c.in-4.is)
 
 pub returns-else-slot-eq4 : goal.returns-else-slot-eq4
-returns-else-slot-eq4 c = rw ((sym c.code.ensures ∙ c.in-9.is), ne_eqb (slot c.args.w) 4 (λ e. c.if-slot-eq4.false (c.slot.ensures.0 ∙ e)))
+returns-else-slot-eq4 c =
+    rw ((sym c.code.ensures ∙ c.in-9.is), ne_eqb (slot c.args.w) 4 (λ e. c.if-slot-eq4.false (c.slot.ensures.0 ∙ e)))
+    (ne_eqb c.slot.result 4 c.if-slot-eq4.false)
 
 pub returns-in-10 : goal.returns-in-10
 returns-in-10 c = rw (sym c.code.ensures ∙ c.in-10.is)

@@ -12,11 +12,6 @@ returns-then-b-eq0 c =
     let none : eqb (last_byte c.args.w) 0 ≡ true = eq-eqb (last_byte c.args.w) 0 (sym c.last_byte-b.ensures ∙ c.if-b-eq0.true) in
     rw none (record { end = omega arith; held = refl })
 
-pub put_byte-requires : goal.put_byte-requires
-put_byte-requires c =
-    let there : eqb (last_byte c.args.w) 0 ≡ false = ne_eqb (last_byte c.args.w) 0 (λ e. c.if-b-eq0.false (c.last_byte-b.ensures ∙ e)) in
-    omega (arith, rw there at c.requires)
-
 pub returns : goal.returns
 returns c =
     let there : eqb (last_byte c.args.w) 0 ≡ false = ne_eqb (last_byte c.args.w) 0 (λ e. c.if-b-eq0.false (c.last_byte-b.ensures ∙ e)) in

@@ -11,9 +11,6 @@ use Rattle.word_writer.specs.Written.{spelled_name}
 use Rattle.word_writer.proofs.Names.{spelled-text}
 use Rattle.word_writer.proofs.writing.put_matched.Goals as goal
 
-pub spelled_name-requires : goal.spelled_name-requires
-spelled_name-requires c = (c.requires.f_value, sym c.is_spelled.ensures ∙ c.if-is_spelled.true)
-
 pub put_spelled-requires : goal.put_spelled-requires
 put_spelled-requires c =
     let letters : take (most_letters c.args.w) (name_numbered (spelled_name c.args.f c.args.w)) ≡ name_text (book_in c.args.book.now) (list_in (item c.args.w)) c.args.f =
@@ -25,9 +22,6 @@ returns-then-is_spelled c =
     let letters : take (most_letters c.args.w) (name_numbered (spelled_name c.args.f c.args.w)) ≡ name_text (book_in c.args.book.now) (list_in (item c.args.w)) c.args.f =
     spelled-text c.args.f c.args.w c.args.book.now c.if-book-ne-OPENED.true (allowed c.args.f c.requires.f_value) (sym c.is_spelled.ensures ∙ c.if-is_spelled.true) in
     rw (← letters, ← c.spelled_name.ensures, ← c.most_letters.ensures) c.put_spelled.ensures
-
-pub put_name_of-requires : goal.put_name_of-requires
-put_name_of-requires c = record { f_value = c.requires.f_value; f_in_bounds = rw c.list.ensures c.requires.f_in_bounds }
 
 pub returns : goal.returns
 returns c = rw (← c.list.ensures) c.put_name_of.ensures

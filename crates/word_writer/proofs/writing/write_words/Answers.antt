@@ -1,8 +1,7 @@
 -- The check, the length of the text where the most that the words can write does not fit, and the text.
 use Rattle.std.specs.Prelude.{Ok}
 use Prim.Native.Nat.{◌≤◌}
-use lib.ListN.{length, take, length-take}
-use lib.Seq.{length-take-le}
+use lib.ListN.{length, take}
 use mathlib.Core.Path.{◌≡◌, sym, ap, ◌∙◌}
 use native.Mathlib.Omega.{arith}
 use Rattle.std.proofs.lemmas.Result.{err_from_is_err_and}
@@ -21,18 +20,6 @@ returns-in_err-fields_check c =
     let answered = err_from_is_err_and c.from_residual.result c.from_residual.ensures.1 in
     rw (answered.1, answered.2)
     (refused (book_in a.book.now) (steps_of a.tail.now (take a.used a.tail.now)) a.f a.out.now (sym c.fields_check.ensures ∙ c.in_err-fields_check.was))
-
-pub slice_bounds-most_of-end : goal.slice_bounds-most_of-end
-slice_bounds-most_of-end c = sym (length-take-le c.args.used c.args.tail.now c.requires.used_in_bounds)
-
-pub most_of-requires : goal.most_of-requires
-most_of-requires c = omega (arith, length-take c.args.used c.args.tail.now)
-
-pub words_length-n-requires : goal.words_length-n-requires
-words_length-n-requires c =
-    let a = c.args in
-    let fine : fields_check a.f ≡ Ok tt = sym c.fields_check.ensures ∙ c.in_ok-fields_check.was in
-    record { f_value = fine; used_in_bounds = c.requires.used_in_bounds; used_bound = c.requires.used_bound }
 
 pub returns-then-out-n : goal.returns-then-out-n
 returns-then-out-n c =

@@ -7,7 +7,7 @@ use Rattle.words.proofs.coding.rule_in.Goals as goal
 
 pub returns-in-0 : goal.returns-in-0
 unfolding rule_of_kind
-returns-in-0 c = rw (c.in-0.is, c.quantity.ensures, c.least.ensures, c.most.ensures, c.unit_in.ensures)
+returns-in-0 c = rw (c.in-0.is, c.quantity.ensures, c.least.ensures, c.most.ensures, c.unit.ensures)
 
 pub returns-in-1 : goal.returns-in-1
 unfolding rule_of_kind
@@ -35,4 +35,4 @@ returns-in-6 c = rw c.in-6.is
 
 pub returns-in_default : goal.returns-in_default
 unfolding rule_of_kind
-returns-in_default c = simp (c.zone.ensures, ne_eqb (c.args.w / 32 % 16) 0 (omega arith), ne_eqb (c.args.w / 32 % 16) 1 (omega arith), ne_eqb (c.args.w / 32 % 16) 2 (omega arith), ne_eqb (c.args.w / 32 % 16) 3 (omega arith), ne_eqb (c.args.w / 32 % 16) 4 (omega arith), ne_eqb (c.args.w / 32 % 16) 5 (omega arith), ne_eqb (c.args.w / 32 % 16) 6 (omega arith))
+returns-in_default c = simp (c.zone_in.ensures, ne_eqb (c.args.w / 32 % 16) 0 (omega arith), ne_eqb (c.args.w / 32 % 16) 1 (omega arith), ne_eqb (c.args.w / 32 % 16) 2 (omega arith), ne_eqb (c.args.w / 32 % 16) 3 (omega arith), ne_eqb (c.args.w / 32 % 16) 4 (omega arith), ne_eqb (c.args.w / 32 % 16) 5 (omega arith), ne_eqb (c.args.w / 32 % 16) 6 (omega arith))
