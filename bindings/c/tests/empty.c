@@ -1,5 +1,5 @@
-/* A null pointer with the length 0 is an empty slice: every function is lent one at each of its places. What does not hold is
- * printed. */
+/* A null pointer with the length 0 is an empty slice: every function is lent one at each of its places. A length that no memory has is
+ * refused before a byte is looked at. What does not hold is printed. */
 #include "sheet.h"
 
 #include <stdbool.h>
@@ -237,6 +237,20 @@ static void by_others(void) {
     GIVES(sheet_day_number(0, 1, 1, NULL, 0), SHEET_ROW_TOO_SMALL, MARK, MARK);
 }
 
+/* No byte is there: what looked at one would stop the program. */
+static void of_no_memory(void) {
+    const uint8_t *nowhere = (const uint8_t *)1;
+    size_t all_bytes = SIZE_MAX;
+    GIVES(write_by(sheet_write, nowhere, all_bytes, out, 4, answer, 2), SHEET_PATTERN_TOO_LONG, -1, 0);
+    GIVES(sheet_read(nowhere, all_bytes, TEXT, 2, 2025, answer, SHEET_READ_ANSWER), SHEET_PATTERN_TOO_LONG, -1, 0);
+    GIVES(sheet_read(PATTERN, 2, nowhere, all_bytes, 2025, answer, SHEET_READ_ANSWER), SHEET_TEXT_TOO_LONG, -1, 0);
+    GIVES(sheet_split(nowhere, all_bytes, answer, 2, parts, SHEET_SPLIT_PARTS), SHEET_PATTERN_TOO_LONG, -1, 0);
+    GIVES(sheet_units(nowhere, all_bytes, answer, 2, units, SHEET_UNITS_ROW), SHEET_PATTERN_TOO_LONG, -1, 0);
+    GIVES(sheet_check(nowhere, all_bytes, 2025, answer, SHEET_CHECK_ANSWER), SHEET_PATTERN_TOO_LONG, -1, 0);
+    GIVES(sheet_mend(0, nowhere, all_bytes, 2025, out, 4, changes, SHEET_CHANGES_ROW, answer, 2), SHEET_PATTERN_TOO_LONG, -1, 0);
+    GIVES(sheet_prepare(0, nowhere, all_bytes, prepared, SHEET_PREPARED_ROW, answer, 2), SHEET_PATTERN_TOO_LONG, -1, 0);
+}
+
 int main(void) {
     answer[0] = answer[1] = MARK;
     by_writer(sheet_write);
@@ -250,5 +264,6 @@ int main(void) {
     by_mending();
     by_stamps();
     by_others();
+    of_no_memory();
     return all ? 0 : 1;
 }

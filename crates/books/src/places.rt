@@ -12,11 +12,12 @@ pub fn find_names(bytes: &[u8], places: &mut [usize]) -> Option<usize>
     let mut at = 5;
     for place in places.iter_mut() {
         let length = *bytes.get(at)? as usize;
-        *place = at;
-        at += 1 + length;
-        if bytes.len() < at {
+        let next = at + 1 + length;
+        if bytes.len() < next {
             return None;
         }
+        *place = at;
+        at = next;
     }
     Some(at)
 }

@@ -64,6 +64,7 @@ pub fn current_year_check(edition: Edition, year: i32) -> Result<(), Refusal>
 pub fn trust_check(edition: Edition, pattern: &[u8], year: i32) -> Result<(), Refusal>
     ensures { result ≡ trust_check edition pattern.now year }
 {
+    let of_year = current_year_check(edition, year);
     pattern_check(pattern)?;
-    current_year_check(edition, year)
+    of_year
 }

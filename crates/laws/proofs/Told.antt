@@ -1,25 +1,30 @@
--- The specification's numbers and values tell answers apart. Each answer is found again from its number and values, so two enums with
--- the same ones are the same: a promise that equates the numbers and values says what one says that equates the enums. Then how
+-- The specification's numbers and values tell answers apart. An answer that holds no more than these is found again from them, so two
+-- with the same ones are the same: a promise that equates the numbers and values says what one says that equates the answers. Of a
+-- split, a reading and a mending they tell what the checks found. Then how
 -- a promise is met by an equation, and what the answer of the check is told by.
 use Rattle.std.specs.Prelude.{Result, Ok, Err}
 use mathlib.Core.Bool.{Bool, true, false}
-use mathlib.Core.List.{List, [], ◌∷◌}
+use mathlib.Core.List.{List, [], ◌∷◌, ◌++◌, map}
 use mathlib.Core.Path.{◌≡◌, refl, ap, sym, ◌∙◌}
 use Prim.Native.Nat.{ℕ}
 use lib.Dec.{eqb}
 use lib.IntN.{ℤ, pos, nat_abs}
 use lib.ListN.{get_or}
 use Rattle.meaning.proofs.Books.{english-valid}
-use Rattle.meaning.specs.Answers.{number, details, Answer, refused, answer_by, wrote_answer, list_answer, offset_answer, day_number_answer, verdict_answer, stamp_answer}
+use Rattle.meaning.specs.Answers.{number, details, Answer, refused, accepted, answer_by, split_answer, read_answer, wrote_answer, list_answer, offset_answer, day_number_answer, verdict_answer, stamp_answer}
 use Rattle.meaning.specs.Bytes.{when}
 use Rattle.meaning.specs.Names.{english}
+use Rattle.meaning.specs.Mending.{change_numbers, changes_in, mended_answer}
 use Rattle.meaning.specs.Promises.{SameAnswer}
 use Rattle.meaning.specs.Trust.{SaysOf, Says, trust_check}
 use Rattle.meaning.specs.Results.{Checked, DayNumber, Listed, Offset, Stamped, Wrote}
 use Rattle.meaning.specs.declared.Edition.{Edition}
 use Rattle.meaning.specs.declared.Fields.{Fields}
+use Rattle.meaning.specs.declared.Mended.{Mended}
+use Rattle.meaning.specs.declared.Reading.{Reading}
 use Rattle.meaning.specs.declared.Refusal.{Refusal}
 use Rattle.meaning.specs.declared.Refusal.TheVariants.{PatternTooLong, PatternByte, LoneQuote, FieldRange, NoRoom, TextTooLong, TextByte, InPart, OffsetLength, OffsetRange, CurrentYear, TextLeft, NoSuchDay, NoDayNumber, BookMark, BookVersion, BookCut, BookName, ShortRow, NotStamp, StampRange, LeapSecond, StampYear, StampOffset, MendedTooLong}
+use Rattle.meaning.specs.declared.Split.{Split}
 use Rattle.meaning.specs.declared.Stamp.{Stamp}
 use Rattle.meaning.specs.declared.Trouble.{Trouble}
 use Rattle.meaning.specs.declared.Trouble.TheVariants.{TooFew, NoNumber, NoName, NoSign, LiteralDiffers, PlusSign}
@@ -143,9 +148,33 @@ checked-again : (c : Checked) (vs : List ℤ) → checked_of (answer_by c vs) �
 checked-again (Ok _) vs = refl
 checked-again (Err why) vs = refused-again (λ vs. (Ok tt)) (λ w. Err w) why
 
--- what the checks found, as a split and a reading tell it
+-- what the checks found, as a prepared pattern tells it
 pub checks-told-apart : (a b : Checked) (vs ws : List ℤ) → answer_by a vs ≡ answer_by b ws → a ≡ b
 checks-told-apart a b vs ws e = sym (checked-again a vs) ∙ ap checked_of e ∙ checked-again b ws
+
+-- and as a split, a reading and a mending tell it, which hold more than their values
+abbrev pub check_in : {A : Type 0} → Result A Refusal → Checked
+check_in (Ok a) = Ok tt
+check_in (Err why) = Err why
+
+module _ {A : Type 0} (answer : Result A Refusal → Answer)
+    (values : A → List ℤ) (yes' : (a : A) → answer (Ok a) ≡ accepted (values a)) (no' : (why : Refusal) → answer (Err why) ≡ refused why) where
+  check-again : (r : Result A Refusal) → checked_of (answer r) ≡ check_in r
+  check-again (Ok a) = ap checked_of (yes' a)
+  check-again (Err why) = ap checked_of (no' why) ∙ refused-again (λ vs. (Ok tt)) (λ w. Err w) why
+
+  pub results-told-apart : (a b : Result A Refusal) → answer a ≡ answer b → check_in a ≡ check_in b
+  results-told-apart a b e = sym (check-again a) ∙ ap checked_of e ∙ check-again b
+
+pub splits-told-apart : (a b : Result Split Refusal) → split_answer a ≡ split_answer b → check_in a ≡ check_in b
+splits-told-apart = results-told-apart split_answer (λ s. pos s.used ∷ []) (λ s. refl) (λ why. refl)
+
+pub readings-told-apart : (a b : Result Reading Refusal) → read_answer a ≡ read_answer b → check_in a ≡ check_in b
+readings-told-apart = results-told-apart read_answer (λ r. pos r.taken ∷ pos r.mask ∷ pos r.units ∷ r.values ++ map pos r.starts ++ map pos r.ends) (λ r. refl) (λ why. refl)
+
+pub mendings-told-apart : (a b : Result Mended Refusal) → mended_answer a ≡ mended_answer b → check_in a ≡ check_in b
+mendings-told-apart =
+    results-told-apart mended_answer (λ r. pos r.length ∷ pos r.changes.used ∷ change_numbers (changes_in r.changes)) (λ r. refl) (λ why. refl)
 
 abbrev wrote_of : Answer → Wrote
 wrote_of = answer_of (λ vs. Ok (one vs)) (λ why. Err why)
@@ -243,7 +272,7 @@ verdict-again (Err why) = refused-again (λ vs. Ok (yes_or_no vs)) (λ w. Err w)
 pub verdicts-told-apart : (a b : Result Verdict Refusal) → verdict_answer a ≡ verdict_answer b → a ≡ b
 verdicts-told-apart = told-apart verdict_answer verdict_of verdict-again
 
--- Either half of a promise gives the other: the whole answer for any kind of answer, the numbers and values for an enum.
+-- Either half of a promise gives the other: the whole answer for any kind of answer, the numbers and values for one that holds no more.
 
 pub by_whole : {A : Type 0} {answer : A → Answer} {r d : A} → r ≡ d → SameAnswer answer r d
 by_whole {answer = answer} e = record { told = ap answer e; whole = e }

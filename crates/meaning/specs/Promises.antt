@@ -22,8 +22,8 @@ use Rattle.meaning.specs.declared.Refusal.{Refusal}
 use Rattle.meaning.specs.declared.Split.{Split}
 use Rattle.meaning.specs.declared.Stamp.{Stamp}
 
--- r is the answer d: by the specification's number and values, and in all that it holds. Where the answer is an enum either says the
--- other.
+-- r is the answer d: by the specification's number and values, and in all that it holds. Where it holds no more than these either says
+-- the other.
 pub record SameAnswer {A : Type 0} (answer : A → Answer) (r d : A) : Type 0 where
   pub told : answer r ≡ answer d
   pub whole : r ≡ d

@@ -175,7 +175,8 @@ reading_of taken gave =
       ends = map (ended_at gave) fifteen;
     }
 
--- what a caller's row has of an answer: of a refused reading "values, mask, counts and bytes read are all 0", and no part began or ended
+-- what the cells of a list have of an answer: of a refused reading "values, mask, counts and bytes read are all 0", and no part began
+-- or ended
 abbrev pub record_of : Result Reading Refusal → Reading
 record_of (Ok r) = r
 record_of (Err why) = reading_of 0 []

@@ -70,6 +70,8 @@ pub fn put_name(rows: &[u8], index: usize, most: usize, out: &mut [u8], at: usiz
 {
     let size = length_at(rows, index, most);
     let from = index * ROOM + 1;
-    out[at..at + size].copy_from_slice(&rows[from..from + size]);
+    for (j, letter) in rows[from..from + size].iter().enumerate() {
+        out[at + j] = *letter;
+    }
     at + size
 }

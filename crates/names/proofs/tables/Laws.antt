@@ -2,7 +2,7 @@
 -- that hold some names, a turn over the bytes of a name, its first letter, and a turn over names.
 use mathlib.Core.Bool.{Bool, true, false}
 use Rattle.std.specs.Prelude.{Option}
-use mathlib.Core.List.{List, [], ◌∷◌, append_assoc}
+use mathlib.Core.List.{List, [], ◌∷◌}
 use mathlib.Core.Path.{◌≡◌, refl, ap, sym, ◌∙◌}
 use Prim.Native.Nat.{ℕ, zero, suc, ◌+◌, ◌*◌, ◌≤◌, ◌<◌, min}
 use native.Mathlib.Numerals.{add-one}
@@ -10,9 +10,7 @@ use native.Mathlib.Omega.{arith}
 use borrow.Author.Tests.{eq-eqb, ne_eqb}
 use lib.Dec.{eqb}
 use lib.ListN.{length, take, drop, get_or, length-take, length-drop, drop_of_length-le}
-use borrow.Rule.Slice.PartMut.{put_mid}
-use Rattle.std.proofs.lemmas.List.Edits.{sets-eq}
-use lib.Seq.{sets, drop-cons, drop-drop, get_or-take, get_or-drop}
+use lib.Seq.{drop-cons, drop-drop, get_or-take, get_or-drop}
 use Rattle.laws.proofs.OpenedBooks.{count_at}
 use Rattle.laws.proofs.Tests.{true-is-not-false, when_true, when_false}
 use Rattle.meaning.specs.Bytes.{both, when}
@@ -54,10 +52,6 @@ room-part most rows i n short h e =
     let m : n ≡ min (get_or rows (i * name_room) 0) most = e ∙ (room most rows i short h).size in
     let p : i * name_room + 1 ≡ suc (i * name_room) = omega arith in
     rw (m, p) (sym (room-name most rows i (omega arith)))
-
--- what is copied to a part of the output lies over it
-pub put_mid-sets : (at k : ℕ) (xs ys : List ℕ) → length ys ≡ k → at + k ≤ length xs → put_mid at k xs ys ≡ sets xs at ys
-put_mid-sets at k xs ys h room = rw (sets-eq ys xs at (omega arith), h, drop-drop, append_assoc)
 
 -- ---- rooms, one after the other
 

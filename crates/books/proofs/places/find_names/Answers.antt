@@ -18,8 +18,8 @@ returns-in_err-length c =
     rw c.from_residual.ensures
     (sym (no_length c.args.bytes.now L.places L.place-index L.at here (search rules)) ∙ L.invariant.1)
 
-pub returns-then-bytes-at : goal.returns-then-bytes-at
-returns-then-bytes-at c =
+pub returns-then-bytes-next : goal.returns-then-bytes-next
+returns-then-bytes-next c =
     let L = c.loop-place in
     let e : c.in_ok-length.field-0.now ≡ get_or c.args.bytes.now L.at 0 = search rules in
     let there : L.at < length c.args.bytes.now = search rules in
@@ -31,7 +31,7 @@ loop-place-preserved c =
     let e : c.in_ok-length.field-0.now ≡ get_or c.args.bytes.now L.at 0 = search rules in
     let there : L.at < length c.args.bytes.now = search rules in
     let byte = c.type_inv.bytes L.at in
-    let next : L.at + (1 + c.in_ok-length.field-0.now) ≡ L.at + 1 + get_or c.args.bytes.now L.at 0 = omega (arith, e) in (
+    let next : L.at + 1 + c.in_ok-length.field-0.now ≡ L.at + 1 + get_or c.args.bytes.now L.at 0 = omega (arith, e) in (
       simp length-set L.invariant.0,
       rw next (sym (name-more c.args.bytes.now L.places L.place-index L.at (omega arith) L.invariant.0 there (omega arith) (omega (arith, e))) ∙ L.invariant.1),
     )

@@ -1,29 +1,30 @@
--- As many as a walk over the lines finds.
-use mathlib.Core.Logic.{inl}
-use mathlib.Core.Path.{ap, ◌∙◌}
-use lib.ListN.{length}
+-- One for each newline, and one more where the last byte is none.
+use mathlib.Core.Path.{ap, sym}
+use Prim.Native.Nat.{◌<◌}
 use native.Mathlib.Omega.{arith}
-use Rattle.std.proofs.lemmas.Iterator.Consumers.{YieldsList-from_shown, count_from_yields_List}
-use Rattle.lists.specs.Walk.{lines_left, Walks}
-use Rattle.lists.specs.declared.lines.Places.{Places}
-use Rattle.meaning.specs.Lists.{lines}
-use Rattle.lists.proofs.Counted.{few-lines}
-use Rattle.lists.proofs.line_reader.Walks.{places-many}
+use lib.ListN.{length}
+use borrow.Author.Rules.{rules}
+use borrow.Author.Tests.{eq-eqb, ne_eqb}
+use Rattle.laws.proofs.Lists.{line-none, lines-count}
+use Rattle.lists.proofs.counting.Newlines.{few-newlines}
 use Rattle.lists.proofs.counting.count_lines.Goals as goal
 
-pub count-requires : goal.count-requires
-count-requires c =
+pub returns-then-n-eq0 : goal.returns-then-n-eq0
+returns-then-n-eq0 c = sym (ap length (line-none c.args.text.now 0 (omega arith)))
+
+pub returns-then-text-n-eq10 : goal.returns-then-text-n-eq10
+returns-then-text-n-eq10 c =
     let s = c.args.text.now in
-    let starts = c.line_reader.ensures in
-    record {
-      can = tt;
-      finite = tt;
-      fits = rw (starts.0, starts.1) (inl (omega (arith, places-many (length s) 0 (lines s), few-lines s)));
-    }
+    let some : 0 < length s = omega arith in
+    let count = rw (eq-eqb _ _ c.if-text-n-eq10.true) at (lines-count s some) in
+    omega (arith, count, c.count_newlines-ended.ensures)
+
+pub overflow_add-result : goal.overflow_add-result
+overflow_add-result c = omega (arith, few-newlines c.args.text.now, c.count_newlines-ended.ensures)
 
 pub returns : goal.returns
 returns c =
     let s = c.args.text.now in
-    let starts = c.line_reader.ensures in
-    let left = YieldsList-from_shown Walks (λ (line : Places). line) lines_left (λ walk moved w. ap length w.0.0) (λ walk line moved w. w.0) c.line_reader.result in
-    count_from_yields_List _ _ c.count.ensures.ran left ∙ rw (starts.0, starts.1) (places-many (length s) 0 (lines s))
+    let some : 0 < length s = omega arith in
+    let count = rw (ne_eqb _ _ c.if-text-n-eq10.false) at (lines-count s some) in
+    omega (arith, count, c.count_newlines-ended.ensures)
